@@ -1,0 +1,91 @@
+// The smallest task on a cycle: only where stripping leaves some tasks are they searched, rising, for one that reaches
+// itself.
+ghost use mathlib.Core.Path.{_≡_};
+ghost use mathlib.Core.Logic.{_↔_};
+ghost use Prim.Native.Nat.{ℕ, _+_, _≤_, _<_};
+ghost use lib.ListN.{length, getD, take};
+ghost use Rattle.lists.specs.Decided.{holds};
+ghost use Rattle.lists.specs.Lists.{occ};
+ghost use Rattle.graph.specs.Graph.{Among, graphOf};
+ghost use Rattle.graph.specs.Conditions.{Sound, ToCycle};
+ghost use Rattle.graph.specs.Decide.{onCycle?};
+ghost use Rattle.graph.specs.Check.{firstOnCycle};
+
+// Marks and queues task u if it has no mark.
+fn mark(seen: &mut [u32], queue: &mut [u32], tail: usize, u: usize) -> usize
+{
+    if seen[u] == 0 {
+        seen[u] = 1;
+        queue[tail] = u as u32;
+        return tail + 1;
+    }
+    tail
+}
+
+fn mark_all(words: &[u32], seen: &mut [u32], queue: &mut [u32], from: usize) -> usize
+{
+    let mut tail = from;
+    let mut i = 0;
+    while i < words.len() {
+        let u = words[i] as usize;
+        tail = mark(seen, queue, tail, u);
+        i += 1;
+    }
+    tail
+}
+
+// Marks every task from which a path of edges leads to t.
+fn mark_before(n: usize, starts: &[u32], preds: &[u32], t: usize, seen: &mut [u32], queue: &mut [u32])
+{
+    let a = starts[t] as usize;
+    let e = starts[t + 1] as usize;
+    let mut tail = mark_all(&preds[a..e], seen, queue, 0);
+    let mut head = 0;
+    while head < tail {
+        let u = queue[head] as usize;
+        let b = starts[u] as usize;
+        let f = starts[u + 1] as usize;
+        tail = mark_all(&preds[b..f], seen, queue, tail);
+        head += 1;
+    }
+}
+
+// Whether a path of edges leads from task t back to itself.
+fn on_cycle(n: usize, starts: &[u32], preds: &[u32], t: usize) -> bool
+    requires { ⌜ Sound (graphOf n (now starts) (now preds)) × (t < n) ⌝ }
+    ensures { λ r. ⌜ r ≡ holds (onCycle? (graphOf n (now (starts .entry)) (now (preds .entry))) t) ⌝ }
+{
+    let mut seen = [0u32; 1024];
+    let mut queue = [0u32; 1024];
+    mark_before(n, starts, preds, t, &mut seen, &mut queue);
+    seen[t] != 0
+}
+
+// The smallest task on a cycle among those left.
+fn search(n: usize, starts: &[u32], preds: &[u32], left: &[u32]) -> usize
+    requires { ⌜ Sound (graphOf n (now starts) (now preds)) × ((length (now left) ≡ 1024) × ((t : ℕ) → t < n → (0 < getD (now left) t 0) ↔ ToCycle (graphOf n (now starts) (now preds)) t)) ⌝ }
+    ensures { λ r. ⌜ r ≡ firstOnCycle (graphOf n (now (starts .entry)) (now (preds .entry))) ⌝ }
+{
+    let mut t = 0;
+    while t < n {
+        if left[t] != 0 {
+            if on_cycle(n, starts, preds, t) {
+                return t;
+            }
+        }
+        t += 1;
+    }
+    n
+}
+
+// The smallest task on a cycle, or n.
+pub fn first_on_cycle(n: usize, starts: &[u32], preds: &[u32]) -> usize
+    requires { ⌜ Sound (graphOf n (now starts) (now preds)) ⌝ }
+    ensures { λ r. ⌜ r ≡ firstOnCycle (graphOf n (now (starts .entry)) (now (preds .entry))) ⌝ }
+{
+    let mut left = [0u32; 1024];
+    let mut queue = [0u32; 1024];
+    tables::count_words(preds, &mut left);
+    strip::strip(n, starts, preds, &mut left, &mut queue);
+    search(n, starts, preds, &left)
+}

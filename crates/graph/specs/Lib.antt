@@ -1,0 +1,6 @@
+pub mod Graph
+pub mod Conditions
+pub mod Decide
+pub mod Check
+pub mod Successors
+pub mod Lookup

@@ -1,0 +1,71 @@
+-- The successor table, the degrees and the roots.
+use Prim.Native.Nat.{ℕ, suc, _+_}
+use mathlib.Core.Bool.{cond, _&&_}
+use mathlib.Core.List.{List, [], _∷_}
+use native.Mathlib.Decide.{ℕ-discrete}
+use lib.ListN.{length, replicate}
+use lib.Dec.{eqb}
+use Rattle.lists.specs.Decided.{holds}
+use Rattle.lists.specs.Lists.{occ, joined, tabulate}
+use Rattle.lists.specs.Sums.{sumTo}
+use Rattle.task.specs.Refusals.{wrongLength, beyondLimit}
+use Rattle.task.specs.declared.Limits.{Limits}
+use Rattle.task.specs.declared.Answer.{Answer}
+use Rattle.task.specs.declared.Answer.the-variants.{Refused, Accepted}
+use Rattle.graph.specs.Graph.{Graph, graphOf, predsOf}
+use Rattle.graph.specs.Decide.{light?}
+use Rattle.graph.specs.Check.{sizesFit, tablesAnswer}
+
+-- u's successors among the tasks below n: each as often as u is among its predecessors, rising
+unfoldable pub succsBelow : Graph → ℕ → ℕ → List ℕ
+succsBelow g n u = joined n (λ t. replicate (occ u (predsOf g t)) t)
+
+-- "Successors .., same shape, each task's successors rising"
+abbrev pub succsOf : Graph → ℕ → List ℕ
+succsOf g u = succsBelow g (g .tasks) u
+
+-- where u's successors start
+unfoldable pub succStart : Graph → ℕ → ℕ
+succStart g u = sumTo u (λ v. length (succsOf g v))
+
+-- "Successor starts N+1"
+unfoldable pub succStarts : Graph → List ℕ
+succStarts g = tabulate (g .tasks + 1) (succStart g)
+
+unfoldable pub succWords : Graph → List ℕ
+succWords g = joined (g .tasks) (succsOf g)
+
+-- "degrees are numbers of predecessors"
+unfoldable pub degreeList : Graph → List ℕ
+degreeList g = tabulate (g .tasks) (λ t. length (predsOf g t))
+
+-- "The roots (degree 0) are taken rising"
+unfoldable pub roots : Graph → List ℕ
+roots g = joined (g .tasks) (λ t. cond (holds (ℕ-discrete (length (predsOf g t)) 0)) (t ∷ []) [])
+
+-- what the filling call leaves: its answer, successor starts, successors and degrees
+pub record Linked : Type 0 where
+  pub answer : Answer
+  pub starts : List ℕ
+  pub succs : List ℕ
+  pub degrees : List ℕ
+
+abbrev pub linkedOf : Answer → List ℕ → List ℕ → List ℕ → Linked
+linkedOf a s w d = record { answer = a; starts = s; succs = w; degrees = d }
+
+-- a refusal leaves the lent lists; else they are filled
+abbrev fillIf : Answer → Graph → List ℕ → List ℕ → List ℕ → Linked
+fillIf Accepted g s w d = linkedOf Accepted (succStarts g) (succWords g) (degreeList g)
+fillIf (Refused n x) g s w d = linkedOf (Refused n x) s w d
+
+-- the check with the lent lists' lengths: 2, 1, 3, 4, 5
+unfoldable pub linkAnswer : Limits → List ℕ → List ℕ → List ℕ → List ℕ → List ℕ → List ℕ → Answer
+linkAnswer limits weights starts preds s w d =
+    cond (sizesFit limits (length weights) (length preds) && holds (light? weights))
+    (cond ((eqb (length starts) (length weights + 1) && eqb (length s) (length weights + 1)) && (eqb (length w) (length preds) && eqb (length d) (length weights)))
+    (tablesAnswer (graphOf (length weights) starts preds))
+    (Refused wrongLength 0))
+    (Refused beyondLimit 0)
+
+unfoldable pub link : Limits → List ℕ → List ℕ → List ℕ → List ℕ → List ℕ → List ℕ → Linked
+link limits weights starts preds s w d = fillIf (linkAnswer limits weights starts preds s w d) (graphOf (length weights) starts preds) s w d

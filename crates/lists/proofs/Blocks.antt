@@ -1,0 +1,61 @@
+-- Laws of tabulated lists and of lists joined from blocks: where an element stands, and what one store changes.
+use Prim.Native.Nat.{ℕ, zero, suc, _+_, _<_}
+use mathlib.Core.Path.{_≡_, refl, sym, ap, _∙_}
+use mathlib.Core.List.{List, [], _∷_, _++_}
+use native.Mathlib.Omega.{arith}
+use native.Mathlib.Decide.{ℕ-discrete}
+use native.Mathlib.Nat.{zero-add, suc-add}
+use lib.ListN.{length, getD, set}
+use lib.Seq.{ext-getD, set-append-left}
+use Rattle.lists.specs.Lists.{joined, tabulate}
+use Rattle.lists.specs.Sums.{sumTo}
+use Rattle.lists.proofs.Sums.{sum-prefix, length-joined}
+
+module _ {A : Type 0} where
+  pub length-tabulate : (n : ℕ) (f : ℕ → A) → length (tabulate n f) ≡ n
+  unfolding tabulate
+  length-tabulate zero f = refl
+  length-tabulate (suc n) f = ap suc (length-tabulate n (λ k. f (suc k)))
+
+  pub getD-tabulate : (n : ℕ) (f : ℕ → A) (d : A) (i : ℕ) → i < n → getD (tabulate n f) i d ≡ f i
+  unfolding tabulate
+  getD-tabulate zero f d i h = absurd (omega arith)
+  getD-tabulate (suc n) f d zero h = refl
+  getD-tabulate (suc n) f d (suc i) h = getD-tabulate n (λ k. f (suc k)) d i (omega arith)
+
+  -- a list is tabulated by what stands at each of its places
+  pub is-tabulate : (n : ℕ) (f : ℕ → A) (d : A) (l : List A) → length l ≡ n → ((i : ℕ) → i < n → getD l i d ≡ f i) → l ≡ tabulate n f
+  is-tabulate n f d l e h =
+      ext-getD d l (tabulate n f) (e ∙ sym (length-tabulate n f)) (λ i m. h i (omega arith) ∙ sym (getD-tabulate n f d i (omega arith)))
+
+  set-append-right : (k l : List A) (i : ℕ) (a : A) → set (k ++ l) (length k + i) a ≡ k ++ set l i a
+  set-append-right [] l i a = rw (zero-add i)
+  set-append-right (x ∷ k) l i a = rw (suc-add (length k) i) (ap (λ (r : List A). x ∷ r) (set-append-right k l i a))
+
+  pub joined-same : (n : ℕ) (f g : ℕ → List A) → ((k : ℕ) → k < n → g k ≡ f k) → joined n g ≡ joined n f
+  unfolding joined
+  joined-same zero f g h = refl
+  joined-same (suc n) f g h = rw (joined-same n f g (λ k m. h k (omega arith)), h n (omega arith))
+
+  module _ (f g : ℕ → List A) (i : ℕ) (a : A) where
+    last-block : (n : ℕ) → g n ≡ set (f n) i a → ((k : ℕ) → ¬ (k ≡ n) → g k ≡ f k) → set (joined n f ++ f n) (sumTo n (λ k. length (f k)) + i) a ≡ joined n g ++ g n
+    last-block n e o =
+        ap (λ (m : ℕ). set (joined n f ++ f n) (m + i) a) (sym (length-joined n f)) ∙ set-append-right (joined n f) (f n) i a
+        ∙ rw (e, joined-same n f g (λ k m. o k (λ q. omega arith)))
+
+    earlier-block : (n b : ℕ) → b < n → i < length (f b) → g n ≡ f n → set (joined n f) (sumTo b (λ k. length (f k)) + i) a ≡ joined n g
+        → set (joined n f ++ f n) (sumTo b (λ k. length (f k)) + i) a ≡ joined n g ++ g n
+    earlier-block n b h l e r =
+        set-append-left (joined n f) (f n) (sumTo b (λ k. length (f k)) + i) a (omega (arith, length-joined n f, sum-prefix n (λ k. length (f k)) b h))
+        ∙ rw (r, e)
+
+    -- a store at place i of block b
+    pub set-joined : (n b : ℕ) → b < n → i < length (f b) → g b ≡ set (f b) i a → ((k : ℕ) → ¬ (k ≡ b) → g k ≡ f k)
+        → set (joined n f) (sumTo b (λ k. length (f k)) + i) a ≡ joined n g
+    unfolding joined
+    set-joined zero b h l e o = absurd (omega arith)
+    set-joined (suc n) b h l e o = go (ℕ-discrete b n) (λ m. set-joined n b m l e o)
+      where
+        go : Dec (b ≡ n) → (b < n → set (joined n f) (sumTo b (λ k. length (f k)) + i) a ≡ joined n g) → set (joined n f ++ f n) (sumTo b (λ k. length (f k)) + i) a ≡ joined n g ++ g n
+        go (yes q) r = rw q (last-block n (rw q at e) (λ k m. o k (λ p. m (p ∙ q))))
+        go (no m) r = earlier-block n b (omega arith) l (o n (λ p. m (sym p))) (r (omega arith))

@@ -1,0 +1,108 @@
+-- Laws of decided questions and of the first number that has a property.
+use Prim.Native.Nat.{ℕ, zero, suc, _+_, _≤_, _<_}
+use mathlib.Core.Path.{_≡_, refl, sym, ap, _∙_}
+use mathlib.Core.Bool.{Bool, true, false}
+use native.Mathlib.Omega.{arith}
+use native.Mathlib.Nat.{le-antisymm}
+use native.Mathlib.Decide.{ℕ-discrete, decLt}
+use Rattle.lists.specs.Decided.{holds, tally, Smallest, stop, firstBelow}
+
+module _ {A : Type 0} where
+  pub yes-holds : (d : Dec A) → A → holds d ≡ true
+  yes-holds (yes a) b = refl
+  yes-holds (no n) b = absurd (n b)
+
+  pub no-holds : (d : Dec A) → ¬ A → holds d ≡ false
+  no-holds (yes a) n = absurd (n a)
+  no-holds (no m) n = refl
+
+  pub holds-yes : (d : Dec A) → holds d ≡ true → A
+  holds-yes (yes a) e = a
+  holds-yes (no n) e = absurd (let z : _≡_ {A = ℕ} 0 1 = cc in omega arith)
+
+  pub holds-no : (d : Dec A) → holds d ≡ false → ¬ A
+  holds-no (yes a) e = absurd (let z : _≡_ {A = ℕ} 0 1 = cc in omega arith)
+  holds-no (no n) e = n
+
+  pub tally-yes : (d : Dec A) → A → tally d ≡ 1
+  tally-yes (yes a) b = refl
+  tally-yes (no n) b = absurd (n b)
+
+  pub tally-no : (d : Dec A) → ¬ A → tally d ≡ 0
+  tally-no (yes a) n = absurd (n a)
+  tally-no (no m) n = refl
+
+  pub tally-le-one : (d : Dec A) → tally d ≤ 1
+  tally-le-one (yes a) = omega arith
+  tally-le-one (no n) = omega arith
+
+  pub tally-pos : (d : Dec A) → 0 < tally d → A
+  tally-pos (yes a) h = a
+  tally-pos (no n) h = absurd (omega arith)
+
+pub tally-le : {A B : Type 0} (a : Dec A) (b : Dec B) → (A → B) → tally a ≤ tally b
+tally-le (yes a) b f = omega (arith, tally-yes b (f a))
+tally-le (no n) b f = omega arith
+
+pub smallest-unique : {P : ℕ → Type 0} {d e : ℕ} → Smallest P d → Smallest P e → d ≡ e
+smallest-unique {P} {d} {e} s r = le-antisymm (go (decLt e d)) (back (decLt d e))
+  where
+    go : Dec (e < d) → d ≤ e
+    go (yes h) = absurd (s .least e h (r .such))
+    go (no n) = omega arith
+
+    back : Dec (d < e) → e ≤ d
+    back (yes h) = absurd (r .least d h (s .such))
+    back (no n) = omega arith
+
+module _ (P : ℕ → Type 0) where
+  stops : (a : Dec (P 0)) (r n : ℕ) → r ≤ n → stop a r ≤ suc n
+  stops (yes p) r n h = omega arith
+  stops (no q) r n h = omega arith
+
+  stops-such : (a : Dec (P 0)) (r n : ℕ) → (r < n → P (suc r)) → stop a r < suc n → P (stop a r)
+  stops-such (yes p) r n f h = p
+  stops-such (no q) r n f h = f (omega arith)
+
+  stops-least : (a : Dec (P 0)) (r : ℕ) → ((k : ℕ) → k < r → ¬ (P (suc k))) → (k : ℕ) → k < stop a r → ¬ (P k)
+  stops-least (yes p) r f k h = absurd (omega arith)
+  stops-least (no q) r f zero h = q
+  stops-least (no q) r f (suc k) h = f k (omega arith)
+
+pub first-le : (n : ℕ) {P : ℕ → Type 0} (d : (t : ℕ) → Dec (P t)) → firstBelow n d ≤ n
+unfolding firstBelow
+first-le zero d = omega arith
+first-le (suc n) {P} d = stops P (d 0) (firstBelow n (λ t. d (suc t))) n (first-le n (λ t. d (suc t)))
+
+pub first-such : (n : ℕ) {P : ℕ → Type 0} (d : (t : ℕ) → Dec (P t)) → firstBelow n d < n → P (firstBelow n d)
+unfolding firstBelow
+first-such zero d h = absurd (omega arith)
+first-such (suc n) {P} d h = stops-such P (d 0) (firstBelow n (λ t. d (suc t))) n (first-such n (λ t. d (suc t))) h
+
+pub first-least : (n : ℕ) {P : ℕ → Type 0} (d : (t : ℕ) → Dec (P t)) (k : ℕ) → k < firstBelow n d → ¬ (P k)
+unfolding firstBelow
+first-least zero d k h = absurd (omega arith)
+first-least (suc n) {P} d k h = stops-least P (d 0) (firstBelow n (λ t. d (suc t))) (first-least n (λ t. d (suc t))) k h
+
+-- the two ways to find it
+module _ (n : ℕ) {P : ℕ → Type 0} (d : (t : ℕ) → Dec (P t)) where
+  pub first-is : (t : ℕ) → t < n → P t → ((k : ℕ) → k < t → ¬ (P k)) → t ≡ firstBelow n d
+  first-is t h p f = go (decLt t (firstBelow n d)) (decLt (firstBelow n d) t)
+    where
+      go : Dec (t < firstBelow n d) → Dec (firstBelow n d < t) → t ≡ firstBelow n d
+      go (yes l) b = absurd (first-least n d t l p)
+      go (no m) (yes l) = absurd (f (firstBelow n d) l (first-such n d (omega arith)))
+      go (no m) (no l) = omega arith
+
+  pub first-none : ((k : ℕ) → k < n → ¬ (P k)) → n ≡ firstBelow n d
+  first-none f = go (decLt (firstBelow n d) n)
+    where
+      go : Dec (firstBelow n d < n) → n ≡ firstBelow n d
+      go (yes l) = absurd (f (firstBelow n d) l (first-such n d l))
+      go (no m) = omega (arith, first-le n d)
+
+  pub first-smallest : firstBelow n d < n → Smallest (λ t. (t < n) × P t) (firstBelow n d)
+  first-smallest h = record { such = (h, first-such n d h); least = λ k l p. first-least n d k l (p .1) }
+
+  pub smallest-first : (t : ℕ) → Smallest (λ k. (k < n) × P k) t → t ≡ firstBelow n d
+  smallest-first t s = first-is t (s .such .0) (s .such .1) (λ k h p. s .least k h (omega (arith, s .such .0), p))

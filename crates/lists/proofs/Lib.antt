@@ -1,0 +1,4 @@
+pub mod Decided
+pub mod Occurrences
+pub mod Sums
+pub mod Blocks

@@ -1,0 +1,25 @@
+-- Lists of items of any type whose equality is decided: how often an item stands in a list, and lists joined.
+use Prim.Native.Nat.{ℕ, zero, suc, _+_}
+use mathlib.Core.List.{List, [], _∷_, _++_}
+use native.Mathlib.Decide.{ℕ-discrete}
+use Rattle.lists.specs.Decided.{tally}
+
+module _ {A : Type 0} (same : Discrete A) where
+  -- how often an item stands in a list
+  unfoldable pub occOf : A → List A → ℕ
+  occOf a [] = 0
+  occOf a (x ∷ l) = tally (same a x) + occOf a l
+
+-- how often a number stands in a list
+abbrev pub occ : ℕ → List ℕ → ℕ
+occ = occOf ℕ-discrete
+
+-- the lists f 0, f 1, .., f (n − 1), joined
+unfoldable pub joined : {A : Type 0} → ℕ → (ℕ → List A) → List A
+joined zero f = []
+joined (suc n) f = joined n f ++ f n
+
+-- the list f 0, f 1, .., f (n − 1)
+unfoldable pub tabulate : {A : Type 0} → ℕ → (ℕ → A) → List A
+tabulate zero f = []
+tabulate (suc n) f = f 0 ∷ tabulate n (λ k. f (suc k))

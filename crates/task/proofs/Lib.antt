@@ -1,0 +1,2 @@
+pub mod PhaseTable
+pub mod Rows

@@ -1,0 +1,4 @@
+pub mod Types
+pub mod Phases
+pub mod Refusals
+pub mod Rows

@@ -1,0 +1,99 @@
+-- The numbers of document 01's table of refused calls, and what each answer says in the paper's terms.
+use Prim.Native.Nat.{ℕ}
+use mathlib.Core.List.{List, [], _∷_}
+use Rattle.task.specs.declared.Answer.{Answer}
+use Rattle.task.specs.declared.Answer.the-variants as answer
+use Rattle.task.specs.declared.ReadAnswer.{ReadAnswer}
+use Rattle.task.specs.declared.ReadAnswer.the-variants as read-answer
+use Rattle.task.specs.declared.ReleaseOutcome.{ReleaseOutcome}
+use Rattle.task.specs.declared.ReleaseOutcome.the-variants.{DegreeLeft, Placed}
+use Rattle.task.specs.declared.StepAnswer.{StepAnswer}
+use Rattle.task.specs.declared.StepAnswer.the-variants as step-answer
+
+-- "a lent length isn't the stated one"
+abbrev pub wrongLength : ℕ
+wrongLength = 1
+
+-- "N, E, P, K or (begin) a weight beyond its limit; text over 65,536 bytes"
+abbrev pub beyondLimit : ℕ
+beyondLimit = 2
+
+-- "start t ≤ start t+1 ≤ E fails, or a predecessor ≥ N; start 0 not 0 or start N not E; .."
+abbrev pub badTable : ℕ
+badTable = 3
+
+-- "a predecessor twice in one task"
+abbrev pub duplicate : ℕ
+duplicate = 4
+
+-- "a cycle, a loop on one task included"
+abbrev pub cycle : ℕ
+cycle = 5
+
+-- "more than P·(K−1) roots"
+abbrev pub tooManyRoots : ℕ
+tooManyRoots = 6
+
+-- "worker ≥ P"
+abbrev pub noSuchWorker : ℕ
+noSuchWorker = 7
+
+-- "a damaged word"
+abbrev pub damaged : ℕ
+damaged = 8
+
+-- "step doesn't suit the phase"
+abbrev pub wrongPhase : ℕ
+wrongPhase = 9
+
+-- "Fetch: all P rings empty; Release: buffer empty"
+abbrev pub nothingThere : ℕ
+nothingThere = 10
+
+-- "Release: degree would be 0 and all P rings filled by this worker are full"
+abbrev pub ringsFull : ℕ
+ringsFull = 11
+
+-- "Complete with N entries recorded"
+abbrev pub recordFull : ℕ
+recordFull = 12
+
+-- "text breaks the layout"
+abbrev pub brokenLayout : ℕ
+brokenLayout = 13
+
+-- what an answer says: a refusal's number and detail, or acceptance with the values that the call answers
+pub data Said : Type 0 where
+  refused : (number detail : ℕ) → Said
+  accepted : (values : List ℕ) → Said
+
+-- the number and the detail alone, 0 and 0 where accepted
+abbrev pub numberOf : Said → ℕ
+numberOf (refused n d) = n
+numberOf (accepted l) = 0
+
+abbrev pub detailOf : Said → ℕ
+detailOf (refused n d) = d
+detailOf (accepted l) = 0
+
+-- "Begin .. answer[s] acceptance alone"; the judging call "answers 0 and 0 exactly if the lookup is accepted"
+abbrev pub answerSays : Answer → Said
+answerSays (answer.Refused n d) = refused n d
+answerSays answer.Accepted = accepted []
+
+-- "the reader N and E"
+abbrev pub readSays : ReadAnswer → Said
+readSays (read-answer.Refused n d) = refused n d
+readSays (read-answer.Accepted n e) = accepted (n ∷ e ∷ [])
+
+-- "a Release answers either the degree left or the task with its new owner"
+abbrev pub releaseValues : ReleaseOutcome → List ℕ
+releaseValues (DegreeLeft d) = d ∷ []
+releaseValues (Placed t w) = t .0 ∷ w .0 ∷ []
+
+-- "An accepted Fetch answers the task; .. Start and Complete answer acceptance alone"
+abbrev pub stepSays : StepAnswer → Said
+stepSays (step-answer.Refused n d) = refused n d
+stepSays step-answer.Accepted = accepted []
+stepSays (step-answer.Fetched t) = accepted (t .0 ∷ [])
+stepSays (step-answer.Released o) = accepted (releaseValues o)

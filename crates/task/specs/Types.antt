@@ -1,0 +1,21 @@
+use Prim.Native.Nat.{ℕ, min}
+use Rattle.task.specs.declared.TaskId.{TaskId}
+use Rattle.task.specs.declared.Row.{Row}
+use Rattle.task.specs.declared.Limits.{Limits}
+
+-- "The mark NIL, 65,535, stands for "no task" in a worker's row"
+abbrev pub nil : TaskId
+nil = record { 0 = 65535 }
+
+-- a worker's row as begin leaves it: "Everything is zeroed ..; held tasks become NIL"
+abbrev pub idle : Row
+idle = record { phase = 0; held = nil; pointer = 0; read = 0; write = 0; cursor = 0 }
+
+-- "N at most 1,024. E edges, at most 8,192. .. P from 1 to 16. Each ring has K slots, K from 2 to 64"
+abbrev pub engine : Limits
+engine = record { tasks = 1024; edges = 8192; workers = 16; slots = 64 }
+
+-- a limit above the engine's counts as the engine's
+unfoldable pub capped : Limits → Limits
+capped l =
+    record { tasks = min (l .tasks) 1024; edges = min (l .edges) 8192; workers = min (l .workers) 16; slots = min (l .slots) 64 }

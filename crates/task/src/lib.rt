@@ -1,0 +1,188 @@
+// The types of the engine's interface: task and worker numbers, worker rows, ring ends, steps, the table of
+// phase against step, limits, refusals and answers.
+pub mod refusal;
+
+ghost use mathlib.Core.Path.{_≡_};
+ghost use Prim.Native.Nat.{ℕ, _<_, _≤_, min};
+ghost use Rattle.task.specs.Types.{nil, idle, engine, capped};
+ghost use Rattle.task.specs.Phases.{stepNumber, nextPhase};
+
+// A task's number. NIL stands for "no task" in a worker's row.
+#[repr(C)]
+pub struct TaskId(pub u32);
+
+impl TaskId {
+    pub const NIL: TaskId = TaskId(65535);
+
+    pub fn new(number: u32) -> TaskId
+        ensures { λ r. ⌜ r .0 ≡ number ⌝ }
+    {
+        TaskId(number)
+    }
+
+    pub fn nil() -> TaskId
+        ensures { λ r. ⌜ r ≡ nil ⌝ }
+    {
+        TaskId::NIL
+    }
+}
+
+// A worker's number (the thread ID of the published algorithm).
+#[repr(C)]
+pub struct WorkerId(pub u32);
+
+impl WorkerId {
+    pub fn new(number: u32) -> WorkerId
+        ensures { λ r. ⌜ r .0 ≡ number ⌝ }
+    {
+        WorkerId(number)
+    }
+}
+
+// What a worker keeps between its steps: the phase, the task in hand, the ring where the next scan starts, and the
+// places of its completed buffer with the cursor over the successors of the oldest task there.
+#[repr(C)]
+pub struct Row {
+    pub phase: u32,
+    pub held: TaskId,
+    pub pointer: u32,
+    pub read: u32,
+    pub write: u32,
+    pub cursor: u32,
+}
+
+impl Row {
+    // A worker's row as begin leaves it.
+    pub fn idle() -> Row
+        ensures { λ r. ⌜ r ≡ idle ⌝ }
+    {
+        Row {
+            phase: 0,
+            held: TaskId::NIL,
+            pointer: 0,
+            read: 0,
+            write: 0,
+            cursor: 0,
+        }
+    }
+}
+
+// A ring's ends: head is the next slot to take, tail the next free slot.
+#[repr(C)]
+pub struct Ends {
+    pub head: u32,
+    pub tail: u32,
+}
+
+pub enum Step {
+    Fetch,
+    Start,
+    Complete,
+    Release,
+}
+
+// The phase after a step, or refused where the step does not suit the phase.
+pub enum Next {
+    Refused,
+    To(u32),
+}
+
+// Phases 0 idle, 1 fetched, 2 running, against Fetch, Start, Complete, Release.
+const PHASES: [[Next; 4]; 3] = [
+    [Next::To(1), Next::Refused, Next::Refused, Next::To(0)],
+    [Next::Refused, Next::To(2), Next::Refused, Next::Refused],
+    [Next::Refused, Next::Refused, Next::To(0), Next::Refused],
+];
+
+fn column(step: Step) -> usize
+    ensures { λ r. ⌜ (r ≡ stepNumber step) × (r < 4) ⌝ }
+{
+    match step {
+        Step::Fetch => 0,
+        Step::Start => 1,
+        Step::Complete => 2,
+        Step::Release => 3,
+    }
+}
+
+// The phase after a step taken in a phase below 3.
+pub fn next_phase(phase: usize, step: Step) -> Next
+    requires { ⌜ phase < 3 ⌝ }
+    ensures { λ r. ⌜ r ≡ nextPhase phase step ⌝ }
+{
+    let at = column(step);
+    PHASES[phase][at]
+}
+
+// The side of a task on which its neighbours stand.
+pub enum Side {
+    Predecessors,
+    Successors,
+}
+
+// How large a job may be. A limit above the engine's counts as the engine's.
+#[repr(C)]
+pub struct Limits {
+    pub tasks: usize,
+    pub edges: usize,
+    pub workers: usize,
+    pub slots: usize,
+}
+
+impl Limits {
+    pub const ENGINE: Limits = Limits {
+        tasks: 1024,
+        edges: 8192,
+        workers: 16,
+        slots: 64,
+    };
+
+    pub fn engine() -> Limits
+        ensures { λ r. ⌜ r ≡ engine ⌝ }
+    {
+        Limits::ENGINE
+    }
+
+    pub fn capped(self) -> Limits
+        ensures { λ r. ⌜ r ≡ capped self ⌝ }
+    {
+        Limits {
+            tasks: smaller(self.tasks, 1024),
+            edges: smaller(self.edges, 8192),
+            workers: smaller(self.workers, 16),
+            slots: smaller(self.slots, 64),
+        }
+    }
+}
+
+fn smaller(a: usize, b: usize) -> usize
+    ensures { λ r. ⌜ r ≡ min a b ⌝ }
+{
+    if a < b { a } else { b }
+}
+
+// The answer of begin and of lookup's judging call: refused with its number and detail, or accepted.
+pub enum Answer {
+    Refused(u32, u32),
+    Accepted,
+}
+
+// The reader's answer: refused, or accepted with N and E.
+pub enum ReadAnswer {
+    Refused(u32, u32),
+    Accepted(u32, u32),
+}
+
+// What a Release did: the degree left, or the task placed and its new owner.
+pub enum ReleaseOutcome {
+    DegreeLeft(u32),
+    Placed(TaskId, WorkerId),
+}
+
+// A step's answer: refused; accepted alone (Start, Complete); the task fetched; what a Release did.
+pub enum StepAnswer {
+    Refused(u32, u32),
+    Accepted,
+    Fetched(TaskId),
+    Released(ReleaseOutcome),
+}
