@@ -7,6 +7,7 @@ use native.Mathlib.Omega.{arith}
 use native.Mathlib.Decide.{ℕ-discrete, decLe, decLt}
 use lib.ListN.{length, getD}
 use Rattle.lists.specs.Lists.{occ}
+use Rattle.lists.proofs.Told.{neither}
 use Rattle.lists.proofs.Occurrences.{occ-nil, occ-hit, occ-miss, occ-cons}
 use Rattle.graph.specs.Graph.{Among, part, Graph, edgeCount, predsOf, Edge, Leads, edge, via}
 use Rattle.graph.specs.Conditions.{Light, Good, Bad, EndsFit, Twice, OnCycle}
@@ -19,10 +20,6 @@ abbrev pub both? : {A B : Type 0} → Dec A → Dec B → Dec (A × B)
 both? (yes a) (yes b) = yes (a, b)
 both? (yes a) (no n) = no (λ p. n (p .1))
 both? (no n) b = no (λ p. n (p .0))
-
-pub neither : {A B : Type 0} → ¬ A → ¬ B → ¬ (A ⊎ B)
-neither n m (inl a) = n a
-neither n m (inr b) = m b
 
 pub leads-append : {A : Type 0} {E : A → A → Type 0} {u v t : A} → Leads E u v → Leads E v t → Leads E u t
 leads-append (edge e) q = via e q

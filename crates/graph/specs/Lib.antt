@@ -4,3 +4,4 @@ pub mod Decide
 pub mod Check
 pub mod Successors
 pub mod Lookup
+pub mod Tables

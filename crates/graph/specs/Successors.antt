@@ -62,7 +62,7 @@ fillIf (Refused n x) g s w d = linkedOf (Refused n x) s w d
 unfoldable pub linkAnswer : Limits → List ℕ → List ℕ → List ℕ → List ℕ → List ℕ → List ℕ → Answer
 linkAnswer limits weights starts preds s w d =
     cond (sizesFit limits (length weights) (length preds) && holds (light? weights))
-    (cond ((eqb (length starts) (length weights + 1) && eqb (length s) (length weights + 1)) && (eqb (length w) (length preds) && eqb (length d) (length weights)))
+    (cond (eqb (length starts) (length weights + 1) && (eqb (length s) (length weights + 1) && (eqb (length w) (length preds) && eqb (length d) (length weights))))
     (tablesAnswer (graphOf (length weights) starts preds))
     (Refused wrongLength 0))
     (Refused beyondLimit 0)

@@ -2,3 +2,4 @@ pub mod Decided
 pub mod Occurrences
 pub mod Sums
 pub mod Blocks
+pub mod Told

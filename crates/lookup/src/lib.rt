@@ -37,7 +37,7 @@ pub fn judge(
     if !tables::sizes_fit(Limits::engine(), n, e) {
         return Answer::Refused(refusal::BEYOND_LIMIT, 0);
     }
-    if !((pred_starts.len() == n + 1) & (succ_starts.len() == n + 1) & (succs.len() == e)) {
+    if !((pred_starts.len() == n + 1) & ((succ_starts.len() == n + 1) & (succs.len() == e))) {
         return Answer::Refused(refusal::WRONG_LENGTH, 0);
     }
     let t = task.0;

@@ -105,7 +105,7 @@ pub fn link_graph(
     if !tables::weights_fit(weights) {
         return Answer::Refused(refusal::BEYOND_LIMIT, 0);
     }
-    if !((starts.len() == n + 1) & (succ_starts.len() == n + 1) & ((succs.len() == e) & (degrees.len() == n))) {
+    if !((starts.len() == n + 1) & ((succ_starts.len() == n + 1) & ((succs.len() == e) & (degrees.len() == n)))) {
         return Answer::Refused(refusal::WRONG_LENGTH, 0);
     }
     let answer = graph_check::check_tables(n, starts, preds);

@@ -13,6 +13,10 @@ pub record Refusal : Type 1 where
 abbrev pub row : ℕ → (ℕ → Type 0) → Refusal
 row n c = record { number = n; condition = c }
 
+-- a condition whose refusal has the one detail x
+abbrev pub only : ℕ → Type 0 → ℕ → Type 0
+only x C d = (d ≡ x) × C
+
 -- the row's condition holds with no detail
 abbrev pub Passed : Refusal → Type 0
 Passed r = (d : ℕ) → ¬ (r .condition d)

@@ -1,0 +1,41 @@
+-- Tests with their reasons: what a test's value says, for one test and for several that must all pass.
+use Prim.Native.Nat.{ℕ, _≤_, _<_}
+use mathlib.Core.Path.{_≡_, refl}
+use mathlib.Core.Bool.{Bool, true, false, _&&_}
+use mathlib.Core.Logic.{_⊎_, inl, inr}
+use native.Mathlib.Omega.{arith}
+use lib.Dec.{ltb, leb, eqb}
+use borrow.Author.Tests.{ltb-true, ltb-false, leb-true, leb-false, eqb-true, eqb-false}
+use Rattle.lists.specs.Decided.{holds}
+use Rattle.lists.proofs.Decided.{holds-yes, holds-no}
+
+pub neither : {A B : Type 0} → ¬ A → ¬ B → ¬ (A ⊎ B)
+neither n m (inl a) = n a
+neither n m (inr b) = m b
+
+-- what a test decides: with the test's value goes a reason
+pub data Told (b : Bool) (Yes No : Type 0) : Type 0 where
+  told-true : b ≡ true → Yes → Told b Yes No
+  told-false : b ≡ false → No → Told b Yes No
+
+pub told : (b : Bool) {Yes No : Type 0} → (b ≡ true → Yes) → (b ≡ false → No) → Told b Yes No
+told true f g = told-true refl (f refl)
+told false f g = told-false refl (g refl)
+
+pub le-told : (a b : ℕ) → Told (leb a b) (¬ (b < a)) (b < a)
+le-told a b = told (leb a b) (λ e h. omega (arith, leb-true a b e)) (leb-false a b)
+
+pub lt-told : (a b : ℕ) → Told (ltb a b) (¬ (b ≤ a)) (b ≤ a)
+lt-told a b = told (ltb a b) (λ e h. omega (arith, ltb-true a b e)) (ltb-false a b)
+
+pub eq-told : (a b : ℕ) → Told (eqb a b) (¬ (¬ (a ≡ b))) (¬ (a ≡ b))
+eq-told a b = told (eqb a b) (λ e n. n (eqb-true a b e)) (λ e q. eqb-false a b e q)
+
+pub dec-told : {A : Type 0} (d : Dec A) → Told (holds d) (¬ (¬ A)) (¬ A)
+dec-told d = told (holds d) (λ e n. n (holds-yes d e)) (holds-no d)
+
+-- two tests that must both pass
+pub and-told : (a b : Bool) {A B : Type 0} → Told a (¬ A) A → Told b (¬ B) B → Told (a && b) (¬ (A ⊎ B)) (A ⊎ B)
+and-told a b (told-true e f) (told-true q g) = told-true (rw (e, q)) (neither f g)
+and-told a b (told-true e f) (told-false q y) = told-false (rw (e, q)) (inr y)
+and-told a b (told-false e x) t = told-false (rw e) (inl x)
