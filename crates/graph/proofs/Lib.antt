@@ -1,2 +1,5 @@
 pub mod Examples
 pub mod Refusals
+pub mod Parts
+pub mod Accepted
+pub mod Reversed

@@ -27,9 +27,9 @@ use Rattle.graph.specs.Successors.{linkAnswer}
 use Rattle.graph.specs.Lookup.{Lent, startsOn, wordsOn, lengthsFit, taskFits, judgeAnswer}
 use Rattle.graph.specs.Tables.{Beyond, Heavy, tableRows, checkRows, linkRows, lookupRows}
 
-on-cycle-task : (g : Graph) (u t : ℕ) → Leads (Edge g) u t → t < g .tasks
-on-cycle-task g u t (edge e) = e .task
-on-cycle-task g u t (via {v = v} e p) = on-cycle-task g v t p
+pub leads-task : (g : Graph) (u t : ℕ) → Leads (Edge g) u t → t < g .tasks
+leads-task g u t (edge e) = e .task
+leads-task g u t (via {v = v} e p) = leads-task g v t p
 
 ends-told : (g : Graph) → Told (holds (endsFit? g)) (¬ (¬ (_≡_ {A = ℕ} (getD (g .starts) 0 0) 0) ⊎ ¬ (getD (g .starts) (g .tasks) 0 ≡ edgeCount g)))
     (¬ (_≡_ {A = ℕ} (getD (g .starts) 0 0) 0) ⊎ ¬ (getD (g .starts) (g .tasks) 0 ≡ edgeCount g))
@@ -50,7 +50,7 @@ tables-follow g =
     smallest-row (g .tasks) (bad? g) (λ t. (t < g .tasks) × Bad g t) (λ t p. p) (λ t p. p) badTable _ _ (λ _.
     test-row (holds (endsFit? g)) badTable (g .tasks) _ _ (ends-told g) (λ _.
     smallest-row (g .tasks) (twice? g) (λ t. (t < g .tasks) × Twice g t) (λ t p. p) (λ t p. p) duplicate _ _ (λ _.
-    smallest-row (g .tasks) (onCycle? g) (OnCycle g) (λ t p. p .1) (λ t q. (on-cycle-task g t t q, q)) cycle _ _ (λ _.
+    smallest-row (g .tasks) (onCycle? g) (OnCycle g) (λ t p. p .1) (λ t q. (leads-task g t t q, q)) cycle _ _ (λ _.
     follows-accepted []))))
 
 -- a number below n that lacks a property, where not all have it

@@ -1,13 +1,13 @@
 -- Laws of tabulated lists and of lists joined from blocks: where an element stands, and what one store changes.
-use Prim.Native.Nat.{ℕ, zero, suc, _+_, _<_}
+use Prim.Native.Nat.{ℕ, zero, suc, _+_, _-_, _≤_, _<_}
 use mathlib.Core.Path.{_≡_, refl, sym, ap, _∙_}
 use mathlib.Core.List.{List, [], _∷_, _++_}
 use native.Mathlib.Omega.{arith}
-use native.Mathlib.Decide.{ℕ-discrete}
+use native.Mathlib.Decide.{ℕ-discrete, decLt}
 use native.Mathlib.Nat.{zero-add, suc-add}
-use lib.ListN.{length, getD, set}
-use lib.Seq.{ext-getD, set-append-left}
-use Rattle.lists.specs.Lists.{joined, tabulate}
+use lib.ListN.{length, getD, set, take, drop, length-append, length-drop, List·getD-append}
+use lib.Seq.{ext-getD, set-append-left, take-length, drop-append-le, take-append-le, drop-append-seam, getD-append-add}
+use Rattle.lists.specs.Lists.{joined, tabulate, Rising}
 use Rattle.lists.specs.Sums.{sumTo}
 use Rattle.lists.proofs.Sums.{sum-prefix, length-joined}
 
@@ -59,3 +59,34 @@ module _ {A : Type 0} where
         go : Dec (b ≡ n) → (b < n → set (joined n f) (sumTo b (λ k. length (f k)) + i) a ≡ joined n g) → set (joined n f ++ f n) (sumTo b (λ k. length (f k)) + i) a ≡ joined n g ++ g n
         go (yes q) r = rw q (last-block n (rw q at e) (λ k m. o k (λ p. m (p ∙ q))))
         go (no m) r = earlier-block n b (omega arith) l (o n (λ p. m (sym p))) (r (omega arith))
+
+  -- block b of a joined list
+  pub block-at : (f : ℕ → List A) (n b : ℕ) → b < n → take (length (f b)) (drop (sumTo b (λ k. length (f k))) (joined n f)) ≡ f b
+  unfolding joined
+  block-at f zero b h = absurd (omega arith)
+  block-at f (suc n) b h = go (ℕ-discrete b n) (block-at f n b)
+    where
+      last : take (length (f n)) (drop (sumTo n (λ k. length (f k))) (joined n f ++ f n)) ≡ f n
+      last =
+          ap (λ (m : ℕ). take (length (f n)) (drop m (joined n f ++ f n))) (sym (length-joined n f))
+          ∙ ap (take (length (f n))) (drop-append-seam (joined n f) (f n)) ∙ take-length (f n)
+
+      go : Dec (b ≡ n) → (b < n → take (length (f b)) (drop (sumTo b (λ k. length (f k))) (joined n f)) ≡ f b) → take (length (f b)) (drop (sumTo b (λ k. length (f k))) (joined n f ++ f n)) ≡ f b
+      go (yes q) r = rw q last
+      go (no m) r =
+          let l : sumTo b (λ k. length (f k)) + length (f b) ≤ length (joined n f) = omega (arith, length-joined n f, sum-prefix n (λ k. length (f k)) b (omega arith)) in
+          ap (take (length (f b))) (drop-append-le (sumTo b (λ k. length (f k))) (joined n f) (f n) (omega arith))
+          ∙ take-append-le (length (f b)) (drop (sumTo b (λ k. length (f k))) (joined n f)) (f n) (omega (arith, length-drop (sumTo b (λ k. length (f k))) (joined n f)))
+          ∙ r (omega arith)
+
+-- two rising lists, the second above the first
+pub rising-append : (k l : List ℕ) → Rising k → Rising l → ((i j : ℕ) → i < length k → j < length l → getD k i 0 < getD l j 0) → Rising (k ++ l)
+rising-append k l p q c i j h m = go (decLt j (length k)) (decLt i (length k))
+  where
+    right : (x : ℕ) → length k ≤ x → getD (k ++ l) x 0 ≡ getD l (x - length k) 0
+    right x g = ap (λ (y : ℕ). getD (k ++ l) y 0) (omega arith) ∙ getD-append-add k l (x - length k) 0
+
+    go : Dec (j < length k) → Dec (i < length k) → getD (k ++ l) i 0 < getD (k ++ l) j 0
+    go (yes a) b = omega (arith, p i j h a, List·getD-append k l 0 i (omega arith), List·getD-append k l 0 j a)
+    go (no a) (yes b) = omega (arith, c i (j - length k) b (omega (arith, length-append k l)), List·getD-append k l 0 i b, right j (omega arith))
+    go (no a) (no b) = omega (arith, q (i - length k) (j - length k) (omega arith) (omega (arith, length-append k l)), right i (omega arith), right j (omega arith))

@@ -34,6 +34,10 @@ sum-at (suc n) f g k lt h = go (ℕ-discrete k n) (λ lt′. sum-at n f g k lt�
     go (yes e) r = rw e (omega (arith, sum-same n f g (λ j j<n. h j (λ q. omega arith))))
     go (no m) r = omega (arith, r (omega arith), h n (λ q. m (sym q)))
 
+-- a sum to which one place alone adds
+pub sum-only : (n : ℕ) (f : ℕ → ℕ) (k : ℕ) → k < n → ((j : ℕ) → ¬ (j ≡ k) → f j ≡ 0) → sumTo n f ≡ f k
+sum-only n f k h o = omega (arith, sum-at n (λ j. 0) f k h o, sum-zero n (λ j. 0) (λ j l. refl))
+
 pub sum-le : (n : ℕ) (f g : ℕ → ℕ) → ((k : ℕ) → k < n → f k ≤ g k) → sumTo n f ≤ sumTo n g
 unfolding sumTo
 sum-le zero f g h = omega arith

@@ -1,7 +1,8 @@
 -- Lists of items of any type whose equality is decided: how often an item stands in a list, and lists joined.
-use Prim.Native.Nat.{ℕ, zero, suc, _+_}
+use Prim.Native.Nat.{ℕ, zero, suc, _+_, _<_}
 use mathlib.Core.List.{List, [], _∷_, _++_}
 use native.Mathlib.Decide.{ℕ-discrete}
+use lib.ListN.{length, getD}
 use Rattle.lists.specs.Decided.{tally}
 
 module _ {A : Type 0} (same : Discrete A) where
@@ -23,3 +24,7 @@ joined (suc n) f = joined n f ++ f n
 unfoldable pub tabulate : {A : Type 0} → ℕ → (ℕ → A) → List A
 tabulate zero f = []
 tabulate (suc n) f = f 0 ∷ tabulate n (λ k. f (suc k))
+
+-- each number is smaller than those after it
+abbrev pub Rising : List ℕ → Type 0
+Rising l = (i j : ℕ) → i < j → j < length l → getD l i 0 < getD l j 0

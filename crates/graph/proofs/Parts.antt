@@ -1,0 +1,49 @@
+-- The parts of a sound table: where they lie, and that they make up the table.
+use Prim.Native.Nat.{ℕ, zero, suc, _+_, _-_, _≤_, _<_}
+use mathlib.Core.Path.{_≡_, refl, sym, ap, _∙_}
+use mathlib.Core.List.{List, [], _++_}
+use native.Mathlib.Omega.{arith}
+use native.Mathlib.Numerals.{add-one}
+use native.Mathlib.Decide.{ℕ-discrete}
+use lib.ListN.{length, take, drop, getD, length-take, length-drop}
+use lib.Seq.{take-add, take-all}
+use Rattle.lists.specs.Lists.{occ, joined}
+use Rattle.lists.specs.Sums.{sumTo}
+use Rattle.lists.proofs.Occurrences.{occ-joined}
+use Rattle.lists.proofs.Sums.{sum-find}
+use Rattle.graph.specs.Graph.{Among, part, Graph, graphOf, edgeCount, predsOf, Edge}
+use Rattle.graph.specs.Conditions.{Good, EndsFit, Sized, Sound}
+
+pub length-part : {n : ℕ} {starts words : List ℕ} {t : ℕ} → Good n starts words t → length (part starts words t) ≡ getD starts (t + 1) 0 - getD starts t 0
+unfolding part
+length-part {n} {starts} {words} {t} g =
+    omega (arith, length-take (getD starts (t + 1) 0 - getD starts t 0) (drop (getD starts t 0) words), length-drop (getD starts t 0) words, g .rises, g .inside)
+
+module _ {g : Graph} (s : Sound g) where
+  -- the parts of the tasks below t are the words up to start t
+  parts-below : (t : ℕ) → t ≤ g .tasks → joined t (predsOf g) ≡ take (getD (g .starts) t 0) (g .preds)
+  unfolding joined part
+  parts-below zero h = rw (s .ends .first)
+  parts-below (suc t) h =
+      let q : Good (g .tasks) (g .starts) (g .preds) t = s .good t (omega arith) in
+      let e : getD (g .starts) (t + 1) 0 ≡ getD (g .starts) t 0 + (getD (g .starts) (t + 1) 0 - getD (g .starts) t 0) = omega (arith, q .rises) in
+      ap (λ (l : List ℕ). l ++ part (g .starts) (g .preds) t) (parts-below t (omega arith))
+      ∙ sym (take-add (getD (g .starts) t 0) (getD (g .starts) (t + 1) 0 - getD (g .starts) t 0) (g .preds))
+      ∙ ap (λ (k : ℕ). take k (g .preds)) (sym e) ∙ ap (λ (k : ℕ). take (getD (g .starts) k 0) (g .preds)) (add-one t)
+
+  pub parts-joined : joined (g .tasks) (predsOf g) ≡ g .preds
+  parts-joined = parts-below (g .tasks) (omega arith) ∙ rw (s .ends .last) (take-all (length (g .preds)) (g .preds) (omega arith))
+
+  -- how often u is a predecessor, summed over the tasks
+  pub occ-preds : (u : ℕ) → occ u (g .preds) ≡ sumTo (g .tasks) (λ t. occ u (predsOf g t))
+  occ-preds u = ap (occ u) (sym parts-joined) ∙ occ-joined ℕ-discrete u (g .tasks) (predsOf g)
+
+  -- a predecessor is a task
+  pub preds-below : (u : ℕ) → Among u (g .preds) → u < g .tasks
+  preds-below u h = go (sum-find (g .tasks) (λ t. occ u (predsOf g t)) (omega (arith, occ-preds u)))
+    where
+      go : (t : ℕ) × (t < g .tasks) × (0 < occ u (predsOf g t)) → u < g .tasks
+      go w = s .good (w .0) (w .1) .below u (w .2)
+
+  pub edge-from : (u t : ℕ) → Edge g u t → u < g .tasks
+  edge-from u t e = s .good t (e .task) .below u (e .predecessor)
