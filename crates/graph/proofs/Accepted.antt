@@ -29,32 +29,25 @@ none-smallest n {P} d f t h = go (decLt (firstBelow n d) n)
     go (yes l) = absurd (f (firstBelow n d) (first-smallest n d l))
     go (no m) = first-least n d t (omega arith)
 
-said-accepted : (a : Answer) → Acceptance (answerSays a) → a ≡ Accepted
+pub stable : {A : Type 0} → Dec A → ¬ (¬ A) → A
+stable (yes a) f = a
+stable (no n) f = absurd (f n)
+
+pub said-accepted : (a : Answer) → Acceptance (answerSays a) → a ≡ Accepted
 said-accepted Accepted h = refl
 said-accepted (Refused n d) h = absurd h
 
 module _ (g : Graph) where
   clear-acceptable : Clear (tableRows g) → Acceptable g
   clear-acceptable c = record {
-    good = λ t h. has t (good? (g .tasks) (g .starts) (g .preds) t) (none-smallest (g .tasks) (bad? g) (c .0) t h);
-    ends = record { first = at (ℕ-discrete (getD (g .starts) 0 0) 0) (λ n. c .1 .0 (g .tasks) (refl, inl n)); last = at (ℕ-discrete (getD (g .starts) (g .tasks) 0) (edgeCount g)) (λ n. c .1 .0 (g .tasks) (refl, inr n)) };
+    good = λ t h. stable (good? (g .tasks) (g .starts) (g .preds) t) (none-smallest (g .tasks) (bad? g) (c .0) t h);
+    ends = record { first = stable (ℕ-discrete (getD (g .starts) 0 0) 0) (λ n. c .1 .0 (g .tasks) (refl, inl n)); last = stable (ℕ-discrete (getD (g .starts) (g .tasks) 0) (edgeCount g)) (λ n. c .1 .0 (g .tasks) (refl, inr n)) };
     once = λ t u h. few t u (none-smallest (g .tasks) (twice? g) (c .1 .1 .0) t h);
     acyclic = λ t p. none-smallest (g .tasks) (onCycle? g) (λ k s. c .1 .1 .1 .0 k (record { such = s .such .1; least = λ j l q. s .least j l (leads-task g j j q, q) })) t (leads-task g t t p) p;
   }
     where
-      at : {A : Type 0} → Dec A → ¬ (¬ A) → A
-      at (yes a) f = a
-      at (no n) f = absurd (f n)
-
-      has : (t : ℕ) → Dec (Good (g .tasks) (g .starts) (g .preds) t) → ¬ (Bad g t) → Good (g .tasks) (g .starts) (g .preds) t
-      has t d f = at d f
-
       few : (t u : ℕ) → ¬ (Twice g t) → occ u (predsOf g t) ≤ 1
-      few t u f = go (decLe (occ u (predsOf g t)) 1)
-        where
-          go : Dec (occ u (predsOf g t) ≤ 1) → occ u (predsOf g t) ≤ 1
-          go (yes h) = h
-          go (no m) = absurd (f (u, omega arith))
+      few t u f = stable (decLe (occ u (predsOf g t)) 1) (λ m. f (u, omega arith))
 
   acceptable-clear : Acceptable g → Clear (tableRows g)
   acceptable-clear a =

@@ -1,6 +1,7 @@
 -- "Neighbour lookup: the neighbours of a task, on the side named, are handed back as that part of the predecessor or the
 -- successor table itself. A refused lookup hands back an empty part."
-use Prim.Native.Nat.{ℕ, _+_}
+use Prim.Native.Nat.{ℕ, _+_, _≤_, _<_}
+use mathlib.Core.Path.{_≡_}
 use mathlib.Core.Bool.{Bool, cond, _&&_}
 use mathlib.Core.List.{List, []}
 use lib.ListN.{length}
@@ -13,6 +14,7 @@ use Rattle.task.specs.declared.Answer.the-variants.{Refused, Accepted}
 use Rattle.task.specs.declared.Side.{Side}
 use Rattle.task.specs.declared.Side.the-variants.{Predecessors, Successors}
 use Rattle.graph.specs.Graph.{part}
+use Rattle.graph.specs.Conditions.{Good}
 use Rattle.graph.specs.Decide.{good?}
 use Rattle.graph.specs.Check.{sizesFit}
 
@@ -36,6 +38,16 @@ abbrev pub wordsOn : Side → Lent → List ℕ
 wordsOn Predecessors l = l .preds
 wordsOn Successors l = l .succs
 
+-- when a lookup is accepted: limits, lengths, the task, its range and the numbers in it
+pub record Looks (side : Side) (l : Lent) (t : ℕ) : Type 0 where
+  pub tasks : length (l .weights) ≤ 1024
+  pub edges : length (l .preds) ≤ 8192
+  pub predStarts : length (l .predStarts) ≡ length (l .weights) + 1
+  pub succStarts : length (l .succStarts) ≡ length (l .weights) + 1
+  pub succs : length (l .succs) ≡ length (l .preds)
+  pub task : t < length (l .weights)
+  pub good : Good (length (l .weights)) (startsOn side l) (wordsOn side l) t
+
 unfoldable pub lengthsFit : Lent → Bool
 lengthsFit l =
     eqb (length (l .predStarts)) (length (l .weights) + 1)
@@ -54,9 +66,9 @@ judgeAnswer side l t =
     (Refused wrongLength 0))
     (Refused beyondLimit 0)
 
-abbrev handed : Answer → List ℕ → List ℕ
+abbrev pub handed : Answer → List ℕ → List ℕ
 handed Accepted l = l
 handed (Refused n d) l = []
 
-unfoldable pub neighbours : Side → Lent → ℕ → List ℕ
-neighbours side l t = handed (judgeAnswer side l t) (part (startsOn side l) (wordsOn side l) t)
+unfoldable pub neighboursOf : Side → Lent → ℕ → List ℕ
+neighboursOf side l t = handed (judgeAnswer side l t) (part (startsOn side l) (wordsOn side l) t)
