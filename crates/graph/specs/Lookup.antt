@@ -57,12 +57,15 @@ lengthsFit l =
 unfoldable pub taskFits : Side → Lent → ℕ → Bool
 taskFits side l t = ltb t (length (l .weights)) && holds (good? (length (l .weights)) (startsOn side l) (wordsOn side l) t)
 
+abbrev pub judgedOf : Bool → ℕ → Answer
+judgedOf fits t = cond fits Accepted (Refused badTable t)
+
 -- "In lookup: 2, 1, 3"
 unfoldable pub judgeAnswer : Side → Lent → ℕ → Answer
 judgeAnswer side l t =
     cond (sizesFit engine (length (l .weights)) (length (l .preds)))
     (cond (lengthsFit l)
-    (cond (taskFits side l t) Accepted (Refused badTable t))
+    (judgedOf (taskFits side l t) t)
     (Refused wrongLength 0))
     (Refused beyondLimit 0)
 

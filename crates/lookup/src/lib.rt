@@ -1,9 +1,13 @@
 // The neighbours of a task, handed back as a part of the table itself, and the judging call on the same arguments.
 ghost use mathlib.Core.Path.{_≡_};
+ghost use mathlib.Core.Bool.{_&&_};
 ghost use Prim.Native.Nat.{ℕ, _+_, _≤_, _<_};
-ghost use lib.ListN.{length, take, drop, getD};
+ghost use lib.ListN.{length, getD};
+ghost use lib.Dec.{ltb};
+ghost use Rattle.lists.specs.Decided.{holds};
 ghost use Rattle.graph.specs.Graph.{part};
-ghost use Rattle.graph.specs.Lookup.{lentOf, judgeAnswer, neighbours};
+ghost use Rattle.graph.specs.Decide.{good?};
+ghost use Rattle.graph.specs.Lookup.{lentOf, judgedOf, judgeAnswer, neighboursOf};
 
 use task::Answer;
 use task::Limits;
@@ -11,8 +15,10 @@ use task::Side;
 use task::TaskId;
 use task::refusal;
 
-// Whether task t is one of n, its range lies inside and its words are below n.
+// Whether t is one of the n tasks and its part of the table is good.
 fn task_fits(n: usize, starts: &[u32], words: &[u32], t: usize) -> bool
+    requires { ⌜ length (now starts) ≡ n + 1 ⌝ }
+    ensures { λ r. ⌜ r ≡ (ltb t n && holds (good? n (now (starts .entry)) (now (words .entry)) t)) ⌝ }
 {
     if n <= t {
         return false;
@@ -41,13 +47,51 @@ pub fn judge(
         return Answer::Refused(refusal::WRONG_LENGTH, 0);
     }
     let t = task.0;
-    let fits = match side {
-        Side::Predecessors => task_fits(n, pred_starts, preds, t as usize),
-        Side::Successors => task_fits(n, succ_starts, succs, t as usize),
-    };
+    match side {
+        Side::Predecessors => judged(task_fits(n, pred_starts, preds, t as usize), t),
+        Side::Successors => judged(task_fits(n, succ_starts, succs, t as usize), t),
+    }
+}
+
+fn judged(fits: bool, t: u32) -> Answer
+    ensures { λ r. ⌜ r ≡ judgedOf fits t ⌝ }
+{
     if fits {
         Answer::Accepted
     } else {
         Answer::Refused(refusal::BAD_TABLE, t)
+    }
+}
+
+// Task t's part of a table in which its range is good.
+fn part_at<'a>(starts: &'a [u32], words: &'a [u32], t: usize) -> &'a [u32]
+    requires { ⌜ (t + 1 < length (now starts)) × ((getD (now starts) t 0 ≤ getD (now starts) (t + 1) 0) × (getD (now starts) (t + 1) 0 ≤ length (now words))) ⌝ }
+    ensures { λ r. ⌜ now r ≡ part (now (starts .entry)) (now (words .entry)) t ⌝ }
+{
+    let a = starts[t] as usize;
+    let e = starts[t + 1] as usize;
+    &words[a..e]
+}
+
+// The neighbours on the side named; a refused lookup hands back an empty part.
+pub fn neighbours<'a>(
+    weights: &'a [u32],
+    pred_starts: &'a [u32],
+    preds: &'a [u32],
+    succ_starts: &'a [u32],
+    succs: &'a [u32],
+    side: Side,
+    task: TaskId,
+) -> &'a [u32]
+    ensures { λ r. ⌜ now r ≡ neighboursOf side (lentOf (now (weights .entry)) (now («pred_starts» .entry)) (now (preds .entry)) (now («succ_starts» .entry)) (now (succs .entry))) (task .0) ⌝ }
+{
+    let answer = judge(weights, pred_starts, preds, succ_starts, succs, side, task);
+    let Answer::Accepted = answer else {
+        return &preds[0..0];
+    };
+    let t = task.0 as usize;
+    match side {
+        Side::Predecessors => part_at(pred_starts, preds, t),
+        Side::Successors => part_at(succ_starts, succs, t),
     }
 }
