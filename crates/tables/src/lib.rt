@@ -10,7 +10,6 @@ ghost use Rattle.graph.specs.Graph.{Among, graphOf};
 ghost use Rattle.graph.specs.Conditions.{Sized, Sound};
 ghost use Rattle.graph.specs.Decide.{light?, among?, good?, endsFit?, twiceIn?};
 ghost use Rattle.graph.specs.Check.{sizesFit, firstBad, firstTwice};
-
 use task::Limits;
 
 // N and E are within the limits.

@@ -1,0 +1,217 @@
+-- Laws over plain lists and numbers that the leaves' proofs cite.
+use Prim.Native.Nat.{ℕ, zero, suc, _+_, _-_, _≤_, _<_}
+use mathlib.Core.Path.{_≡_, refl, sym, _∙_}
+use mathlib.Core.List.{List, [], _∷_, _++_}
+use native.Mathlib.Omega.{arith}
+use native.Mathlib.Numerals.{add-one}
+use native.Mathlib.Decide.{ℕ-discrete, decLt}
+use mathlib.Core.Bool.{Bool, true, false, not, _&&_}
+use borrow.Author.Tests.{eq-eqb, ne-eqb, not-true, not-false}
+use lib.Dec.{leb, eqb}
+use lib.ListN.{length, getD, set, take, drop, replicate}
+use lib.Seq.{take-suc, take-all, length-take-le, getD-set-same, getD-set-other}
+use Rattle.lists.specs.Lists.{occ}
+use Rattle.lists.specs.Decided.{holds}
+use Rattle.lists.proofs.Decided.{yes-holds, no-holds, holds-yes, holds-no, first-is, first-none}
+use Rattle.task.specs.Types.{capped}
+use Rattle.task.specs.declared.Limits.{Limits}
+use Rattle.graph.specs.Graph.{Among, part, graphOf}
+use Rattle.graph.specs.Conditions.{Good, Twice, Sound}
+use Rattle.graph.specs.Decide.{light?, among?, good?, bad?, endsFit?, twiceIn?, twice?}
+use Rattle.graph.specs.Check.{sizesFit, firstBad, firstTwice}
+use Rattle.lists.proofs.Occurrences.{occ-nil, occ-hit, occ-miss, occ-append, occ-le-length, occ-split, at-occ, occ-at}
+
+-- A list read word by word: one word more.
+module _ (words : List ℕ) (i : ℕ) (h : i < length words) where
+  pub take-more : take (i + 1) words ≡ take i words ++ (getD words i 0 ∷ [])
+  take-more = rw add-one (take-suc words i 0 h)
+
+  pub occ-more : (u : ℕ) → u ≡ getD words i 0 → occ u (take (i + 1) words) ≡ suc (occ u (take i words))
+  occ-more u e =
+      rw take-more
+      (omega (arith, occ-append ℕ-discrete u (take i words) (getD words i 0 ∷ []), occ-hit ℕ-discrete u (getD words i 0) [] e, occ-nil ℕ-discrete u))
+
+  pub occ-other : (u : ℕ) → ¬ (u ≡ getD words i 0) → occ u (take (i + 1) words) ≡ occ u (take i words)
+  occ-other u n =
+      rw take-more
+      (omega (arith, occ-append ℕ-discrete u (take i words) (getD words i 0 ∷ []), occ-miss ℕ-discrete u (getD words i 0) [] n, occ-nil ℕ-discrete u))
+
+  -- what holds of every word holds of this one
+  pub word-below : (n : ℕ) → ((u : ℕ) → Among u words → u < n) → getD words i 0 < n
+  word-below n f = f (getD words i 0) (at-occ ℕ-discrete 0 words i h)
+
+-- After i words each count is how often its number stands among them.
+pub record Counted (words counts : List ℕ) (i : ℕ) : Type 0 where
+  pub count : (u : ℕ) → getD counts u 0 ≡ occ u (take i words)
+
+pub count-none : (words counts : List ℕ) → ((u : ℕ) → getD counts u 0 ≡ 0) → Counted words counts 0
+count-none words counts f = record { count = λ u. f u ∙ sym (occ-nil ℕ-discrete u) }
+
+module _ {words counts : List ℕ} {i : ℕ} (k : Counted words counts i) where
+  pub count-small : i ≤ length words → (u : ℕ) → getD counts u 0 ≤ i
+  count-small h u = omega (arith, k .count u, occ-le-length ℕ-discrete u (take i words), length-take-le i words h)
+
+  pub count-turn : i < length words → getD words i 0 < length counts
+      → Counted words (set counts (getD words i 0) (getD counts (getD words i 0) 0 + 1)) (i + 1)
+  count-turn h m = record { count = λ u. go u (ℕ-discrete u (getD words i 0)) }
+    where
+      go : (u : ℕ) → Dec (u ≡ getD words i 0)
+          → getD (set counts (getD words i 0) (getD counts (getD words i 0) 0 + 1)) u 0 ≡ occ u (take (i + 1) words)
+      go u (yes e) =
+          rw e
+          (omega (arith, getD-set-same counts (getD words i 0) (getD counts (getD words i 0) 0 + 1) 0 m, k .count (getD words i 0), occ-more words i h (getD words i 0) refl))
+      go u (no n) =
+          omega (arith, getD-set-other counts (getD words i 0) u (getD counts (getD words i 0) 0 + 1) 0 n, k .count u, occ-other words i h u n)
+
+  pub count-whole : length words ≤ i → (u : ℕ) → getD counts u 0 ≡ occ u words
+  count-whole h u = rw (take-all i words h) at (k .count u)
+
+-- Sizes and weights.
+pub sizes-made : (l k : Limits) (n e : ℕ) → k ≡ capped l → leb n (k .tasks) && leb e (k .edges) ≡ sizesFit l n e
+unfolding sizesFit
+sizes-made l k n e h = rw h
+
+pub weight-heavy : (weights : List ℕ) (t : ℕ) → t < length weights → 65535 < getD weights t 0 → false ≡ holds (light? weights)
+weight-heavy weights t h b = sym (no-holds (light? weights) (λ f. omega (arith, f t h)))
+
+pub weights-light : (weights : List ℕ) (i : ℕ) → length weights ≤ i → ((t : ℕ) → t < i → getD weights t 0 ≤ 65535) → true ≡ holds (light? weights)
+weights-light weights i h f = sym (yes-holds (light? weights) (λ t m. f t (omega arith)))
+
+-- Words below n.
+module _ (words : List ℕ) (n i : ℕ) where
+  pub word-beyond : i < length words → n ≤ getD words i 0 → false ≡ holds (among? (λ u. decLt u n) words)
+  word-beyond h b = sym (no-holds (among? (λ u. decLt u n) words) (λ f. omega (arith, word-below words i h n f)))
+
+  pub words-below : length words ≤ i → ((k : ℕ) → k < i → getD words k 0 < n) → true ≡ holds (among? (λ u. decLt u n) words)
+  words-below h f = sym (yes-holds (among? (λ u. decLt u n) words) all)
+    where
+      all : (u : ℕ) → Among u words → u < n
+      all u m = let w : (k : ℕ) × (k < length words) × (getD words k 0 ≡ u) = occ-at ℕ-discrete 0 u words m in omega (arith, f (w .0) (omega (arith, w .1)), w .2)
+
+-- A part: its range, and its words.
+module _ (n : ℕ) (starts words : List ℕ) (t : ℕ) where
+  pub part-falls : getD starts (t + 1) 0 < getD starts t 0 → false ≡ holds (good? n starts words t)
+  part-falls h = sym (no-holds (good? n starts words t) (λ g. omega (arith, g .rises)))
+
+  pub part-outside : length words < getD starts (t + 1) 0 → false ≡ holds (good? n starts words t)
+  part-outside h = sym (no-holds (good? n starts words t) (λ g. omega (arith, g .inside)))
+
+  pub part-words : (r : Bool) → getD starts t 0 ≤ getD starts (t + 1) 0 → getD starts (t + 1) 0 ≤ length words
+      → r ≡ holds (among? (λ u. decLt u n) (take (getD starts (t + 1) 0 - getD starts t 0) (drop (getD starts t 0) words)))
+      → r ≡ holds (good? n starts words t)
+  unfolding part
+  part-words true a b e = sym (yes-holds (good? n starts words t) (record { rises = a; inside = b; below = holds-yes (among? (λ u. decLt u n) (take (getD starts (t + 1) 0 - getD starts t 0) (drop (getD starts t 0) words))) (sym e) }))
+  part-words false a b e = sym (no-holds (good? n starts words t) (λ g. holds-no (among? (λ u. decLt u n) (take (getD starts (t + 1) 0 - getD starts t 0) (drop (getD starts t 0) words))) (sym e) (g .below)))
+
+-- The first part that is not good, found by asking one after the other.
+module _ (n : ℕ) (starts preds : List ℕ) (t : ℕ) where
+  pub bad-found : (r : Bool) → t < n → not r ≡ true → r ≡ holds (good? n starts preds t) → ((k : ℕ) → k < t → Good n starts preds k)
+      → t ≡ firstBad (graphOf n starts preds)
+  unfolding firstBad
+  bad-found r h e m f =
+      first-is n (bad? (graphOf n starts preds)) t h (holds-no (good? n starts preds t) (sym m ∙ not-true r e)) (λ k l b. b (f k l))
+
+  pub good-found : (r : Bool) → not r ≡ false → r ≡ holds (good? n starts preds t) → Good n starts preds t
+  good-found r e m = holds-yes (good? n starts preds t) (sym m ∙ not-false r e)
+
+  pub bad-none : n ≤ t → ((k : ℕ) → k < t → Good n starts preds k) → n ≡ firstBad (graphOf n starts preds)
+  unfolding firstBad
+  bad-none h f = first-none n (bad? (graphOf n starts preds)) (λ k l b. b (f k (omega arith)))
+
+-- The first and the last start.
+pub ends-made : (n : ℕ) (starts preds : List ℕ)
+    → eqb (getD starts 0 0) 0 && eqb (getD starts n 0) (length preds) ≡ holds (endsFit? (graphOf n starts preds))
+ends-made n starts preds = go (ℕ-discrete (getD starts 0 0) 0) (ℕ-discrete (getD starts n 0) (length preds))
+  where
+    go : Dec (_≡_ {A = ℕ} (getD starts 0 0) 0) → Dec (getD starts n 0 ≡ length preds)
+        → eqb (getD starts 0 0) 0 && eqb (getD starts n 0) (length preds) ≡ holds (endsFit? (graphOf n starts preds))
+    go (yes a) (yes b) =
+        rw (eq-eqb (getD starts 0 0) 0 a, eq-eqb (getD starts n 0) (length preds) b)
+        (sym (yes-holds (endsFit? (graphOf n starts preds)) (record { first = a; last = b })))
+    go (yes a) (no m) =
+        rw (eq-eqb (getD starts 0 0) 0 a, ne-eqb (getD starts n 0) (length preds) m)
+        (sym (no-holds (endsFit? (graphOf n starts preds)) (λ f. m (f .last))))
+    go (no m) b = rw (ne-eqb (getD starts 0 0) 0 m) (sym (no-holds (endsFit? (graphOf n starts preds)) (λ f. m (f .first))))
+
+-- After i words no word was met twice, and those that were met are the ones whose mark carries the stamp.
+pub record Met (words marks : List ℕ) (stamp i : ℕ) : Type 0 where
+  pub once : (u : ℕ) → occ u (take i words) ≤ 1
+  pub low : (u : ℕ) → getD marks u 0 < stamp + occ u (take i words)
+  pub stamped : (u : ℕ) → 0 < occ u (take i words) → getD marks u 0 ≡ stamp
+
+pub met-none : (words marks : List ℕ) (stamp : ℕ) → ((u : ℕ) → getD marks u 0 < stamp) → Met words marks stamp 0
+met-none words marks stamp f =
+    record {
+      once = λ u. omega (arith, occ-nil ℕ-discrete u);
+      low = λ u. omega (arith, f u, occ-nil ℕ-discrete u);
+      stamped = λ u h. absurd (omega (arith, occ-nil ℕ-discrete u));
+    }
+
+module _ {words marks : List ℕ} {stamp i : ℕ} (k : Met words marks stamp i) where
+  pub met-low : (u : ℕ) → getD marks u 0 ≤ stamp
+  met-low u = omega (arith, k .once u, k .low u)
+
+  pub met-twin : i < length words → getD marks (getD words i 0) 0 ≡ stamp → true ≡ holds (twiceIn? words)
+  met-twin h e =
+      sym
+      (yes-holds (twiceIn? words) (
+        getD words i 0,
+        omega (arith, k .low (getD words i 0), occ-more words i h (getD words i 0) refl, occ-split ℕ-discrete (getD words i 0) (i + 1) words),
+      ))
+
+  pub met-turn : i < length words → getD words i 0 < length marks → ¬ (getD marks (getD words i 0) 0 ≡ stamp)
+      → Met words (set marks (getD words i 0) stamp) stamp (i + 1)
+  met-turn h m n =
+      record { once = λ u. first u (ℕ-discrete u (getD words i 0)); low = λ u. second u (ℕ-discrete u (getD words i 0)); stamped = λ u. third u (ℕ-discrete u (getD words i 0)) }
+    where
+      fresh : occ (getD words i 0) (take i words) ≡ 0
+      fresh = at (ℕ-discrete (occ (getD words i 0) (take i words)) 0)
+        where
+          at : Dec (occ (getD words i 0) (take i words) ≡ 0) → occ (getD words i 0) (take i words) ≡ 0
+          at (yes e) = e
+          at (no q) = absurd (n (k .stamped (getD words i 0) (omega arith)))
+
+      first : (u : ℕ) → Dec (u ≡ getD words i 0) → occ u (take (i + 1) words) ≤ 1
+      first u (yes e) = rw e (omega (arith, fresh, occ-more words i h (getD words i 0) refl))
+      first u (no q) = omega (arith, k .once u, occ-other words i h u q)
+
+      second : (u : ℕ) → Dec (u ≡ getD words i 0) → getD (set marks (getD words i 0) stamp) u 0 < stamp + occ u (take (i + 1) words)
+      second u (yes e) =
+          rw e (omega (arith, getD-set-same marks (getD words i 0) stamp 0 m, occ-more words i h (getD words i 0) refl))
+      second u (no q) = omega (arith, k .low u, getD-set-other marks (getD words i 0) u stamp 0 q, occ-other words i h u q)
+
+      third : (u : ℕ) → Dec (u ≡ getD words i 0) → 0 < occ u (take (i + 1) words) → getD (set marks (getD words i 0) stamp) u 0 ≡ stamp
+      third u (yes e) o = rw e (getD-set-same marks (getD words i 0) stamp 0 m)
+      third u (no q) o = getD-set-other marks (getD words i 0) u stamp 0 q ∙ k .stamped u (omega (arith, occ-other words i h u q))
+
+  pub met-whole : length words ≤ i → false ≡ holds (twiceIn? words)
+  met-whole h =
+      sym (no-holds (twiceIn? words) (λ w. omega (arith, w .1, rw (take-all i words h) at (k .once (w .0)))))
+
+-- The first part with a word twice.
+module _ {n : ℕ} {starts preds : List ℕ} (s : Sound (graphOf n starts preds)) (t : ℕ) where
+  pub part-small : t < n → (u : ℕ) → Among u (take (getD starts (t + 1) 0 - getD starts t 0) (drop (getD starts t 0) preds)) → u < 1024
+  unfolding part
+  part-small h u m = omega (arith, s .sized .tasks, s .good t h .below u m)
+
+  pub twice-found : (r : Bool) → t < n → r ≡ true → r ≡ holds (twiceIn? (take (getD starts (t + 1) 0 - getD starts t 0) (drop (getD starts t 0) preds)))
+      → ((k : ℕ) → k < t → ¬ (Twice (graphOf n starts preds) k)) → t ≡ firstTwice (graphOf n starts preds)
+  unfolding part firstTwice
+  twice-found r h e m f =
+      first-is n (twice? (graphOf n starts preds)) t h
+      (holds-yes (twiceIn? (take (getD starts (t + 1) 0 - getD starts t 0) (drop (getD starts t 0) preds))) (sym m ∙ e)) f
+
+  pub once-found : (r : Bool) → r ≡ false → r ≡ holds (twiceIn? (take (getD starts (t + 1) 0 - getD starts t 0) (drop (getD starts t 0) preds)))
+      → ¬ (Twice (graphOf n starts preds) t)
+  unfolding part
+  once-found r e m = holds-no (twiceIn? (take (getD starts (t + 1) 0 - getD starts t 0) (drop (getD starts t 0) preds))) (sym m ∙ e)
+
+  pub twice-none : n ≤ t → ((k : ℕ) → k < t → ¬ (Twice (graphOf n starts preds) k)) → n ≡ firstTwice (graphOf n starts preds)
+  unfolding firstTwice
+  twice-none h f = first-none n (twice? (graphOf n starts preds)) (λ k l. f k (omega arith))
+
+-- what stands in a list of zeros, and beyond its end
+pub zeros : (n u : ℕ) → _≡_ {A = ℕ} (getD (replicate n 0) u 0) 0
+zeros zero u = refl
+zeros (suc n) zero = refl
+zeros (suc n) (suc u) = zeros n u
