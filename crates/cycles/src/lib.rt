@@ -2,17 +2,20 @@
 // itself.
 ghost use mathlib.Core.Path.{_≡_};
 ghost use mathlib.Core.Logic.{_↔_};
+ghost use mathlib.Core.List.{[], _∷_};
 ghost use Prim.Native.Nat.{ℕ, _+_, _≤_, _<_};
-ghost use lib.ListN.{length, getD, take};
+ghost use lib.ListN.{length, getD};
 ghost use Rattle.lists.specs.Decided.{holds};
-ghost use Rattle.lists.specs.Lists.{occ};
-ghost use Rattle.graph.specs.Graph.{Among, graphOf};
-ghost use Rattle.graph.specs.Conditions.{Sound, ToCycle};
+ghost use Rattle.graph.specs.Graph.{Among, part, graphOf, Edge, Leads};
+ghost use Rattle.graph.specs.Conditions.{Good, Sound, ToCycle};
 ghost use Rattle.graph.specs.Decide.{onCycle?};
 ghost use Rattle.graph.specs.Check.{firstOnCycle};
+ghost use Rattle.cycles.specs.Marks.{Has, Marked, Grown};
 
 // Marks and queues task u if it has no mark.
 fn mark(seen: &mut [u32], queue: &mut [u32], tail: usize, u: usize) -> usize
+    requires { ⌜ Marked (now seen) (now queue) tail × (u < 1024) ⌝ }
+    ensures { λ r. ⌜ Grown (u ∷ []) (now (seen .entry)) (now (queue .entry)) tail (now (seen .exit)) (now (queue .exit)) r ⌝ }
 {
     if seen[u] == 0 {
         seen[u] = 1;
@@ -22,7 +25,10 @@ fn mark(seen: &mut [u32], queue: &mut [u32], tail: usize, u: usize) -> usize
     tail
 }
 
+// Marks and queues each of the words that has no mark.
 fn mark_all(words: &[u32], seen: &mut [u32], queue: &mut [u32], from: usize) -> usize
+    requires { ⌜ Marked (now seen) (now queue) from × ((u : ℕ) → Among u (now words) → u < 1024) ⌝ }
+    ensures { λ r. ⌜ Grown (now (words .entry)) (now (seen .entry)) (now (queue .entry)) from (now (seen .exit)) (now (queue .exit)) r ⌝ }
 {
     let mut tail = from;
     let mut i = 0;
@@ -34,18 +40,40 @@ fn mark_all(words: &[u32], seen: &mut [u32], queue: &mut [u32], from: usize) -> 
     tail
 }
 
-// Marks every task from which a path of edges leads to t.
-fn mark_before(n: usize, starts: &[u32], preds: &[u32], t: usize, seen: &mut [u32], queue: &mut [u32])
+// Marks and queues the predecessors of task t that have no mark.
+fn mark_preds(
+    starts: &[u32],
+    preds: &[u32],
+    t: usize,
+    seen: &mut [u32],
+    queue: &mut [u32],
+    from: usize,
+) -> usize
+    requires { ⌜ (t + 1 < length (now starts)) × (Good 1024 (now starts) (now preds) t × Marked (now seen) (now queue) from) ⌝ }
+    ensures { λ r. ⌜ Grown (part (now (starts .entry)) (now (preds .entry)) t) (now (seen .entry)) (now (queue .entry)) from (now (seen .exit)) (now (queue .exit)) r ⌝ }
 {
     let a = starts[t] as usize;
     let e = starts[t + 1] as usize;
-    let mut tail = mark_all(&preds[a..e], seen, queue, 0);
+    mark_all(&preds[a..e], seen, queue, from)
+}
+
+// Marks every task from which a path of edges leads to t.
+fn mark_before(
+    n: usize,
+    starts: &[u32],
+    preds: &[u32],
+    t: usize,
+    seen: &mut [u32],
+    queue: &mut [u32],
+)
+    requires { ⌜ Sound (graphOf n (now starts) (now preds)) × ((t < n) × Marked (now seen) (now queue) 0) ⌝ }
+    ensures { λ r. ⌜ ((u : ℕ) → Has (now (seen .exit)) u ↔ Leads (Edge (graphOf n (now (starts .entry)) (now (preds .entry)))) u t) ⌝ }
+{
+    let mut tail = mark_preds(starts, preds, t, seen, queue, 0);
     let mut head = 0;
     while head < tail {
         let u = queue[head] as usize;
-        let b = starts[u] as usize;
-        let f = starts[u + 1] as usize;
-        tail = mark_all(&preds[b..f], seen, queue, tail);
+        tail = mark_preds(starts, preds, u, seen, queue, tail);
         head += 1;
     }
 }
@@ -76,16 +104,4 @@ fn search(n: usize, starts: &[u32], preds: &[u32], left: &[u32]) -> usize
         t += 1;
     }
     n
-}
-
-// The smallest task on a cycle, or n.
-pub fn first_on_cycle(n: usize, starts: &[u32], preds: &[u32]) -> usize
-    requires { ⌜ Sound (graphOf n (now starts) (now preds)) ⌝ }
-    ensures { λ r. ⌜ r ≡ firstOnCycle (graphOf n (now (starts .entry)) (now (preds .entry))) ⌝ }
-{
-    let mut left = [0u32; 1024];
-    let mut queue = [0u32; 1024];
-    tables::count_words(preds, &mut left);
-    strip::strip(n, starts, preds, &mut left, &mut queue);
-    search(n, starts, preds, &left)
 }

@@ -3,15 +3,17 @@
 ghost use mathlib.Core.Path.{_≡_};
 ghost use mathlib.Core.Logic.{_↔_};
 ghost use Prim.Native.Nat.{ℕ, _+_, _≤_, _<_};
-ghost use native.Mathlib.Decide.{ℕ-discrete};
-ghost use lib.ListN.{length, getD, take};
-ghost use Rattle.lists.specs.Decided.{tally};
+ghost use mathlib.Core.List.{[], _∷_};
+ghost use lib.ListN.{length, getD};
 ghost use Rattle.lists.specs.Lists.{occ};
-ghost use Rattle.graph.specs.Graph.{Among, graphOf};
+ghost use Rattle.graph.specs.Graph.{graphOf};
 ghost use Rattle.graph.specs.Conditions.{Sound, ToCycle};
+ghost use Rattle.strip.specs.Queue.{queuedAt, Queued, Looked, Sinks, Lowered};
 
 // Queues the tasks without successors, the last first, and answers how many there are.
 fn queue_sinks(n: usize, left: &[u32], queue: &mut [u32]) -> usize
+    requires { ⌜ (n ≤ 1024) × ((length (now left) ≡ 1024) × (length (now queue) ≡ 1024)) ⌝ }
+    ensures { λ r. ⌜ Sinks 0 n (now (left .entry)) (now (queue .exit)) r ⌝ }
 {
     let mut tail = 0;
     let mut t = n;
@@ -24,6 +26,8 @@ fn queue_sinks(n: usize, left: &[u32], queue: &mut [u32]) -> usize
 
 // Queues task t if it has no remaining successor.
 fn queue_if(left: &[u32], queue: &mut [u32], tail: usize, t: usize) -> usize
+    requires { ⌜ Queued (now left) (now queue) tail × ((t < 1024) × (queuedAt (now queue) tail t ≡ 0)) ⌝ }
+    ensures { λ r. ⌜ Looked (now (left .entry)) (now (queue .entry)) (now (queue .exit)) tail r t ⌝ }
 {
     if left[t] == 0 {
         queue[tail] = t as u32;
@@ -34,6 +38,8 @@ fn queue_if(left: &[u32], queue: &mut [u32], tail: usize, t: usize) -> usize
 
 // One successor less for task u; queued where none remains.
 fn lower(left: &mut [u32], queue: &mut [u32], tail: usize, u: usize) -> usize
+    requires { ⌜ Queued (now left) (now queue) tail × (0 < getD (now left) u 0) ⌝ }
+    ensures { λ r. ⌜ Lowered (u ∷ []) (now (left .entry)) (now (left .exit)) (now (queue .entry)) (now (queue .exit)) tail r ⌝ }
 {
     let more = left[u] - 1;
     left[u] = more;
@@ -46,6 +52,8 @@ fn lower(left: &mut [u32], queue: &mut [u32], tail: usize, u: usize) -> usize
 
 // One successor less for each of the words.
 fn lower_all(words: &[u32], left: &mut [u32], queue: &mut [u32], from: usize) -> usize
+    requires { ⌜ Queued (now left) (now queue) from × ((u : ℕ) → occ u (now words) ≤ getD (now left) u 0) ⌝ }
+    ensures { λ r. ⌜ Lowered (now (words .entry)) (now (left .entry)) (now (left .exit)) (now (queue .entry)) (now (queue .exit)) from r ⌝ }
 {
     let mut tail = from;
     let mut i = 0;
