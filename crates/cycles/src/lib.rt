@@ -105,3 +105,15 @@ fn search(n: usize, starts: &[u32], preds: &[u32], left: &[u32]) -> usize
     }
     n
 }
+
+// The smallest task on a cycle, or n.
+pub fn first_on_cycle(n: usize, starts: &[u32], preds: &[u32]) -> usize
+    requires { ⌜ Sound (graphOf n (now starts) (now preds)) ⌝ }
+    ensures { λ r. ⌜ r ≡ firstOnCycle (graphOf n (now (starts .entry)) (now (preds .entry))) ⌝ }
+{
+    let mut left = [0u32; 1024];
+    let mut queue = [0u32; 1024];
+    tables::count_words(preds, &mut left);
+    strip::strip(n, starts, preds, &mut left, &mut queue);
+    search(n, starts, preds, &left)
+}

@@ -47,3 +47,15 @@ module _ {g : Graph} (s : Sound g) where
 
   pub edge-from : (u t : ℕ) → Edge g u t → u < g .tasks
   edge-from u t e = s .good t (e .task) .below u (e .predecessor)
+
+  -- what is no task is no predecessor
+  pub preds-beyond : (u : ℕ) → g .tasks ≤ u → occ u (g .preds) ≡ 0
+  preds-beyond u h = go (ℕ-discrete (occ u (g .preds)) 0)
+    where
+      go : Dec (occ u (g .preds) ≡ 0) → occ u (g .preds) ≡ 0
+      go (yes e) = e
+      go (no n) = absurd (omega (arith, preds-below u (omega arith)))
+
+  -- what a count of the predecessors asks of scratch memory of the engine's size
+  pub preds-small : (u : ℕ) → Among u (g .preds) → u < 1024
+  preds-small u h = omega (arith, preds-below u h, s .sized .tasks)

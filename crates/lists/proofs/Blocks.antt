@@ -1,12 +1,11 @@
--- Laws of tabulated lists and of lists joined from blocks: where an element stands, and what one store changes.
+-- Laws of tabulated lists and of lists joined from blocks: where an element stands, and how a list is cut into blocks.
 use Prim.Native.Nat.{ℕ, zero, suc, _+_, _-_, _≤_, _<_}
 use mathlib.Core.Path.{_≡_, refl, sym, ap, _∙_}
 use mathlib.Core.List.{List, [], _∷_, _++_}
 use native.Mathlib.Omega.{arith}
 use native.Mathlib.Decide.{ℕ-discrete, decLt}
-use native.Mathlib.Nat.{zero-add, suc-add}
-use lib.ListN.{length, getD, set, take, drop, length-append, length-drop, List·getD-append}
-use lib.Seq.{ext-getD, set-append-left, take-length, drop-append-le, take-append-le, drop-append-seam, getD-append-add}
+use lib.ListN.{length, getD, take, drop, length-append, length-drop, List·getD-append}
+use lib.Seq.{ext-getD, take-add, take-length, drop-append-le, take-append-le, drop-append-seam, getD-append-add}
 use Rattle.lists.specs.Lists.{joined, tabulate, Rising}
 use Rattle.lists.specs.Sums.{sumTo}
 use Rattle.lists.proofs.Sums.{sum-prefix, length-joined}
@@ -23,42 +22,26 @@ module _ {A : Type 0} where
   getD-tabulate (suc n) f d zero h = refl
   getD-tabulate (suc n) f d (suc i) h = getD-tabulate n (λ k. f (suc k)) d i (omega arith)
 
+  pub tabulate-same : (n : ℕ) (f g : ℕ → A) → ((k : ℕ) → k < n → f k ≡ g k) → tabulate n f ≡ tabulate n g
+  unfolding tabulate
+  tabulate-same zero f g h = refl
+  tabulate-same (suc n) f g h = rw (h 0 (omega arith), tabulate-same n (λ k. f (suc k)) (λ k. g (suc k)) (λ k m. h (suc k) (omega arith)))
+
   -- a list is tabulated by what stands at each of its places
   pub is-tabulate : (n : ℕ) (f : ℕ → A) (d : A) (l : List A) → length l ≡ n → ((i : ℕ) → i < n → getD l i d ≡ f i) → l ≡ tabulate n f
   is-tabulate n f d l e h =
       ext-getD d l (tabulate n f) (e ∙ sym (length-tabulate n f)) (λ i m. h i (omega arith) ∙ sym (getD-tabulate n f d i (omega arith)))
-
-  set-append-right : (k l : List A) (i : ℕ) (a : A) → set (k ++ l) (length k + i) a ≡ k ++ set l i a
-  set-append-right [] l i a = rw (zero-add i)
-  set-append-right (x ∷ k) l i a = rw (suc-add (length k) i) (ap (λ (r : List A). x ∷ r) (set-append-right k l i a))
 
   pub joined-same : (n : ℕ) (f g : ℕ → List A) → ((k : ℕ) → k < n → g k ≡ f k) → joined n g ≡ joined n f
   unfolding joined
   joined-same zero f g h = refl
   joined-same (suc n) f g h = rw (joined-same n f g (λ k m. h k (omega arith)), h n (omega arith))
 
-  module _ (f g : ℕ → List A) (i : ℕ) (a : A) where
-    last-block : (n : ℕ) → g n ≡ set (f n) i a → ((k : ℕ) → ¬ (k ≡ n) → g k ≡ f k) → set (joined n f ++ f n) (sumTo n (λ k. length (f k)) + i) a ≡ joined n g ++ g n
-    last-block n e o =
-        ap (λ (m : ℕ). set (joined n f ++ f n) (m + i) a) (sym (length-joined n f)) ∙ set-append-right (joined n f) (f n) i a
-        ∙ rw (e, joined-same n f g (λ k m. o k (λ q. omega arith)))
-
-    earlier-block : (n b : ℕ) → b < n → i < length (f b) → g n ≡ f n → set (joined n f) (sumTo b (λ k. length (f k)) + i) a ≡ joined n g
-        → set (joined n f ++ f n) (sumTo b (λ k. length (f k)) + i) a ≡ joined n g ++ g n
-    earlier-block n b h l e r =
-        set-append-left (joined n f) (f n) (sumTo b (λ k. length (f k)) + i) a (omega (arith, length-joined n f, sum-prefix n (λ k. length (f k)) b h))
-        ∙ rw (r, e)
-
-    -- a store at place i of block b
-    pub set-joined : (n b : ℕ) → b < n → i < length (f b) → g b ≡ set (f b) i a → ((k : ℕ) → ¬ (k ≡ b) → g k ≡ f k)
-        → set (joined n f) (sumTo b (λ k. length (f k)) + i) a ≡ joined n g
-    unfolding joined
-    set-joined zero b h l e o = absurd (omega arith)
-    set-joined (suc n) b h l e o = go (ℕ-discrete b n) (λ m. set-joined n b m l e o)
-      where
-        go : Dec (b ≡ n) → (b < n → set (joined n f) (sumTo b (λ k. length (f k)) + i) a ≡ joined n g) → set (joined n f ++ f n) (sumTo b (λ k. length (f k)) + i) a ≡ joined n g ++ g n
-        go (yes q) r = rw q (last-block n (rw q at e) (λ k m. o k (λ p. m (p ∙ q))))
-        go (no m) r = earlier-block n b (omega arith) l (o n (λ p. m (sym p))) (r (omega arith))
+  -- a list cut into parts of the given sizes
+  pub joined-parts : (n : ℕ) (size : ℕ → ℕ) (l : List A) → joined n (λ u. take (size u) (drop (sumTo u size) l)) ≡ take (sumTo n size) l
+  unfolding joined sumTo
+  joined-parts zero size l = refl
+  joined-parts (suc n) size l = ap (λ (k : List A). k ++ take (size n) (drop (sumTo n size) l)) (joined-parts n size l) ∙ sym (take-add (sumTo n size) (size n) l)
 
   -- block b of a joined list
   pub block-at : (f : ℕ → List A) (n b : ℕ) → b < n → take (length (f b)) (drop (sumTo b (λ k. length (f k))) (joined n f)) ≡ f b

@@ -1,5 +1,6 @@
 pub mod Decided
 pub mod Occurrences
 pub mod Sums
+pub mod Prefixes
 pub mod Blocks
 pub mod Told

@@ -102,6 +102,14 @@ unfolding joined sumTo
 length-joined zero f = refl
 length-joined (suc n) f = omega (arith, length-append (joined n f) (f n), length-joined n f)
 
+pub sumOf-nil : {A : Type 0} (f : A → ℕ) → sumOf f [] ≡ 0
+unfolding sumOf
+sumOf-nil f = refl
+
+pub sumOf-single : {A : Type 0} (f : A → ℕ) (x : A) → sumOf f (x ∷ []) ≡ f x
+unfolding sumOf
+sumOf-single f x = omega arith
+
 pub sumOf-append : {A : Type 0} (f : A → ℕ) (k l : List A) → sumOf f (k ++ l) ≡ sumOf f k + sumOf f l
 unfolding sumOf
 sumOf-append f [] l = omega arith
@@ -145,6 +153,11 @@ length-occ n l h =
     sumOf-one : (k : List ℕ) → sumOf (λ t. 1) k ≡ length k
     sumOf-one [] = refl
     sumOf-one (x ∷ k) = omega (arith, sumOf-one k)
+
+-- distinct numbers below n that leave one out are fewer than n
+pub short-without : (n : ℕ) (l : List ℕ) → ((u : ℕ) → 0 < occ u l → u < n) → ((u : ℕ) → occ u l ≤ 1) → (t : ℕ) → t < n → occ t l ≡ 0 → length l < n
+short-without n l below once t h z =
+    omega (arith, length-occ n l below, sum-lt n (λ u. occ u l) (λ u. 1) (λ u m. once u) t h (omega arith), sum-one n)
 
 -- distinct numbers below n, and another one: they sum to no more than all
 module _ (f : ℕ → ℕ) (n : ℕ) (l : List ℕ) (below : (u : ℕ) → 0 < occ u l → u < n) where

@@ -1,64 +1,48 @@
+-- An accepted judgement gives the range; a refused one an empty part.
 use Rattle.lookup.proofs.Laws.{handed-nothing, range-on, handed-part}
 use borrow.Author.Needs.{needs}
 use Rattle.lookup.proofs.neighbours.Statement.{statement}
 use Rattle.lookup.proofs.neighbours.Tie as tie
-use Rattle.lookup.proofs.neighbours.Reads as reads
-use Rattle.lookup.proofs.neighbours.Lts as lts
-use Rattle.lookup.proofs.judge.Reads as judge-reads
-use Rattle.lookup.proofs.part_at.Reads as part-at-reads
 
--- src/lib.rt:88:9
 judge-requires : tie.Need-judge-requires
 judge-requires c κs = search needs
 
 enum-told : tie.Need-enum-told
 enum-told c = search needs
 
--- src/lib.rt:90:16
 enum-told-2 : tie.Need-enum-told-2
 enum-told-2 c = search needs
 
--- src/lib.rt:90:16
 sub-result : tie.Need-sub-result
 sub-result c = search needs
 
--- src/lib.rt:90:16
 part-result-start : tie.Need-part-result-start
 part-result-start c = search needs
 
--- src/lib.rt:90:16
 part-result-end : tie.Need-part-result-end
 part-result-end c = search needs
 
--- src/lib.rt:90:9
 returns : tie.Need-returns
 returns c = handed-nothing _ _ _ _ (c .before .before .before .judge .ensures) _ _ (c .before .enum-told2 .given .1)
 
--- src/lib.rt:92:13
 cast-t : tie.Need-cast-t
 cast-t c = search needs
 
--- src/lib.rt:94:31
 enum-told-3 : tie.Need-enum-told-3
 enum-told-3 c = search needs
 
--- src/lib.rt:94:31
 part-at-requires : tie.Need-part-at-requires
 part-at-requires c κs = range-on _ _ _ _ (c .before .before .before .before .before .judge .ensures) (c .before .before .before .enum-told .given .1) _ (c .enum-told3 .given .1)
 
--- src/lib.rt:95:29
 enum-told-4 : tie.Need-enum-told-4
 enum-told-4 c = search needs
 
--- src/lib.rt:95:29
 part-at-requires-2 : tie.Need-part-at-requires-2
 part-at-requires-2 c κs = range-on _ _ _ _ (c .before .before .before .before .before .judge .ensures) (c .before .before .before .enum-told .given .1) _ (c .enum-told4 .given .1)
 
--- src/lib.rt:77:1
 returns-2 : tie.Need-returns-2
 returns-2 c = handed-part _ _ _ _ (c .before .before .before .before .before .before .judge .ensures) (c .before .before .before .before .enum-told .given .1) _ (c .before .enum-told3 .given .1) _ (c .part-at .ensures)
 
--- src/lib.rt:77:1
 returns-3 : tie.Need-returns-3
 returns-3 c = handed-part _ _ _ _ (c .before .before .before .before .before .before .judge .ensures) (c .before .before .before .before .enum-told .given .1) _ (c .before .enum-told4 .given .1) _ (c .part-at2 .ensures)
 

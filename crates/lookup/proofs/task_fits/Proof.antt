@@ -1,20 +1,15 @@
+-- A task below n is judged by its part.
 use Rattle.lookup.proofs.Laws.{fits-not, fits-part}
 use borrow.Author.Needs.{needs}
 use Rattle.lookup.proofs.task_fits.Statement.{statement}
 use Rattle.lookup.proofs.task_fits.Tie as tie
-use Rattle.lookup.proofs.task_fits.Reads as reads
-use Rattle.lookup.proofs.task_fits.Lts as lts
-use Rattle.tables.proofs.part_good.Reads as part-good-reads
 
--- src/lib.rt:24:9
 returns : tie.Need-returns
 returns c = fits-not (c .before .before .before .args .n) (c .before .before .before .args .t) _ (search needs)
 
--- src/lib.rt:26:5
 part-good-requires : tie.Need-part-good-requires
 part-good-requires c κs = search needs
 
--- src/lib.rt:19:1
 returns-2 : tie.Need-returns-2
 returns-2 c = fits-part (c .before .before .before .before .args .n) (c .before .before .before .before .args .t) _ _ (search needs) (c .part-good .ensures)
 

@@ -1,32 +1,24 @@
+-- The column is the step's, and the entry is the rule's.
 use Rattle.task.proofs.PhaseTable.{entry}
 use borrow.Author.Needs.{needs}
 use Rattle.task.proofs.next_phase.Statement.{statement}
 use Rattle.task.proofs.next_phase.Tie as tie
-use Rattle.task.proofs.next_phase.Reads as reads
-use Rattle.task.proofs.next_phase.Lts as lts
-use Rattle.task.proofs.column.Reads as column-reads
 
--- src/lib.rt:111:9
 column-requires : tie.Need-column-requires
 column-requires c κs = search needs
 
--- src/lib.rt:112:5
 mul-result : tie.Need-mul-result
 mul-result c = search needs
 
--- src/lib.rt:112:5
 mul-result-2 : tie.Need-mul-result-2
 mul-result-2 c = search needs
 
--- src/lib.rt:112:5
 index-1-result : tie.Need-index-1-result
 index-1-result c = search needs
 
--- src/lib.rt:112:5
 index-2-result : tie.Need-index-2-result
 index-2-result c = search needs
 
--- src/lib.rt:107:1
 returns : tie.Need-returns
 returns c = entry (c .before .before .args .phase) (c .before .before .args .step) (c .before .column .result) (search needs) (c .before .column .ensures .0)
 

@@ -1,0 +1,57 @@
+-- Laws of a list that is read from the front: its first i members, one more, all of them; and of a list of zeros.
+use Prim.Native.Nat.{ℕ, zero, suc, _+_, _≤_, _<_}
+use mathlib.Core.Path.{_≡_, refl, ap, _∙_}
+use mathlib.Core.List.{List, [], _∷_, _++_}
+use native.Mathlib.Omega.{arith}
+use native.Mathlib.Numerals.{add-one}
+use native.Mathlib.Decide.{ℕ-discrete, decLt}
+use lib.ListN.{length, getD, set, take, replicate, List·getD-eq-default}
+use lib.Seq.{take-suc, take-suc-set, take-take}
+use Rattle.lists.specs.Decided.{tally}
+use Rattle.lists.specs.Lists.{occ}
+use Rattle.lists.proofs.Decided.{tally-yes, tally-no}
+use Rattle.lists.proofs.Occurrences.{occ-nil, occ-cons, occ-append, occ-split}
+
+-- an item at the end of a list
+pub occ-snoc : (u x : ℕ) (l : List ℕ) → occ u (l ++ (x ∷ [])) ≡ occ u l + tally (ℕ-discrete u x)
+occ-snoc u x l = omega (arith, occ-append ℕ-discrete u l (x ∷ []), occ-cons ℕ-discrete u x [], occ-nil ℕ-discrete u)
+
+-- the first i members and one more
+module _ (l : List ℕ) (i : ℕ) (h : i < length l) where
+  pub take-more : take (i + 1) l ≡ take i l ++ (getD l i 0 ∷ [])
+  take-more = rw (add-one i) (take-suc l i 0 h)
+
+  pub occ-more : (u : ℕ) → occ u (take (i + 1) l) ≡ occ u (take i l) + tally (ℕ-discrete u (getD l i 0))
+  occ-more u = ap (occ u) take-more ∙ occ-snoc u (getD l i 0) (take i l)
+
+  pub occ-more-hit : (u : ℕ) → u ≡ getD l i 0 → occ u (take (i + 1) l) ≡ suc (occ u (take i l))
+  occ-more-hit u e = omega (arith, occ-more u, tally-yes (ℕ-discrete u (getD l i 0)) e)
+
+  pub occ-more-miss : (u : ℕ) → ¬ (u ≡ getD l i 0) → occ u (take (i + 1) l) ≡ occ u (take i l)
+  occ-more-miss u n = omega (arith, occ-more u, tally-no (ℕ-discrete u (getD l i 0)) n)
+
+-- a store right behind the first i members
+module _ (l : List ℕ) (i x : ℕ) (h : i < length l) where
+  pub take-store : take (i + 1) (set l i x) ≡ take i l ++ (x ∷ [])
+  take-store = rw (add-one i) (take-suc-set l i x h)
+
+  pub occ-store : (u : ℕ) → occ u (take (i + 1) (set l i x)) ≡ occ u (take i l) + tally (ℕ-discrete u x)
+  occ-store u = ap (occ u) take-store ∙ occ-snoc u x (take i l)
+
+-- no more among the first i than among the first k
+pub occ-take-le : (l : List ℕ) (i k u : ℕ) → i ≤ k → occ u (take i l) ≤ occ u (take k l)
+occ-take-le l i k u h = omega (arith, occ-split ℕ-discrete u i (take k l), ap (occ u) (take-take i k l h))
+
+-- what stands in a list of zeros, and behind its end
+pub zeros : (n u : ℕ) → _≡_ {A = ℕ} (getD (replicate n 0) u 0) 0
+zeros zero u = refl
+zeros (suc n) zero = refl
+zeros (suc n) (suc u) = zeros n u
+
+-- a place where something other than 0 is read lies inside
+pub inside : (l : List ℕ) (u : ℕ) → 0 < getD l u 0 → u < length l
+inside l u h = go (decLt u (length l))
+  where
+    go : Dec (u < length l) → u < length l
+    go (yes m) = m
+    go (no m) = absurd (omega (arith, List·getD-eq-default l 0 {n = u} (omega arith)))
