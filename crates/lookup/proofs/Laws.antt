@@ -8,6 +8,7 @@ use lib.ListN.{length, getD, take, drop}
 use lib.Dec.{ltb, eqb}
 use borrow.Author.Tests.{lt-ltb, le-ltb, eqb-true, not-true, not-false}
 use Rattle.lists.specs.Decided.{holds}
+use Rattle.lists.proofs.Told.{and-true}
 use Rattle.task.specs.Types.{engine}
 use Rattle.task.specs.declared.Limits.{Limits}
 use Rattle.task.specs.declared.Answer.{Answer}
@@ -26,10 +27,6 @@ fits-not n t b h = rw (le-ltb t n h)
 
 pub fits-part : (n t : ℕ) (r b : Bool) → t < n → r ≡ b → r ≡ (ltb t n && b)
 fits-part n t r b h e = rw (lt-ltb t n h) e
-
-and-true : (a b : Bool) → (a && b) ≡ true → (a ≡ true) × (b ≡ true)
-and-true true b h = (refl, h)
-and-true false b h = absurd (let z : _≡_ {A = ℕ} 0 1 = cc in omega arith)
 
 -- the three lengths, compared at once
 module _ (n e ps ss s : ℕ) (h : not (eqb ps (n + 1) && (eqb ss (n + 1) && eqb s e)) ≡ false) where

@@ -1,18 +1,16 @@
 // The successor table, filled from the predecessor table, each task's successors rising, and the degrees.
 ghost use mathlib.Core.Path.{_≡_};
 ghost use Prim.Native.Nat.{ℕ, _+_, _≤_, _<_};
-ghost use lib.ListN.{length, getD, take, set};
-ghost use Rattle.lists.specs.Lists.{occ};
-ghost use Rattle.graph.specs.Graph.{Among, graphOf, edgeCount};
+ghost use lib.ListN.{length, getD, set};
+ghost use Rattle.graph.specs.Graph.{graphOf};
 ghost use Rattle.graph.specs.Conditions.{Sound};
-ghost use Rattle.graph.specs.Successors.{succStarts, succWords, degreeList, linkedOf, link};
-
-use task::Answer;
-use task::Limits;
-use task::refusal;
+ghost use Rattle.graph.specs.Successors.{succStarts, succWords, degreeList};
+ghost use Rattle.successors.specs.Filling.{Rising, gaps, sumBelow, Summed, placedOf, placeAll, Room, Begun};
 
 // Each task's degree is the number of its predecessors.
 fn fill_degrees(n: usize, starts: &[u32], degrees: &mut [u32])
+    requires { ⌜ Rising n (now starts) × (length (now degrees) ≡ n) ⌝ }
+    ensures { λ r. ⌜ now (degrees .exit) ≡ gaps n (now (starts .entry)) ⌝ }
 {
     let mut t = 0;
     while t < n {
@@ -24,6 +22,8 @@ fn fill_degrees(n: usize, starts: &[u32], degrees: &mut [u32])
 // Each task's successors start where those of the tasks below it end. The counts become the starts too: the next free
 // place of each task.
 fn fill_starts(n: usize, counts: &mut [u32], starts: &mut [u32])
+    requires { ⌜ (n ≤ length (now counts)) × ((length (now starts) ≡ n + 1) × (sumBelow (now counts) n ≤ 8192)) ⌝ }
+    ensures { λ r. ⌜ Summed n (now (counts .entry)) (now (counts .exit)) (now (starts .exit)) ⌝ }
 {
     let mut sum = 0u32;
     let mut u = 0;
@@ -39,13 +39,18 @@ fn fill_starts(n: usize, counts: &mut [u32], starts: &mut [u32])
 
 // Task t takes the next free place among u's successors.
 fn place(next: &mut [u32], succs: &mut [u32], u: usize, t: u32)
+    requires { ⌜ (u < length (now next)) × ((getD (now next) u 0 < length (now succs)) × (length (now succs) ≤ 8192)) ⌝ }
+    ensures { λ r. ⌜ (now (next .exit) ≡ set (now (next .entry)) u (getD (now (next .entry)) u 0 + 1)) × (now (succs .exit) ≡ set (now (succs .entry)) (getD (now (next .entry)) u 0) t) ⌝ }
 {
     let at = next[u];
     succs[at as usize] = t;
     next[u] = at + 1;
 }
 
+// Task t takes the next free place of each of its predecessors.
 fn place_all(words: &[u32], next: &mut [u32], succs: &mut [u32], t: u32)
+    requires { ⌜ Room (now words) (now next) (now succs) × (length (now succs) ≤ 8192) ⌝ }
+    ensures { λ r. ⌜ placedOf (now (next .exit)) (now (succs .exit)) ≡ placeAll t (now (words .entry)) (placedOf (now (next .entry)) (now (succs .entry))) ⌝ }
 {
     let mut i = 0;
     while i < words.len() {
@@ -55,7 +60,10 @@ fn place_all(words: &[u32], next: &mut [u32], succs: &mut [u32], t: u32)
     }
 }
 
+// The tasks rising, so that each task's successors rise.
 fn fill_words(n: usize, starts: &[u32], preds: &[u32], next: &mut [u32], succs: &mut [u32])
+    requires { ⌜ Begun (graphOf n (now starts) (now preds)) (now next) (now succs) ⌝ }
+    ensures { λ r. ⌜ now (succs .exit) ≡ succWords (graphOf n (now (starts .entry)) (now (preds .entry))) ⌝ }
 {
     let mut t = 0;
     while t < n {
@@ -83,35 +91,4 @@ pub fn fill(
     fill_starts(n, &mut next, succ_starts);
     fill_words(n, starts, preds, &mut next, succs);
     fill_degrees(n, starts, degrees);
-}
-
-// Checks a graph and fills its successor table and degrees; where it is refused, nothing is written.
-pub fn link_graph(
-    limits: Limits,
-    weights: &[u32],
-    starts: &[u32],
-    preds: &[u32],
-    succ_starts: &mut [u32],
-    succs: &mut [u32],
-    degrees: &mut [u32],
-) -> Answer
-    ensures { λ r. ⌜ linkedOf r (now («succ_starts» .exit)) (now (succs .exit)) (now (degrees .exit)) ≡ link limits (now (weights .entry)) (now (starts .entry)) (now (preds .entry)) (now («succ_starts» .entry)) (now (succs .entry)) (now (degrees .entry)) ⌝ }
-{
-    let n = weights.len();
-    let e = preds.len();
-    if !tables::sizes_fit(limits, n, e) {
-        return Answer::Refused(refusal::BEYOND_LIMIT, 0);
-    }
-    if !tables::weights_fit(weights) {
-        return Answer::Refused(refusal::BEYOND_LIMIT, 0);
-    }
-    if !((starts.len() == n + 1) & ((succ_starts.len() == n + 1) & ((succs.len() == e) & (degrees.len() == n)))) {
-        return Answer::Refused(refusal::WRONG_LENGTH, 0);
-    }
-    let answer = graph_check::check_tables(n, starts, preds);
-    let Answer::Accepted = answer else {
-        return answer;
-    };
-    fill(n, starts, preds, succ_starts, succs, degrees);
-    Answer::Accepted
 }
