@@ -50,20 +50,26 @@ module _ (g : Graph) where
       few t u f = stable (decLe (occ u (predsOf g t)) 1) (λ m. f (u, omega arith))
 
   acceptable-clear : Acceptable g → Clear (tableRows g)
-  acceptable-clear a =
-      (λ d s. s .such .1 (a .good d (s .such .0)),
-      (λ d p. ends (p .1),
-      (λ d s. omega (arith, s .such .1 .1, a .once d (s .such .1 .0) (s .such .0)),
-      (λ d s. a .acyclic d (s .such), tt))))
+  acceptable-clear a = (
+    λ d s. s .such .1 (a .good d (s .such .0)),
+    (
+      λ d p. ends (p .1),
+      (
+        λ d s. omega (arith, s .such .1 .1, a .once d (s .such .1 .0) (s .such .0)),
+        (λ d s. a .acyclic d (s .such), tt),
+      ),
+    ),
+  )
     where
       ends : ¬ (_≡_ {A = ℕ} (getD (g .starts) 0 0) 0) ⊎ ¬ (getD (g .starts) (g .tasks) 0 ≡ edgeCount g) → ⊥
       ends (inl n) = n (a .ends .first)
       ends (inr n) = n (a .ends .last)
 
   pub accepted-iff : (tablesAnswer g ≡ Accepted) ↔ Acceptable g
-  accepted-iff =
-      (λ e. clear-acceptable (tables-follow g .accepts .0 (rw e tt)),
-      λ a. said-accepted (tablesAnswer g) (tables-follow g .accepts .1 (acceptable-clear a)))
+  accepted-iff = (
+    λ e. clear-acceptable (tables-follow g .accepts .0 (rw e tt)),
+    λ a. said-accepted (tablesAnswer g) (tables-follow g .accepts .1 (acceptable-clear a)),
+  )
 
   -- how many tasks have a path to t
   pub rank : ℕ → ℕ

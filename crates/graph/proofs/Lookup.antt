@@ -52,9 +52,10 @@ module _ (side : Side) (l : Lent) (t : ℕ) where
       fits (inr n) = n (a .good)
 
   pub judge-accepts : (judgeAnswer side l t ≡ Accepted) ↔ Looks side l t
-  judge-accepts =
-      (λ e. clear-looks (judge-follows side l t .accepts .0 (rw e tt)),
-      λ a. said-accepted (judgeAnswer side l t) (judge-follows side l t .accepts .1 (looks-clear a)))
+  judge-accepts = (
+    λ e. clear-looks (judge-follows side l t .accepts .0 (rw e tt)),
+    λ a. said-accepted (judgeAnswer side l t) (judge-follows side l t .accepts .1 (looks-clear a)),
+  )
 
   numbered : (d : ℕ) → ¬ (Given (lookupRows side l t) 0 d)
   numbered d (inl p) = omega (arith, p .0)

@@ -54,7 +54,7 @@ abbrev pub linkedOf : Answer → List ℕ → List ℕ → List ℕ → Linked
 linkedOf a s w d = record { answer = a; starts = s; succs = w; degrees = d }
 
 -- a refusal leaves the lent lists; else they are filled
-abbrev fillIf : Answer → Graph → List ℕ → List ℕ → List ℕ → Linked
+abbrev pub fillIf : Answer → Graph → List ℕ → List ℕ → List ℕ → Linked
 fillIf Accepted g s w d = linkedOf Accepted (succStarts g) (succWords g) (degreeList g)
 fillIf (Refused n x) g s w d = linkedOf (Refused n x) s w d
 
@@ -67,5 +67,5 @@ linkAnswer limits weights starts preds s w d =
     (Refused wrongLength 0))
     (Refused beyondLimit 0)
 
-unfoldable pub link : Limits → List ℕ → List ℕ → List ℕ → List ℕ → List ℕ → List ℕ → Linked
-link limits weights starts preds s w d = fillIf (linkAnswer limits weights starts preds s w d) (graphOf (length weights) starts preds) s w d
+unfoldable pub linked : Limits → List ℕ → List ℕ → List ℕ → List ℕ → List ℕ → List ℕ → Linked
+linked limits weights starts preds s w d = fillIf (linkAnswer limits weights starts preds s w d) (graphOf (length weights) starts preds) s w d

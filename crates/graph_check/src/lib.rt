@@ -3,7 +3,6 @@ ghost use mathlib.Core.Path.{_≡_};
 ghost use Rattle.graph.specs.Graph.{graphOf};
 ghost use Rattle.graph.specs.Conditions.{Sized};
 ghost use Rattle.graph.specs.Check.{tablesAnswer, checkAnswer};
-
 use task::Answer;
 use task::Limits;
 use task::refusal;

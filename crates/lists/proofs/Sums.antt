@@ -140,9 +140,13 @@ pub sumOf-places : (f : ℕ → ℕ) (n : ℕ) (l : List ℕ) → ((u : ℕ) →
 unfolding sumOf
 sumOf-places f n [] h = sym (sum-zero n (λ t. occ t [] * f t) (λ k l. rw (occ-nil ℕ-discrete k) (zero-mul (f k))))
 sumOf-places f n (x ∷ l) h =
-    omega (arith, sumOf-places f n l (λ u m. h u (omega (arith, occ-cons ℕ-discrete u x l))),
-    sum-at n (λ t. occ t l * f t) (λ t. occ t (x ∷ l) * f t) x (h x (omega (arith, occ-hit ℕ-discrete x x l refl))) (λ j m. ap (λ (k : ℕ). k * f j) (occ-miss ℕ-discrete j x l m)),
-    ap (λ (k : ℕ). k * f x) (occ-hit ℕ-discrete x x l refl), suc-mul (occ x l) (f x))
+    omega (
+      arith,
+      sumOf-places f n l (λ u m. h u (omega (arith, occ-cons ℕ-discrete u x l))),
+      sum-at n (λ t. occ t l * f t) (λ t. occ t (x ∷ l) * f t) x (h x (omega (arith, occ-hit ℕ-discrete x x l refl))) (λ j m. ap (λ (k : ℕ). k * f j) (occ-miss ℕ-discrete j x l m)),
+      ap (λ (k : ℕ). k * f x) (occ-hit ℕ-discrete x x l refl),
+      suc-mul (occ x l) (f x),
+    )
 
 -- a list of numbers below n has as many members as all their occurrences
 pub length-occ : (n : ℕ) (l : List ℕ) → ((u : ℕ) → 0 < occ u l → u < n) → length l ≡ sumTo n (λ u. occ u l)

@@ -8,7 +8,6 @@ ghost use Rattle.lists.specs.Decided.{holds};
 ghost use Rattle.graph.specs.Graph.{part};
 ghost use Rattle.graph.specs.Decide.{good?};
 ghost use Rattle.graph.specs.Lookup.{lentOf, judgedOf, judgeAnswer, neighboursOf};
-
 use task::Answer;
 use task::Limits;
 use task::Side;
