@@ -23,7 +23,7 @@ use Rattle.graph.specs.Graph.{Graph, graphOf, edgeCount, Edge, Leads, ed
 use Rattle.graph.specs.Conditions.{Light, Good, Bad, EndsFit, Twice, OnCycle}
 use Rattle.graph.specs.Decide.{light?, good?, bad?, endsFit?, twice?, onCycle?, not?}
 use Rattle.graph.specs.Check.{sizesFit, firstBad, firstTwice, firstOnCycle, tablesAnswer, checkAnswer}
-use Rattle.graph.specs.Successors.{linkAnswer}
+use Rattle.graph.specs.Successors.{lengthsMatch, linkAnswer}
 use Rattle.graph.specs.Lookup.{Lent, startsOn, wordsOn, lengthsFit, taskFits, judgeAnswer}
 use Rattle.graph.specs.Tables.{Beyond, Heavy, tableRows, checkRows, linkRows, lookupRows}
 
@@ -88,7 +88,7 @@ check-follows limits weights starts preds =
 
 -- the check with the lists that the filling call is lent
 pub link-follows : (limits : Limits) (weights starts preds s w d : List ℕ) → Follows (linkRows limits weights starts preds s w d) (answerSays (linkAnswer limits weights starts preds s w d))
-unfolding linkAnswer
+unfolding linkAnswer lengthsMatch
 link-follows limits weights starts preds s w d =
     test-row (sizesFit limits (length weights) (length preds) && holds (light? weights)) beyondLimit 0 _ _ (limits-told limits (length weights) (length preds) weights) (λ _.
     test-row _ wrongLength 0 _ _

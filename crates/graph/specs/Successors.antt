@@ -1,6 +1,6 @@
 -- The successor table, the degrees and the roots.
 use Prim.Native.Nat.{ℕ, suc, _+_}
-use mathlib.Core.Bool.{cond, _&&_}
+use mathlib.Core.Bool.{Bool, cond, _&&_}
 use mathlib.Core.List.{List, [], _∷_}
 use native.Mathlib.Decide.{ℕ-discrete}
 use lib.ListN.{length, replicate}
@@ -58,14 +58,20 @@ abbrev pub fillIf : Answer → Graph → List ℕ → List ℕ → List ℕ → 
 fillIf Accepted g s w d = linkedOf Accepted (succStarts g) (succWords g) (degreeList g)
 fillIf (Refused n x) g s w d = linkedOf (Refused n x) s w d
 
+-- "Each length is exact": predecessor starts N+1, successor starts N+1, successors E, degrees N
+unfoldable pub lengthsMatch : List ℕ → List ℕ → List ℕ → List ℕ → List ℕ → List ℕ → Bool
+lengthsMatch weights starts preds s w d =
+    eqb (length starts) (length weights + 1) && (eqb (length s) (length weights + 1) && (eqb (length w) (length preds) && eqb (length d) (length weights)))
+
 -- the check with the lent lists' lengths: 2, 1, 3, 4, 5
 unfoldable pub linkAnswer : Limits → List ℕ → List ℕ → List ℕ → List ℕ → List ℕ → List ℕ → Answer
 linkAnswer limits weights starts preds s w d =
     cond (sizesFit limits (length weights) (length preds) && holds (light? weights))
-    (cond (eqb (length starts) (length weights + 1) && (eqb (length s) (length weights + 1) && (eqb (length w) (length preds) && eqb (length d) (length weights))))
+    (cond (lengthsMatch weights starts preds s w d)
     (tablesAnswer (graphOf (length weights) starts preds))
     (Refused wrongLength 0))
     (Refused beyondLimit 0)
 
 unfoldable pub linked : Limits → List ℕ → List ℕ → List ℕ → List ℕ → List ℕ → List ℕ → Linked
-linked limits weights starts preds s w d = fillIf (linkAnswer limits weights starts preds s w d) (graphOf (length weights) starts preds) s w d
+linked limits weights starts preds s w d =
+    fillIf (linkAnswer limits weights starts preds s w d) (graphOf (length weights) starts preds) s w d

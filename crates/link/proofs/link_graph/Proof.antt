@@ -1,75 +1,63 @@
+-- The tests in order, each a case of the definition; what they have passed lets the table be filled.
+use Rattle.graph.specs.Successors.{lengthsMatch}
+use Rattle.graph_check.proofs.Laws.{sized}
+use Rattle.link.proofs.Laws.{starts-match, lent-match, link-beyond, link-heavy, link-lengths, link-refused, link-filled, link-sound}
 use borrow.Author.Needs.{needs}
 use Rattle.link.proofs.link_graph.Statement.{statement}
 use Rattle.link.proofs.link_graph.Tie as tie
-use Rattle.link.proofs.link_graph.Reads as reads
-use Rattle.link.proofs.link_graph.Lts as lts
-use Rattle.graph_check.proofs.check_tables.Reads as check-tables-reads
-use Rattle.successors.proofs.fill.Reads as fill-reads
-use Rattle.tables.proofs.sizes_fit.Reads as sizes-fit-reads
-use Rattle.tables.proofs.weights_fit.Reads as weights-fit-reads
 
--- src/lib.rt:23:9
 sizes-fit-requires : tie.Need-sizes-fit-requires
 sizes-fit-requires c κs = search needs
 
--- src/lib.rt:24:9
 returns : tie.Need-returns
-returns c = ?
+returns c = link-beyond (c .before .before .before .before .before .before .before .before .args .limits) (c .before .before .before .before .before .before .before .before .args .weights .now) (c .before .before .before .before .before .before .before .before .args .starts .now) (c .before .before .before .before .before .before .before .before .args .preds .now) (c .before .before .before .before .before .before .before .before .args .succ-starts .now) (c .before .before .before .before .before .before .before .before .args .succs .now) (c .before .before .before .before .before .before .before .before .args .degrees .now) _ (c .before .sizes-fit .ensures) (c .if1 .taken)
 
--- src/lib.rt:26:9
 weights-fit-requires : tie.Need-weights-fit-requires
 weights-fit-requires c κs = search needs
 
--- src/lib.rt:27:9
 returns-2 : tie.Need-returns-2
-returns-2 c = ?
+returns-2 c = link-heavy (c .before .before .before .before .before .before .before .before .before .before .args .limits) (c .before .before .before .before .before .before .before .before .before .before .args .weights .now) (c .before .before .before .before .before .before .before .before .before .before .args .starts .now) (c .before .before .before .before .before .before .before .before .before .before .args .preds .now) (c .before .before .before .before .before .before .before .before .before .before .args .succ-starts .now) (c .before .before .before .before .before .before .before .before .before .before .args .succs .now) (c .before .before .before .before .before .before .before .before .before .before .args .degrees .now) _ (c .before .before .before .sizes-fit .ensures) (c .before .before .if1 .left) _ (c .before .weights-fit .ensures) (c .if2 .taken)
 
--- src/lib.rt:29:27
 add-if3 : tie.Need-add-if3
 add-if3 c = search needs
 
--- src/lib.rt:29:59
 add-if3-2 : tie.Need-add-if3-2
 add-if3-2 c = search needs
 
--- src/lib.rt:30:9
 returns-3 : tie.Need-returns-3
-returns-3 c = ?
+unfolding lengthsMatch
+returns-3 c = link-lengths (c .before .before .before .before .before .before .before .before .before .before .before .args .limits) (c .before .before .before .before .before .before .before .before .before .before .before .args .weights .now) (c .before .before .before .before .before .before .before .before .before .before .before .args .starts .now) (c .before .before .before .before .before .before .before .before .before .before .before .args .preds .now) (c .before .before .before .before .before .before .before .before .before .before .before .args .succ-starts .now) (c .before .before .before .before .before .before .before .before .before .before .before .args .succs .now) (c .before .before .before .before .before .before .before .before .before .before .before .args .degrees .now) _ (c .before .before .before .before .sizes-fit .ensures) (c .before .before .before .if1 .left) _ (c .before .before .weights-fit .ensures) (c .before .if2 .left) (c .if3 .taken)
 
--- src/lib.rt:32:9
 check-tables-requires : tie.Need-check-tables-requires
-check-tables-requires c κs = ?
+unfolding lengthsMatch
+check-tables-requires c κs = sized _ _ _ _ _ (c .before .before .before .before .sizes-fit .ensures) (c .before .before .before .if1 .left) (starts-match (c .before .before .before .before .before .before .before .before .before .before .before .args .weights .now) (c .before .before .before .before .before .before .before .before .before .before .before .args .starts .now) (c .before .before .before .before .before .before .before .before .before .before .before .args .preds .now) (c .before .before .before .before .before .before .before .before .before .before .before .args .succ-starts .now) (c .before .before .before .before .before .before .before .before .before .before .before .args .succs .now) (c .before .before .before .before .before .before .before .before .before .before .before .args .degrees .now) (c .if3 .left))
 
 enum-told : tie.Need-enum-told
 enum-told c = search needs
 
--- src/lib.rt:34:9
 enum-told-2 : tie.Need-enum-told-2
 enum-told-2 c = search needs
 
--- src/lib.rt:34:9
 returns-4 : tie.Need-returns-4
-returns-4 c = ?
+unfolding lengthsMatch
+returns-4 c = link-refused (c .before .before .before .before .before .before .before .before .before .before .before .before .before .before .args .limits) (c .before .before .before .before .before .before .before .before .before .before .before .before .before .before .args .weights .now) (c .before .before .before .before .before .before .before .before .before .before .before .before .before .before .args .starts .now) (c .before .before .before .before .before .before .before .before .before .before .before .before .before .before .args .preds .now) (c .before .before .before .before .before .before .before .before .before .before .before .before .before .before .args .succ-starts .now) (c .before .before .before .before .before .before .before .before .before .before .before .before .before .before .args .succs .now) (c .before .before .before .before .before .before .before .before .before .before .before .before .before .before .args .degrees .now) _ (c .before .before .before .before .before .before .before .sizes-fit .ensures) (c .before .before .before .before .before .before .if1 .left) _ (c .before .before .before .before .before .weights-fit .ensures) (c .before .before .before .before .if2 .left) (c .before .before .before .if3 .left) _ (c .before .before .check-tables .ensures) _ _ (c .enum-told2 .given .1)
 
--- src/lib.rt:36:5
 fill-requires : tie.Need-fill-requires
-fill-requires c κs = ?
+unfolding lengthsMatch
+fill-requires c κs = (link-sound (c .before .before .before .before .before .before .before .before .before .before .before .before .before .before .before .before .before .args .limits) (c .before .before .before .before .before .before .before .before .before .before .before .before .before .before .before .before .before .args .weights .now) (c .before .before .before .before .before .before .before .before .before .before .before .before .before .before .before .before .before .args .starts .now) (c .before .before .before .before .before .before .before .before .before .before .before .before .before .before .before .before .before .args .preds .now) (c .before .before .before .before .before .before .before .before .before .before .before .before .before .before .before .before .before .args .succ-starts .now) (c .before .before .before .before .before .before .before .before .before .before .before .before .before .before .before .before .before .args .succs .now) (c .before .before .before .before .before .before .before .before .before .before .before .before .before .before .before .before .before .args .degrees .now) _ (c .before .before .before .before .before .before .before .before .before .before .sizes-fit .ensures) (c .before .before .before .before .before .before .before .before .before .if1 .left) _ (c .before .before .before .before .before .before .before .before .weights-fit .ensures) (c .before .before .before .before .before .before .before .if2 .left) (c .before .before .before .before .before .before .if3 .left) _ (c .before .before .before .before .before .check-tables .ensures) (c .before .before .before .enum-told .given .1) (sized _ _ _ _ _ (c .before .before .before .before .before .before .before .before .before .before .sizes-fit .ensures) (c .before .before .before .before .before .before .before .before .before .if1 .left) (starts-match (c .before .before .before .before .before .before .before .before .before .before .before .before .before .before .before .before .before .args .weights .now) (c .before .before .before .before .before .before .before .before .before .before .before .before .before .before .before .before .before .args .starts .now) (c .before .before .before .before .before .before .before .before .before .before .before .before .before .before .before .before .before .args .preds .now) (c .before .before .before .before .before .before .before .before .before .before .before .before .before .before .before .before .before .args .succ-starts .now) (c .before .before .before .before .before .before .before .before .before .before .before .before .before .before .before .before .before .args .succs .now) (c .before .before .before .before .before .before .before .before .before .before .before .before .before .before .before .before .before .args .degrees .now) (c .before .before .before .before .before .before .if3 .left))), lent-match (c .before .before .before .before .before .before .before .before .before .before .before .before .before .before .before .before .before .args .weights .now) (c .before .before .before .before .before .before .before .before .before .before .before .before .before .before .before .before .before .args .starts .now) (c .before .before .before .before .before .before .before .before .before .before .before .before .before .before .before .before .before .args .preds .now) (c .before .before .before .before .before .before .before .before .before .before .before .before .before .before .before .before .before .args .succ-starts .now) (c .before .before .before .before .before .before .before .before .before .before .before .before .before .before .before .before .before .args .succs .now) (c .before .before .before .before .before .before .before .before .before .before .before .before .before .before .before .before .before .args .degrees .now) (c .before .before .before .before .before .before .if3 .left))
 
--- src/lib.rt:10:1
 same-length : tie.Need-same-length
 same-length c = search needs
 
--- src/lib.rt:10:1
 same-length-2 : tie.Need-same-length-2
 same-length-2 c = search needs
 
--- src/lib.rt:10:1
 same-length-3 : tie.Need-same-length-3
 same-length-3 c = search needs
 
--- src/lib.rt:10:1
 returns-5 : tie.Need-returns-5
-returns-5 c = ?
+unfolding lengthsMatch
+returns-5 c = link-filled (c .before .before .before .before .before .before .before .before .before .before .before .before .before .before .before .before .before .before .before .before .before .before .before .before .args .limits) (c .before .before .before .before .before .before .before .before .before .before .before .before .before .before .before .before .before .before .before .before .before .before .before .before .args .weights .now) (c .before .before .before .before .before .before .before .before .before .before .before .before .before .before .before .before .before .before .before .before .before .before .before .before .args .starts .now) (c .before .before .before .before .before .before .before .before .before .before .before .before .before .before .before .before .before .before .before .before .before .before .before .before .args .preds .now) (c .before .before .before .before .before .before .before .before .before .before .before .before .before .before .before .before .before .before .before .before .before .before .before .before .args .succ-starts .now) (c .before .before .before .before .before .before .before .before .before .before .before .before .before .before .before .before .before .before .before .before .before .before .before .before .args .succs .now) (c .before .before .before .before .before .before .before .before .before .before .before .before .before .before .before .before .before .before .before .before .before .before .before .before .args .degrees .now) _ (c .before .before .before .before .before .before .before .before .before .before .before .before .before .before .before .before .before .sizes-fit .ensures) (c .before .before .before .before .before .before .before .before .before .before .before .before .before .before .before .before .if1 .left) _ (c .before .before .before .before .before .before .before .before .before .before .before .before .before .before .before .weights-fit .ensures) (c .before .before .before .before .before .before .before .before .before .before .before .before .before .before .if2 .left) (c .before .before .before .before .before .before .before .before .before .before .before .before .before .if3 .left) _ (c .before .before .before .before .before .before .before .before .before .before .before .before .check-tables .ensures) (c .before .before .before .before .before .before .before .before .before .before .enum-told .given .1) _ _ _ (c .before .before .before .before .before .before .fill .ensures .0) (c .before .before .before .before .before .before .fill .ensures .1 .0) (c .before .before .before .before .before .before .fill .ensures .1 .1)
 
 pub link-graph-spec : {M : Type 1} → statement M
 link-graph-spec =
