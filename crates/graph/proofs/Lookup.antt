@@ -8,7 +8,7 @@ use native.Mathlib.Omega.{arith}
 use native.Mathlib.Decide.{ℕ-discrete, decLe, decLt}
 use lib.ListN.{length}
 use Rattle.task.specs.Types.{capped, engine}
-use Rattle.task.specs.Refusals.{answerSays, numberOf, detailOf}
+use Rattle.task.specs.Refusals.{answerSays, accepted, numberOf, detailOf}
 use Rattle.task.specs.Rows.{Given, Clear}
 use Rattle.task.specs.declared.Answer.{Answer}
 use Rattle.task.specs.declared.Answer.the-variants.{Refused, Accepted}
@@ -16,15 +16,15 @@ use Rattle.task.specs.declared.Side.{Side}
 use Rattle.graph.specs.Graph.{part}
 use Rattle.graph.specs.Conditions.{Good}
 use Rattle.graph.specs.Decide.{good?}
-use Rattle.graph.specs.Lookup.{Lent, startsOn, wordsOn, Looks, judgeAnswer, handed, neighboursOf}
+use Rattle.graph.specs.Lookup.{Lent, startsOn, wordsOn, LookupFits, judgeAnswer, handed, neighboursOf}
 use Rattle.graph.specs.Tables.{lookupRows, Beyond}
 use Rattle.graph.proofs.Refusals.{judge-follows}
 use Rattle.graph.proofs.Accepted.{stable, said-accepted}
 
 module _ (side : Side) (l : Lent) (t : ℕ) where
-  clear-looks : Clear (lookupRows side l t) → Looks side l t
+  clear-fits : Clear (lookupRows side l t) → LookupFits side l t
   unfolding capped
-  clear-looks c = record {
+  clear-fits c = record {
     tasks = stable (decLe (length (l .weights)) 1024) (λ n. c .0 0 (refl, inl (omega arith)));
     edges = stable (decLe (length (l .preds)) 8192) (λ n. c .0 0 (refl, inr (omega arith)));
     predStarts = stable (ℕ-discrete (length (l .predStarts)) (length (l .weights) + 1)) (λ n. c .1 .0 0 (refl, inl n));
@@ -34,9 +34,9 @@ module _ (side : Side) (l : Lent) (t : ℕ) where
     good = stable (good? (length (l .weights)) (startsOn side l) (wordsOn side l) t) (λ n. c .1 .1 .0 t (refl, inr n));
   }
 
-  looks-clear : Looks side l t → Clear (lookupRows side l t)
+  fits-clear : LookupFits side l t → Clear (lookupRows side l t)
   unfolding capped
-  looks-clear a = (λ d p. sizes (p .1), (λ d p. lengths (p .1), (λ d p. fits (p .1), tt)))
+  fits-clear a = (λ d p. sizes (p .1), (λ d p. lengths (p .1), (λ d p. fits (p .1), tt)))
     where
       sizes : Beyond engine (length (l .weights)) (length (l .preds)) → ⊥
       sizes (inl h) = omega (arith, a .tasks)
@@ -51,11 +51,17 @@ module _ (side : Side) (l : Lent) (t : ℕ) where
       fits (inl h) = omega (arith, a .task)
       fits (inr n) = n (a .good)
 
-  pub judge-accepts : (judgeAnswer side l t ≡ Accepted) ↔ Looks side l t
-  judge-accepts = (
-    λ e. clear-looks (judge-follows side l t .accepts .0 (rw e tt)),
-    λ a. said-accepted (judgeAnswer side l t) (judge-follows side l t .accepts .1 (looks-clear a)),
-  )
+  pub judge-accepts : (answerSays (judgeAnswer side l t) ≡ accepted) ↔ LookupFits side l t
+  judge-accepts =
+      (λ e. clear-fits (judge-follows side l t .accepts .0 (said-accepted (judgeAnswer side l t) .0 e)),
+      λ a. said-accepted (judgeAnswer side l t) .1 (judge-follows side l t .accepts .1 (fits-clear a)))
+
+  judged-fits : LookupFits side l t → judgeAnswer side l t ≡ Accepted
+  judged-fits a = go (judgeAnswer side l t) (judge-accepts .1 a)
+    where
+      go : (r : Answer) → answerSays r ≡ accepted → r ≡ Accepted
+      go Accepted e = refl
+      go (Refused n d) e = absurd (let z : _≡_ {A = ℕ} 0 1 = cc in omega arith)
 
   numbered : (d : ℕ) → ¬ (Given (lookupRows side l t) 0 d)
   numbered d (inl p) = omega (arith, p .0)
@@ -64,22 +70,22 @@ module _ (side : Side) (l : Lent) (t : ℕ) where
   numbered d (inr (_, inr (_, inr (_, p)))) = p
 
   -- "which answers 0 and 0 exactly if the lookup is accepted"
-  pub judge-zero : ((numberOf (answerSays (judgeAnswer side l t)) ≡ 0) × (detailOf (answerSays (judgeAnswer side l t)) ≡ 0)) ↔ Looks side l t
+  pub judge-zero : ((numberOf (answerSays (judgeAnswer side l t)) ≡ 0) × (detailOf (answerSays (judgeAnswer side l t)) ≡ 0)) ↔ LookupFits side l t
   judge-zero = (λ p. judge-accepts .0 (go (judgeAnswer side l t) refl (p .0)), λ a. rw (judge-accepts .1 a) (refl, refl))
     where
-      go : (a : Answer) → judgeAnswer side l t ≡ a → numberOf (answerSays a) ≡ 0 → judgeAnswer side l t ≡ Accepted
-      go Accepted e z = e
+      go : (a : Answer) → judgeAnswer side l t ≡ a → numberOf (answerSays a) ≡ 0 → answerSays (judgeAnswer side l t) ≡ accepted
+      go Accepted e z = rw e
       go (Refused n d) e z = absurd (numbered d (rw z at (judge-follows side l t .refuses n d .0 (ap answerSays e))))
 
   -- the part of an accepted lookup
-  pub lookup-part : Looks side l t → neighboursOf side l t ≡ part (startsOn side l) (wordsOn side l) t
+  pub lookup-part : LookupFits side l t → neighboursOf side l t ≡ part (startsOn side l) (wordsOn side l) t
   unfolding neighboursOf
-  lookup-part a = rw (judge-accepts .1 a)
+  lookup-part a = rw (judged-fits a)
 
   -- and of a refused one
-  pub lookup-empty : ¬ (Looks side l t) → neighboursOf side l t ≡ []
+  pub lookup-empty : ¬ (LookupFits side l t) → neighboursOf side l t ≡ []
   unfolding neighboursOf
-  lookup-empty n = go (judgeAnswer side l t) (λ e. n (judge-accepts .0 e))
+  lookup-empty n = go (judgeAnswer side l t) (λ e. n (judge-accepts .0 (rw e)))
     where
       go : (a : Answer) → ¬ (a ≡ Accepted) → handed a (part (startsOn side l) (wordsOn side l) t) ≡ []
       go Accepted m = absurd (m refl)

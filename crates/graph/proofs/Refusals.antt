@@ -1,7 +1,7 @@
 -- PROMISE: the calls on a graph are refused under the table's conditions and no others.
 use Prim.Native.Nat.{ℕ, _+_, _≤_, _<_}
 use mathlib.Core.Path.{_≡_, refl, sym, ap, _∙_}
-use mathlib.Core.Bool.{Bool, true, false, cond, _&&_}
+use mathlib.Core.Bool.{Bool, true, not, _&&_}
 use mathlib.Core.Logic.{_⊎_, inl, inr, _↔_}
 use mathlib.Core.List.{List, [], _∷_}
 use native.Mathlib.Omega.{arith}
@@ -10,7 +10,7 @@ use lib.ListN.{length, getD}
 use lib.Dec.{ltb, leb, eqb}
 use Rattle.lists.specs.Decided.{holds, firstBelow}
 use Rattle.lists.proofs.Decided.{holds-yes, holds-no, first-smallest, first-least}
-use Rattle.lists.proofs.Told.{Told, told, le-told, lt-told, eq-told, dec-told, and-told}
+use Rattle.lists.proofs.Told.{Told, told-true, told, le-told, lt-told, eq-told, dec-told, and-told, not-told}
 use Rattle.task.specs.Types.{capped, engine}
 use Rattle.task.specs.Refusals.{Said, refused, accepted, answerSays, wrongLength, beyondLimit, badTable, duplicate, cycle}
 use Rattle.task.specs.Rows.{Follows}
@@ -23,9 +23,9 @@ use Rattle.graph.specs.Graph.{Graph, graphOf, edgeCount, Edge, Leads, ed
 use Rattle.graph.specs.Conditions.{Light, Good, Bad, EndsFit, Twice, OnCycle}
 use Rattle.graph.specs.Decide.{light?, good?, bad?, endsFit?, twice?, onCycle?, not?}
 use Rattle.graph.specs.Check.{sizesFit, firstBad, firstTwice, firstOnCycle, tablesAnswer, checkAnswer}
-use Rattle.graph.specs.Successors.{lengthsMatch, linkAnswer}
+use Rattle.graph.specs.Successors.{lentFit, linkAnswer}
 use Rattle.graph.specs.Lookup.{Lent, startsOn, wordsOn, lengthsFit, taskFits, judgeAnswer}
-use Rattle.graph.specs.Tables.{Beyond, Heavy, tableRows, checkRows, linkRows, lookupRows}
+use Rattle.graph.specs.Tables.{Beyond, Heavy, Unfit, tableRows, checkRows, lookupRows}
 
 pub leads-task : (g : Graph) (u t : ℕ) → Leads (Edge g) u t → t < g .tasks
 leads-task g u t (edge e) = e .task
@@ -48,10 +48,10 @@ pub tables-follow : (g : Graph) → Follows (tableRows g) (answerSays (tablesAns
 unfolding tablesAnswer firstBad firstTwice firstOnCycle
 tables-follow g =
     smallest-row (g .tasks) (bad? g) (λ t. (t < g .tasks) × Bad g t) (λ t p. p) (λ t p. p) badTable _ _ (λ _.
-    test-row (holds (endsFit? g)) badTable (g .tasks) _ _ (ends-told g) (λ _.
+    test-row (not (holds (endsFit? g))) badTable (g .tasks) _ _ (not-told (holds (endsFit? g)) (ends-told g)) (λ _.
     smallest-row (g .tasks) (twice? g) (λ t. (t < g .tasks) × Twice g t) (λ t p. p) (λ t p. p) duplicate _ _ (λ _.
     smallest-row (g .tasks) (onCycle? g) (OnCycle g) (λ t p. p .1) (λ t q. (leads-task g t t q, q)) cycle _ _ (λ _.
-    follows-accepted []))))
+    follows-accepted))))
 
 -- a number below n that lacks a property, where not all have it
 find-other : (n : ℕ) {P : ℕ → Type 0} → ((t : ℕ) → Dec (P t)) → ¬ ((t : ℕ) → t < n → P t) → (t : ℕ) × ((t < n) × ¬ (P t))
@@ -78,33 +78,40 @@ sizes-told l n e = and-told (leb n (capped l .tasks)) (leb e (capped l .edges)) 
 limits-told : (l : Limits) (n e : ℕ) (w : List ℕ) → Told (sizesFit l n e && holds (light? w)) (¬ (Beyond l n e ⊎ Heavy w)) (Beyond l n e ⊎ Heavy w)
 limits-told l n e w = and-told (sizesFit l n e) (holds (light? w)) (sizes-told l n e) (weights-told w)
 
--- the whole check
-pub check-follows : (limits : Limits) (weights starts preds : List ℕ) → Follows (checkRows limits weights starts preds) (answerSays (checkAnswer limits weights starts preds))
+-- the whole check, with what a call adds to it
+pub check-follows : (limits : Limits) (within others : Bool) {Far Odd : Type 0} → Told within (¬ Far) Far → Told others (¬ Odd) Odd → (weights starts preds : List ℕ)
+    → Follows (checkRows limits Far Odd weights starts preds) (answerSays (checkAnswer limits within others weights starts preds))
 unfolding checkAnswer
-check-follows limits weights starts preds =
-    test-row (sizesFit limits (length weights) (length preds) && holds (light? weights)) beyondLimit 0 _ _ (limits-told limits (length weights) (length preds) weights) (λ _.
-    test-row (eqb (length starts) (length weights + 1)) wrongLength 0 _ _ (eq-told (length starts) (length weights + 1)) (λ _.
+check-follows limits within others f o weights starts preds =
+    test-row _ beyondLimit 0 _ _ (not-told _ (and-told within (sizesFit limits (length weights) (length preds) && holds (light? weights)) f (limits-told limits (length weights) (length preds) weights))) (λ _.
+    test-row _ wrongLength 0 _ _ (not-told _ (and-told (eqb (length starts) (length weights + 1)) others (eq-told (length starts) (length weights + 1)) o)) (λ _.
     tables-follow (graphOf (length weights) starts preds)))
 
--- the check with the lists that the filling call is lent
-pub link-follows : (limits : Limits) (weights starts preds s w d : List ℕ) → Follows (linkRows limits weights starts preds s w d) (answerSays (linkAnswer limits weights starts preds s w d))
-unfolding linkAnswer lengthsMatch
+nothing-more : Told true (¬ ⊥) ⊥
+nothing-more = told-true refl (λ x. x)
+
+-- the check alone
+pub graph-follows : (limits : Limits) (weights starts preds : List ℕ) → Follows (checkRows limits ⊥ ⊥ weights starts preds) (answerSays (checkAnswer limits true true weights starts preds))
+graph-follows limits weights starts preds = check-follows limits true true nothing-more nothing-more weights starts preds
+
+-- the filling call
+pub link-follows : (limits : Limits) (weights starts preds s w d : List ℕ)
+    → Follows (checkRows limits ⊥ (Unfit weights preds s w d) weights starts preds) (answerSays (linkAnswer limits weights starts preds s w d))
+unfolding linkAnswer lentFit
 link-follows limits weights starts preds s w d =
-    test-row (sizesFit limits (length weights) (length preds) && holds (light? weights)) beyondLimit 0 _ _ (limits-told limits (length weights) (length preds) weights) (λ _.
-    test-row _ wrongLength 0 _ _
-    (and-told (eqb (length starts) (length weights + 1)) _ (eq-told (length starts) (length weights + 1))
+    check-follows limits true (lentFit weights preds s w d) nothing-more
     (and-told (eqb (length s) (length weights + 1)) _ (eq-told (length s) (length weights + 1))
-    (and-told (eqb (length w) (length preds)) (eqb (length d) (length weights)) (eq-told (length w) (length preds)) (eq-told (length d) (length weights)))))
-    (λ _. tables-follow (graphOf (length weights) starts preds)))
+    (and-told (eqb (length w) (length preds)) (eqb (length d) (length weights)) (eq-told (length w) (length preds)) (eq-told (length d) (length weights))))
+    weights starts preds
 
 -- the judging call of the lookup
 pub judge-follows : (side : Side) (l : Lent) (t : ℕ) → Follows (lookupRows side l t) (answerSays (judgeAnswer side l t))
 unfolding judgeAnswer lengthsFit taskFits
 judge-follows side l t =
-    test-row (sizesFit engine (length (l .weights)) (length (l .preds))) beyondLimit 0 _ _ (sizes-told engine (length (l .weights)) (length (l .preds))) (λ _.
+    test-row _ beyondLimit 0 _ _ (not-told _ (sizes-told engine (length (l .weights)) (length (l .preds)))) (λ _.
     test-row _ wrongLength 0 _ _
-    (and-told (eqb (length (l .predStarts)) (length (l .weights) + 1)) _ (eq-told (length (l .predStarts)) (length (l .weights) + 1))
-    (and-told (eqb (length (l .succStarts)) (length (l .weights) + 1)) (eqb (length (l .succs)) (length (l .preds))) (eq-told (length (l .succStarts)) (length (l .weights) + 1)) (eq-told (length (l .succs)) (length (l .preds)))))
+    (not-told _ (and-told (eqb (length (l .predStarts)) (length (l .weights) + 1)) _ (eq-told (length (l .predStarts)) (length (l .weights) + 1))
+    (and-told (eqb (length (l .succStarts)) (length (l .weights) + 1)) (eqb (length (l .succs)) (length (l .preds))) (eq-told (length (l .succStarts)) (length (l .weights) + 1)) (eq-told (length (l .succs)) (length (l .preds))))))
     (λ _. test-row _ badTable t _ _
-    (and-told (ltb t (length (l .weights))) (holds (good? (length (l .weights)) (startsOn side l) (wordsOn side l) t)) (lt-told t (length (l .weights))) (dec-told (good? (length (l .weights)) (startsOn side l) (wordsOn side l) t)))
-    (λ _. follows-accepted [])))
+    (not-told _ (and-told (ltb t (length (l .weights))) (holds (good? (length (l .weights)) (startsOn side l) (wordsOn side l) t)) (lt-told t (length (l .weights))) (dec-told (good? (length (l .weights)) (startsOn side l) (wordsOn side l) t))))
+    (λ _. follows-accepted)))

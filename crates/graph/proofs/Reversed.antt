@@ -2,18 +2,25 @@
 use Prim.Native.Nat.{ℕ, zero, suc, _+_, _-_, _≤_, _<_}
 use mathlib.Core.Path.{_≡_, refl, sym, ap, _∙_}
 use mathlib.Core.List.{List, [], _∷_, _++_}
+use mathlib.Core.Bool.{cond}
+use mathlib.Core.Logic.{_↔_}
 use native.Mathlib.Omega.{arith}
+use Rattle.lists.specs.Decided.{holds}
+use Rattle.lists.proofs.Decided.{yes-holds}
 use native.Mathlib.Numerals.{add-one}
 use native.Mathlib.Decide.{ℕ-discrete, decLt}
 use lib.ListN.{length, getD, take, drop, replicate, length-replicate, getD-replicate}
 use Rattle.lists.specs.Lists.{occ, joined, tabulate, Rising}
 use Rattle.lists.specs.Sums.{sumTo}
-use Rattle.lists.proofs.Occurrences.{occ-joined, occ-replicate, occ-replicate-other, at-occ}
-use Rattle.lists.proofs.Sums.{sum-same, sum-zero, sum-only, sum-suc, length-joined, length-occ}
+use Rattle.lists.proofs.Occurrences.{occ-nil, occ-hit, occ-miss, occ-joined, occ-replicate, occ-replicate-other, at-occ}
+use Rattle.lists.proofs.Sums.{sum-find, sum-term, sum-same, sum-zero, sum-only, sum-suc, sum-prefix, length-joined, length-occ}
 use Rattle.lists.proofs.Blocks.{length-tabulate, getD-tabulate, block-at, rising-append}
-use Rattle.graph.specs.Graph.{Among, part, Graph, edgeCount, predsOf, Edge}
-use Rattle.graph.specs.Conditions.{Acceptable, Sound, Sized}
-use Rattle.graph.specs.Successors.{succsBelow, succsOf, succStart, succStarts, succWords, degreeList}
+use Rattle.graph.specs.Graph.{Among, part, Graph, graphOf, edgeCount, predsOf}
+use Rattle.graph.specs.Conditions.{Good, Acceptable, Sound}
+use Rattle.graph.specs.Successors.{succsBelow, succsOf, succStart, succStarts, succWords, degreeList, roots}
+use Rattle.graph.specs.Lookup.{lentOf, startsOn, wordsOn, LookupFits}
+use Rattle.task.specs.declared.Side.{Side}
+use Rattle.task.specs.declared.Side.the-variants.{Predecessors, Successors}
 use Rattle.graph.proofs.Parts.{occ-preds, preds-below}
 
 module _ (g : Graph) where
@@ -31,7 +38,7 @@ module _ (g : Graph) where
       occ-joined ℕ-discrete t n (λ s. replicate (occ u (predsOf g s)) s)
       ∙ sum-zero n (λ s. occ t (replicate (occ u (predsOf g s)) s)) (λ s l. occ-replicate-other ℕ-discrete t s (occ u (predsOf g s)) (λ e. omega arith))
 
-  -- "s is among t's successors exactly as often as t is among s's predecessors"
+  -- t is among u's successors exactly as often as u is among t's predecessors
   pub reversed : (u t : ℕ) → t < g .tasks → occ t (succsOf g u) ≡ occ u (predsOf g t)
   reversed u t h = occ-below (g .tasks) u t h
 
@@ -60,6 +67,25 @@ module _ (g : Graph) where
       ∙ ap (λ (k : ℕ). take (length (succsOf g u)) (drop k (succWords g))) a
       ∙ block-at (succsOf g) (g .tasks) u h
 
+  start-at : (u : ℕ) → u ≤ g .tasks → getD (succStarts g) u 0 ≡ succStart g u
+  unfolding succStarts
+  start-at u h = getD-tabulate (g .tasks + 1) (succStart g) 0 u (omega arith)
+
+  -- the same of the table itself
+  pub table-reversed : (u t : ℕ) → u < g .tasks → t < g .tasks → occ t (part (succStarts g) (succWords g) u) ≡ occ u (predsOf g t)
+  table-reversed u t h k = ap (occ t) (succ-part u h) ∙ reversed u t k
+
+  -- the table is sound: its ranges rise inside it and its words are tasks
+  pub table-good : (u : ℕ) → u < g .tasks → Good (g .tasks) (succStarts g) (succWords g) u
+  unfolding succStart succWords
+  table-good u h =
+      let c : succStart g (u + 1) ≡ succStart g u + length (succsOf g u) = ap (succStart g) (add-one u) ∙ sum-suc u (λ v. length (succsOf g v)) in
+      record {
+        rises = omega (arith, start-at u (omega arith), start-at (u + 1) (omega arith), c);
+        inside = omega (arith, start-at (u + 1) (omega arith), c, sum-prefix (g .tasks) (λ v. length (succsOf g v)) u h, length-joined (g .tasks) (succsOf g));
+        below = λ t k. succs-below u t (rw (succ-part u h) at k);
+      }
+
   pub length-succStarts : length (succStarts g) ≡ g .tasks + 1
   unfolding succStarts
   length-succStarts = length-tabulate (g .tasks + 1) (succStart g)
@@ -80,6 +106,11 @@ module _ (g : Graph) where
         length-joined (g .tasks) (succsOf g)
         ∙ sum-same (g .tasks) (λ u. occ u (g .preds)) (λ u. length (succsOf g u)) (λ u l. length-succs u)
         ∙ sym (length-occ (g .tasks) (g .preds) (preds-below s))
+
+    -- and it runs from 0 to E
+    pub table-ends : (_≡_ {A = ℕ} (getD (succStarts g) 0 0) 0) × (getD (succStarts g) (g .tasks) 0 ≡ edgeCount g)
+    unfolding succStart sumTo succWords
+    table-ends = (start-at 0 (omega arith), start-at (g .tasks) (omega arith) ∙ sym (length-joined (g .tasks) (succsOf g)) ∙ length-succWords)
 
   -- "each task's successors rising"
   module _ (a : Acceptable g) where
@@ -103,3 +134,52 @@ module _ (g : Graph) where
 
     pub succs-rise : (u : ℕ) → Rising (succsOf g u)
     succs-rise u = rises-below (g .tasks) u (omega arith)
+
+-- a root is a task without predecessors
+pub roots-are : (g : Graph) (t : ℕ) → Among t (roots g) ↔ ((t < g .tasks) × (length (predsOf g t) ≡ 0))
+unfolding roots
+roots-are g t = (to, from)
+  where
+    kept : ℕ → List ℕ
+    kept k = cond (holds (ℕ-discrete (length (predsOf g k)) 0)) (k ∷ []) []
+
+    total : occ t (roots g) ≡ sumTo (g .tasks) (λ k. occ t (kept k))
+    total = occ-joined ℕ-discrete t (g .tasks) kept
+
+    at : (k : ℕ) → 0 < occ t (kept k) → (t ≡ k) × (length (predsOf g k) ≡ 0)
+    at k h = go (ℕ-discrete (length (predsOf g k)) 0) (ℕ-discrete t k) refl
+      where
+        go : (d : Dec (length (predsOf g k) ≡ 0)) → Dec (t ≡ k) → ℕ-discrete (length (predsOf g k)) 0 ≡ d → (t ≡ k) × (length (predsOf g k) ≡ 0)
+        go (yes z) (yes e) q = (e, z)
+        go (yes z) (no n) q = absurd (omega (arith, rw q at h, occ-miss ℕ-discrete t k [] n, occ-nil ℕ-discrete t))
+        go (no n) e q = absurd (omega (arith, rw q at h, occ-nil ℕ-discrete t))
+
+    to : Among t (roots g) → (t < g .tasks) × (length (predsOf g t) ≡ 0)
+    to h = go (sum-find (g .tasks) (λ k. occ t (kept k)) (omega (arith, total)))
+      where
+        go : (k : ℕ) × (k < g .tasks) × (0 < occ t (kept k)) → (t < g .tasks) × (length (predsOf g t) ≡ 0)
+        go w = let p = at (w .0) (w .2) in rw (p .0) (w .1, p .1)
+
+    from : (t < g .tasks) × (length (predsOf g t) ≡ 0) → Among t (roots g)
+    from p = omega (arith, total, sum-term (g .tasks) (λ k. occ t (kept k)) t (p .0), here)
+      where
+        here : occ t (kept t) ≡ 1
+        here = rw (yes-holds (ℕ-discrete (length (predsOf g t)) 0) (p .1)) (omega (arith, occ-hit ℕ-discrete t t [] refl, occ-nil ℕ-discrete t))
+
+-- where a graph's successor table was filled, every task's neighbours can be looked up on both sides
+pub linked-lookup : (weights starts preds : List ℕ) → Sound (graphOf (length weights) starts preds) → (side : Side) (t : ℕ) → t < length weights
+    → LookupFits side (lentOf weights starts preds (succStarts (graphOf (length weights) starts preds)) (succWords (graphOf (length weights) starts preds))) t
+linked-lookup weights starts preds s side t h =
+    record {
+      tasks = s .sized .tasks;
+      edges = s .sized .edges;
+      predStarts = s .sized .starts;
+      succStarts = length-succStarts (graphOf (length weights) starts preds);
+      succs = length-succWords (graphOf (length weights) starts preds) s;
+      task = h;
+      good = on side;
+    }
+  where
+    on : (d : Side) → Good (length weights) (startsOn d (lentOf weights starts preds (succStarts (graphOf (length weights) starts preds)) (succWords (graphOf (length weights) starts preds)))) (wordsOn d (lentOf weights starts preds (succStarts (graphOf (length weights) starts preds)) (succWords (graphOf (length weights) starts preds)))) t
+    on Predecessors = s .good t h
+    on Successors = table-good (graphOf (length weights) starts preds) t h

@@ -1,15 +1,15 @@
 -- The graph check: 2, 1, 3, 4, 5 in begin's order.
 use Prim.Native.Nat.{ℕ, _+_}
-use mathlib.Core.Bool.{Bool, cond, _&&_}
+use mathlib.Core.Bool.{Bool, not, _&&_}
 use mathlib.Core.List.{List}
 use lib.ListN.{length}
 use lib.Dec.{ltb, leb, eqb}
 use Rattle.lists.specs.Decided.{holds, firstBelow}
 use Rattle.task.specs.Types.{capped}
-use Rattle.task.specs.Refusals.{wrongLength, beyondLimit, badTable, duplicate, cycle}
+use Rattle.task.specs.Refusals.{wrongLength, beyondLimit, badTable, duplicate, cycle, refusedIf}
 use Rattle.task.specs.declared.Limits.{Limits}
 use Rattle.task.specs.declared.Answer.{Answer}
-use Rattle.task.specs.declared.Answer.the-variants.{Refused, Accepted}
+use Rattle.task.specs.declared.Answer.the-variants.{Accepted}
 use Rattle.graph.specs.Graph.{Graph, graphOf}
 use Rattle.graph.specs.Decide.{light?, bad?, endsFit?, twice?, onCycle?}
 
@@ -31,18 +31,16 @@ firstOnCycle g = firstBelow (g .tasks) (onCycle? g)
 -- 3, 4 and 5; "N for a wrong first or last start alone"
 unfoldable pub tablesAnswer : Graph → Answer
 tablesAnswer g =
-    cond (ltb (firstBad g) (g .tasks)) (Refused badTable (firstBad g))
-    (cond (holds (endsFit? g))
-    (cond (ltb (firstTwice g) (g .tasks)) (Refused duplicate (firstTwice g))
-    (cond (ltb (firstOnCycle g) (g .tasks)) (Refused cycle (firstOnCycle g))
-    Accepted))
-    (Refused badTable (g .tasks)))
+    refusedIf (ltb (firstBad g) (g .tasks)) badTable (firstBad g)
+    (refusedIf (not (holds (endsFit? g))) badTable (g .tasks)
+    (refusedIf (ltb (firstTwice g) (g .tasks)) duplicate (firstTwice g)
+    (refusedIf (ltb (firstOnCycle g) (g .tasks)) cycle (firstOnCycle g)
+    Accepted)))
 
--- the whole check of weights and predecessor tables
-unfoldable pub checkAnswer : Limits → List ℕ → List ℕ → List ℕ → Answer
-checkAnswer limits weights starts preds =
-    cond (sizesFit limits (length weights) (length preds) && holds (light? weights))
-    (cond (eqb (length starts) (length weights + 1))
-    (tablesAnswer (graphOf (length weights) starts preds))
-    (Refused wrongLength 0))
-    (Refused beyondLimit 0)
+-- The whole check of weights and predecessor tables, shared by every call on a graph. `within` says that the call's other
+-- numbers are within their limits, `others` that its other lists have their lengths.
+unfoldable pub checkAnswer : Limits → Bool → Bool → List ℕ → List ℕ → List ℕ → Answer
+checkAnswer limits within others weights starts preds =
+    refusedIf (not (within && (sizesFit limits (length weights) (length preds) && holds (light? weights)))) beyondLimit 0
+    (refusedIf (not (eqb (length starts) (length weights + 1) && others)) wrongLength 0
+    (tablesAnswer (graphOf (length weights) starts preds)))

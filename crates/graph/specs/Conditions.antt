@@ -5,7 +5,9 @@ use mathlib.Core.Logic.{_⊎_}
 use mathlib.Core.List.{List}
 use lib.ListN.{length, getD}
 use Rattle.lists.specs.Lists.{occ}
-use Rattle.graph.specs.Graph.{Among, part, Graph, edgeCount, predsOf, Edge, Leads}
+use Rattle.task.specs.Types.{engine, capped}
+use Rattle.task.specs.declared.Limits.{Limits}
+use Rattle.graph.specs.Graph.{Among, part, Graph, graphOf, edgeCount, predsOf, Edge, Leads}
 
 -- no weight is beyond its limit: "Weights 0..65,535"
 abbrev pub Light : List ℕ → Type 0
@@ -34,7 +36,7 @@ Twice g t = (u : ℕ) × (2 ≤ occ u (predsOf g t))
 abbrev pub OnCycle : Graph → ℕ → Type 0
 OnCycle g t = Leads (Edge g) t t
 
--- "on a cycle or with a path of edges to one"
+-- on a cycle or with a path of edges to one
 abbrev pub ToCycle : Graph → ℕ → Type 0
 ToCycle g t = OnCycle g t ⊎ ((c : ℕ) × (Leads (Edge g) t c × OnCycle g c))
 
@@ -47,8 +49,8 @@ pub record Acceptable (g : Graph) : Type 0 where
 
 -- lengths and limits under which the leaves of the check run: starts of N+1 words, N and E within the engine's limits
 pub record Sized (g : Graph) : Type 0 where
-  pub tasks : g .tasks ≤ 1024
-  pub edges : edgeCount g ≤ 8192
+  pub tasks : g .tasks ≤ engine .tasks
+  pub edges : edgeCount g ≤ engine .edges
   pub starts : length (g .starts) ≡ g .tasks + 1
 
 -- a graph that row 3 does not refuse
@@ -56,3 +58,11 @@ pub record Sound (g : Graph) : Type 0 where
   pub sized : Sized g
   pub good : (t : ℕ) → t < g .tasks → Good (g .tasks) (g .starts) (g .preds) t
   pub ends : EndsFit g
+
+-- a graph that the whole check accepts
+pub record GraphFits (limits : Limits) (weights starts preds : List ℕ) : Type 0 where
+  pub tasks : length weights ≤ capped limits .tasks
+  pub edges : length preds ≤ capped limits .edges
+  pub light : Light weights
+  pub lengths : length starts ≡ length weights + 1
+  pub graph : Acceptable (graphOf (length weights) starts preds)

@@ -2,13 +2,13 @@
 -- successor table itself. A refused lookup hands back an empty part."
 use Prim.Native.Nat.{ℕ, _+_, _≤_, _<_}
 use mathlib.Core.Path.{_≡_}
-use mathlib.Core.Bool.{Bool, cond, _&&_}
+use mathlib.Core.Bool.{Bool, not, _&&_}
 use mathlib.Core.List.{List, []}
 use lib.ListN.{length}
 use lib.Dec.{ltb, eqb}
 use Rattle.lists.specs.Decided.{holds}
 use Rattle.task.specs.Types.{engine}
-use Rattle.task.specs.Refusals.{wrongLength, beyondLimit, badTable}
+use Rattle.task.specs.Refusals.{wrongLength, beyondLimit, badTable, refusedIf}
 use Rattle.task.specs.declared.Answer.{Answer}
 use Rattle.task.specs.declared.Answer.the-variants.{Refused, Accepted}
 use Rattle.task.specs.declared.Side.{Side}
@@ -39,9 +39,9 @@ wordsOn Predecessors l = l .preds
 wordsOn Successors l = l .succs
 
 -- when a lookup is accepted: limits, lengths, the task, its range and the numbers in it
-pub record Looks (side : Side) (l : Lent) (t : ℕ) : Type 0 where
-  pub tasks : length (l .weights) ≤ 1024
-  pub edges : length (l .preds) ≤ 8192
+pub record LookupFits (side : Side) (l : Lent) (t : ℕ) : Type 0 where
+  pub tasks : length (l .weights) ≤ engine .tasks
+  pub edges : length (l .preds) ≤ engine .edges
   pub predStarts : length (l .predStarts) ≡ length (l .weights) + 1
   pub succStarts : length (l .succStarts) ≡ length (l .weights) + 1
   pub succs : length (l .succs) ≡ length (l .preds)
@@ -53,21 +53,17 @@ lengthsFit l =
     eqb (length (l .predStarts)) (length (l .weights) + 1)
     && (eqb (length (l .succStarts)) (length (l .weights) + 1) && eqb (length (l .succs)) (length (l .preds)))
 
--- "lookup: its range or a number in it is bad, or task ≥ N"; the detail is the task
+-- "lookup: its range or a number in it is bad, or task ≥ N", turned round
 unfoldable pub taskFits : Side → Lent → ℕ → Bool
 taskFits side l t = ltb t (length (l .weights)) && holds (good? (length (l .weights)) (startsOn side l) (wordsOn side l) t)
 
-abbrev pub judgedOf : Bool → ℕ → Answer
-judgedOf fits t = cond fits Accepted (Refused badTable t)
-
--- "In lookup: 2, 1, 3"
+-- "In lookup: 2, 1, 3"; the detail of 3 is "the task"
 unfoldable pub judgeAnswer : Side → Lent → ℕ → Answer
 judgeAnswer side l t =
-    cond (sizesFit engine (length (l .weights)) (length (l .preds)))
-    (cond (lengthsFit l)
-    (judgedOf (taskFits side l t) t)
-    (Refused wrongLength 0))
-    (Refused beyondLimit 0)
+    refusedIf (not (sizesFit engine (length (l .weights)) (length (l .preds)))) beyondLimit 0
+    (refusedIf (not (lengthsFit l)) wrongLength 0
+    (refusedIf (not (taskFits side l t)) badTable t
+    Accepted))
 
 abbrev pub handed : Answer → List ℕ → List ℕ
 handed Accepted l = l

@@ -1,6 +1,6 @@
 -- The successor table, the degrees and the roots.
 use Prim.Native.Nat.{ℕ, suc, _+_}
-use mathlib.Core.Bool.{Bool, cond, _&&_}
+use mathlib.Core.Bool.{Bool, true, cond, _&&_}
 use mathlib.Core.List.{List, [], _∷_}
 use native.Mathlib.Decide.{ℕ-discrete}
 use lib.ListN.{length, replicate}
@@ -8,13 +8,11 @@ use lib.Dec.{eqb}
 use Rattle.lists.specs.Decided.{holds}
 use Rattle.lists.specs.Lists.{occ, joined, tabulate}
 use Rattle.lists.specs.Sums.{sumTo}
-use Rattle.task.specs.Refusals.{wrongLength, beyondLimit}
 use Rattle.task.specs.declared.Limits.{Limits}
 use Rattle.task.specs.declared.Answer.{Answer}
 use Rattle.task.specs.declared.Answer.the-variants.{Refused, Accepted}
 use Rattle.graph.specs.Graph.{Graph, graphOf, predsOf}
-use Rattle.graph.specs.Decide.{light?}
-use Rattle.graph.specs.Check.{sizesFit, tablesAnswer}
+use Rattle.graph.specs.Check.{checkAnswer}
 
 -- u's successors among the tasks below n: each as often as u is among its predecessors, rising
 unfoldable pub succsBelow : Graph → ℕ → ℕ → List ℕ
@@ -58,19 +56,13 @@ abbrev pub fillIf : Answer → Graph → List ℕ → List ℕ → List ℕ → 
 fillIf Accepted g s w d = linkedOf Accepted (succStarts g) (succWords g) (degreeList g)
 fillIf (Refused n x) g s w d = linkedOf (Refused n x) s w d
 
--- "Each length is exact": predecessor starts N+1, successor starts N+1, successors E, degrees N
-unfoldable pub lengthsMatch : List ℕ → List ℕ → List ℕ → List ℕ → List ℕ → List ℕ → Bool
-lengthsMatch weights starts preds s w d =
-    eqb (length starts) (length weights + 1) && (eqb (length s) (length weights + 1) && (eqb (length w) (length preds) && eqb (length d) (length weights)))
+-- "Each length is exact": successor starts N+1, successors E, degrees N
+unfoldable pub lentFit : List ℕ → List ℕ → List ℕ → List ℕ → List ℕ → Bool
+lentFit weights preds s w d = eqb (length s) (length weights + 1) && (eqb (length w) (length preds) && eqb (length d) (length weights))
 
--- the check with the lent lists' lengths: 2, 1, 3, 4, 5
+-- the check, with the lengths of the lists to fill
 unfoldable pub linkAnswer : Limits → List ℕ → List ℕ → List ℕ → List ℕ → List ℕ → List ℕ → Answer
-linkAnswer limits weights starts preds s w d =
-    cond (sizesFit limits (length weights) (length preds) && holds (light? weights))
-    (cond (lengthsMatch weights starts preds s w d)
-    (tablesAnswer (graphOf (length weights) starts preds))
-    (Refused wrongLength 0))
-    (Refused beyondLimit 0)
+linkAnswer limits weights starts preds s w d = checkAnswer limits true (lentFit weights preds s w d) weights starts preds
 
 unfoldable pub linked : Limits → List ℕ → List ℕ → List ℕ → List ℕ → List ℕ → List ℕ → Linked
 linked limits weights starts preds s w d =

@@ -32,20 +32,18 @@ tableRows g =
     ∷ row cycle (Smallest (OnCycle g))
     ∷ []
 
--- the check of weights and predecessor tables
-abbrev pub checkRows : Limits → List ℕ → List ℕ → List ℕ → List Refusal
-checkRows limits weights starts preds =
-    row beyondLimit (only 0 (Beyond limits (length weights) (length preds) ⊎ Heavy weights))
-    ∷ row wrongLength (only 0 (¬ (length starts ≡ length weights + 1)))
+-- The check that every call on a graph shares. A call adds its own conditions: `Far`, that another of its numbers is beyond its
+-- limit, and `Odd`, that another of its lists hasn't its length.
+abbrev pub checkRows : Limits → Type 0 → Type 0 → List ℕ → List ℕ → List ℕ → List Refusal
+checkRows limits Far Odd weights starts preds =
+    row beyondLimit (only 0 (Far ⊎ (Beyond limits (length weights) (length preds) ⊎ Heavy weights)))
+    ∷ row wrongLength (only 0 (¬ (length starts ≡ length weights + 1) ⊎ Odd))
     ∷ tableRows (graphOf (length weights) starts preds)
 
--- the filling call, which is lent successor starts, successors and degrees too
-abbrev pub linkRows : Limits → List ℕ → List ℕ → List ℕ → List ℕ → List ℕ → List ℕ → List Refusal
-linkRows limits weights starts preds succStarts succs degrees =
-    row beyondLimit (only 0 (Beyond limits (length weights) (length preds) ⊎ Heavy weights))
-    ∷ row wrongLength (only 0 (¬ (length starts ≡ length weights + 1) ⊎ (¬ (length succStarts ≡ length weights + 1)
-    ⊎ (¬ (length succs ≡ length preds) ⊎ ¬ (length degrees ≡ length weights)))))
-    ∷ tableRows (graphOf (length weights) starts preds)
+-- the filling call is lent successor starts, successors and degrees
+abbrev pub Unfit : List ℕ → List ℕ → List ℕ → List ℕ → List ℕ → Type 0
+Unfit weights preds succStarts succs degrees =
+    ¬ (length succStarts ≡ length weights + 1) ⊎ (¬ (length succs ≡ length preds) ⊎ ¬ (length degrees ≡ length weights))
 
 -- "lookup: its range or a number in it is bad, or task ≥ N"; the detail is "the task"
 abbrev pub lookupRows : Side → Lent → ℕ → List Refusal

@@ -1,7 +1,7 @@
 -- Tests with their reasons: what a test's value says, for one test and for several that must all pass.
 use Prim.Native.Nat.{ℕ, _≤_, _<_}
 use mathlib.Core.Path.{_≡_, refl}
-use mathlib.Core.Bool.{Bool, true, false, _&&_}
+use mathlib.Core.Bool.{Bool, true, false, not, _&&_}
 use mathlib.Core.Logic.{_⊎_, inl, inr}
 use native.Mathlib.Omega.{arith}
 use lib.Dec.{ltb, leb, eqb}
@@ -39,6 +39,11 @@ pub and-told : (a b : Bool) {A B : Type 0} → Told a (¬ A) A → Told b (¬ B)
 and-told a b (told-true e f) (told-true q g) = told-true (rw (e, q)) (neither f g)
 and-told a b (told-true e f) (told-false q y) = told-false (rw (e, q)) (inr y)
 and-told a b (told-false e x) t = told-false (rw e) (inl x)
+
+-- the test turned round
+pub not-told : (b : Bool) {Yes No : Type 0} → Told b Yes No → Told (not b) No Yes
+not-told b (told-true e y) = told-false (rw e) y
+not-told b (told-false e n) = told-true (rw e) n
 
 -- both tests passed
 pub and-true : (a b : Bool) → (a && b) ≡ true → (a ≡ true) × (b ≡ true)

@@ -1,7 +1,7 @@
 -- How an answer is shown to follow a list of rows, row by row.
 use Prim.Native.Nat.{ℕ, _≤_, _<_}
 use mathlib.Core.Path.{_≡_, refl, sym, subst}
-use mathlib.Core.Bool.{Bool, true, cond}
+use mathlib.Core.Bool.{Bool, false}
 use mathlib.Core.Logic.{_⊎_, inl, inr}
 use mathlib.Core.List.{List, [], _∷_}
 use native.Mathlib.Omega.{arith}
@@ -10,13 +10,12 @@ use borrow.Author.Tests.{ltb-true, ltb-false}
 use Rattle.lists.specs.Decided.{firstBelow, Smallest}
 use Rattle.lists.proofs.Decided.{first-smallest, first-least, smallest-unique}
 use Rattle.lists.proofs.Told.{Told, told-true, told-false, told}
-use Rattle.task.specs.Refusals.{Said, refused, accepted, answerSays}
+use Rattle.task.specs.Refusals.{Said, refused, accepted, answerSays, refusedIf}
 use Rattle.task.specs.Rows.{Refusal, row, only, Passed, Given, Clear, Acceptance, Follows}
 use Rattle.task.specs.declared.Answer.{Answer}
-use Rattle.task.specs.declared.Answer.the-variants.{Refused}
 
-pub follows-accepted : (l : List ℕ) → Follows [] (accepted l)
-follows-accepted l = record { refuses = λ n d. (λ e. absurd (let z : _≡_ {A = ℕ} 0 1 = cc in omega arith), λ a. absurd a); accepts = (λ u. tt, λ u. tt) }
+pub follows-accepted : Follows [] accepted
+follows-accepted = record { refuses = λ n d. (λ e. absurd (let z : _≡_ {A = ℕ} 0 1 = cc in omega arith), λ a. absurd a); accepts = (λ u. tt, λ u. tt) }
 
 -- the first row holds, and its detail is the only one
 pub follows-given : (r : Refusal) (rs : List Refusal) (d : ℕ) → r .condition d → ((e : ℕ) → r .condition e → e ≡ d) → Follows (r ∷ rs) (refused (r .number) d)
@@ -34,11 +33,11 @@ follows-passed r rs said p f = record { refuses = λ n d. (λ e. inr (p, f .refu
     back n d (inl q) = absurd (p d (q .1))
     back n d (inr q) = f .refuses n d .1 (q .1)
 
--- the row that a failed test stands for, and then the rows after it
-pub test-row : (b : Bool) {C : Type 0} (n x : ℕ) (rest : List Refusal) (a : Answer) → Told b (¬ C) C → (b ≡ true → Follows rest (answerSays a))
-    → Follows (row n (only x C) ∷ rest) (answerSays (cond b a (Refused n x)))
-test-row b {C} n x rest a (told-true e f) r = rw e (follows-passed (row n (only x C)) rest (answerSays a) (λ d c. f (c .1)) (r e))
-test-row b {C} n x rest a (told-false e c) r = rw e (follows-given (row n (only x C)) rest x (refl, c) (λ y p. p .0))
+-- the row that a test stands for, and then the rows after it
+pub test-row : (b : Bool) {C : Type 0} (n x : ℕ) (rest : List Refusal) (a : Answer) → Told b C (¬ C) → (b ≡ false → Follows rest (answerSays a))
+    → Follows (row n (only x C) ∷ rest) (answerSays (refusedIf b n x a))
+test-row b {C} n x rest a (told-true e c) r = rw e (follows-given (row n (only x C)) rest x (refl, c) (λ y p. p .0))
+test-row b {C} n x rest a (told-false e f) r = rw e (follows-passed (row n (only x C)) rest (answerSays a) (λ d c. f (c .1)) (r e))
 
 -- the row of the smallest task that has a property, and then the rows after it
 module _ (n : ℕ) {P : ℕ → Type 0} (d : (t : ℕ) → Dec (P t)) (Q : ℕ → Type 0) (to : (t : ℕ) → (t < n) × P t → Q t) (from : (t : ℕ) → Q t → (t < n) × P t) (k : ℕ) (rest : List Refusal) (a : Answer) where
@@ -48,10 +47,10 @@ module _ (n : ℕ) {P : ℕ → Type 0} (d : (t : ℕ) → Dec (P t)) (Q : ℕ �
       record { such = to (firstBelow n d) (s .such); least = λ t l q. s .least t l (from t q) }
 
   pub smallest-row : (((t : ℕ) → t < n → ¬ (P t)) → Follows rest (answerSays a))
-      → Follows (row k (Smallest Q) ∷ rest) (answerSays (cond (ltb (firstBelow n d) n) (Refused k (firstBelow n d)) a))
+      → Follows (row k (Smallest Q) ∷ rest) (answerSays (refusedIf (ltb (firstBelow n d) n) k (firstBelow n d) a))
   smallest-row r = go (told (ltb (firstBelow n d) n) (ltb-true (firstBelow n d) n) (ltb-false (firstBelow n d) n))
     where
-      go : Told (ltb (firstBelow n d) n) (firstBelow n d < n) (n ≤ firstBelow n d) → Follows (row k (Smallest Q) ∷ rest) (answerSays (cond (ltb (firstBelow n d) n) (Refused k (firstBelow n d)) a))
+      go : Told (ltb (firstBelow n d) n) (firstBelow n d < n) (n ≤ firstBelow n d) → Follows (row k (Smallest Q) ∷ rest) (answerSays (refusedIf (ltb (firstBelow n d) n) k (firstBelow n d) a))
       go (told-true e h) = rw e (follows-given (row k (Smallest Q)) rest (firstBelow n d) (found h) (λ x s. smallest-unique s (found h)))
       go (told-false e h) =
           rw e (follows-passed (row k (Smallest Q)) rest (answerSays a)

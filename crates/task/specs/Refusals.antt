@@ -1,12 +1,14 @@
 -- The numbers of document 01's table of refused calls, and what each answer says in the paper's terms.
 use Prim.Native.Nat.{ℕ}
-use mathlib.Core.List.{List, [], _∷_}
+use mathlib.Core.Bool.{Bool, cond}
 use Rattle.task.specs.declared.Answer.{Answer}
 use Rattle.task.specs.declared.Answer.the-variants as answer
 use Rattle.task.specs.declared.ReadAnswer.{ReadAnswer}
 use Rattle.task.specs.declared.ReadAnswer.the-variants as read-answer
 use Rattle.task.specs.declared.ReleaseOutcome.{ReleaseOutcome}
 use Rattle.task.specs.declared.ReleaseOutcome.the-variants.{DegreeLeft, Placed}
+use Rattle.task.specs.declared.StepOutcome.{StepOutcome}
+use Rattle.task.specs.declared.StepOutcome.the-variants.{Moved, Fetched, Released}
 use Rattle.task.specs.declared.StepAnswer.{StepAnswer}
 use Rattle.task.specs.declared.StepAnswer.the-variants as step-answer
 
@@ -65,35 +67,54 @@ brokenLayout = 13
 -- what an answer says: a refusal's number and detail, or acceptance with the values that the call answers
 pub data Said : Type 0 where
   refused : (number detail : ℕ) → Said
-  accepted : (values : List ℕ) → Said
+  -- "Begin, Start and Complete answer acceptance alone"
+  accepted : Said
+  -- "the reader N and E"
+  graphRead : (tasks edges : ℕ) → Said
+  -- "An accepted Fetch answers the task"
+  taskFetched : (task : ℕ) → Said
+  -- "a Release answers either the degree left or the task with its new owner"
+  degreeLeft : (degree : ℕ) → Said
+  taskPlaced : (task owner : ℕ) → Said
 
 -- the number and the detail alone, 0 and 0 where accepted
 abbrev pub numberOf : Said → ℕ
 numberOf (refused n d) = n
-numberOf (accepted l) = 0
+numberOf accepted = 0
+numberOf (graphRead n e) = 0
+numberOf (taskFetched t) = 0
+numberOf (degreeLeft d) = 0
+numberOf (taskPlaced t w) = 0
 
 abbrev pub detailOf : Said → ℕ
 detailOf (refused n d) = d
-detailOf (accepted l) = 0
+detailOf accepted = 0
+detailOf (graphRead n e) = 0
+detailOf (taskFetched t) = 0
+detailOf (degreeLeft d) = 0
+detailOf (taskPlaced t w) = 0
 
--- "Begin .. answer[s] acceptance alone"; the judging call "answers 0 and 0 exactly if the lookup is accepted"
 abbrev pub answerSays : Answer → Said
 answerSays (answer.Refused n d) = refused n d
-answerSays answer.Accepted = accepted []
+answerSays answer.Accepted = accepted
 
--- "the reader N and E"
 abbrev pub readSays : ReadAnswer → Said
 readSays (read-answer.Refused n d) = refused n d
-readSays (read-answer.Accepted n e) = accepted (n ∷ e ∷ [])
+readSays (read-answer.Accepted n e) = graphRead n e
 
--- "a Release answers either the degree left or the task with its new owner"
-abbrev pub releaseValues : ReleaseOutcome → List ℕ
-releaseValues (DegreeLeft d) = d ∷ []
-releaseValues (Placed t w) = t .0 ∷ w .0 ∷ []
+abbrev pub releaseSays : ReleaseOutcome → Said
+releaseSays (DegreeLeft d) = degreeLeft d
+releaseSays (Placed t w) = taskPlaced (t .0) (w .0)
 
--- "An accepted Fetch answers the task; .. Start and Complete answer acceptance alone"
+abbrev pub outcomeSays : StepOutcome → Said
+outcomeSays Moved = accepted
+outcomeSays (Fetched t) = taskFetched (t .0)
+outcomeSays (Released o) = releaseSays o
+
 abbrev pub stepSays : StepAnswer → Said
 stepSays (step-answer.Refused n d) = refused n d
-stepSays step-answer.Accepted = accepted []
-stepSays (step-answer.Fetched t) = accepted (t .0 ∷ [])
-stepSays (step-answer.Released o) = accepted (releaseValues o)
+stepSays (step-answer.Accepted o) = outcomeSays o
+
+-- a test that refuses, and what is answered where it doesn't
+abbrev pub refusedIf : Bool → ℕ → ℕ → Answer → Answer
+refusedIf test n d rest = cond test (answer.Refused n d) rest

@@ -1,9 +1,10 @@
--- How document 01's table of refused calls is read: per call an ordered list of rows. "whichever .. it meets first is given"
+-- How document 01's table of refused calls is read: per call its rows in the call's order ("Order in begin: 2, 1, 3, 4, 5, 6",
+-- "In lookup: 2, 1, 3", ..), and the first that holds is given.
 use Prim.Native.Nat.{ℕ}
 use mathlib.Core.Path.{_≡_}
 use mathlib.Core.Logic.{_⊎_, _↔_}
 use mathlib.Core.List.{List, [], _∷_}
-use Rattle.task.specs.Refusals.{Said, refused, accepted}
+use Rattle.task.specs.Refusals.{Said, refused, accepted, graphRead, taskFetched, degreeLeft, taskPlaced}
 
 -- a row: its number, and when its condition holds with which detail
 pub record Refusal : Type 1 where
@@ -33,10 +34,14 @@ Clear (r ∷ rs) = Passed r × Clear rs
 
 abbrev pub Acceptance : Said → Type 0
 Acceptance (refused n d) = ⊥
-Acceptance (accepted l) = Unit {0}
+Acceptance accepted = Unit {0}
+Acceptance (graphRead n e) = Unit {0}
+Acceptance (taskFetched t) = Unit {0}
+Acceptance (degreeLeft d) = Unit {0}
+Acceptance (taskPlaced t w) = Unit {0}
 
 -- the answer follows the rows: n and d are given exactly if the first row that holds has them, and the call is accepted
--- exactly if no row holds
+-- exactly if no row holds; of the values of an accepted call it says nothing
 pub record Follows (rows : List Refusal) (said : Said) : Type 0 where
   pub refuses : (n d : ℕ) → (said ≡ refused n d) ↔ Given rows n d
   pub accepts : Acceptance said ↔ Clear rows

@@ -18,4 +18,9 @@ engine = record { tasks = 1024; edges = 8192; workers = 16; slots = 64 }
 -- a limit above the engine's counts as the engine's
 unfoldable pub capped : Limits → Limits
 capped l =
-    record { tasks = min (l .tasks) 1024; edges = min (l .edges) 8192; workers = min (l .workers) 16; slots = min (l .slots) 64 }
+    record {
+      tasks = min (l .tasks) (engine .tasks);
+      edges = min (l .edges) (engine .edges);
+      workers = min (l .workers) (engine .workers);
+      slots = min (l .slots) (engine .slots);
+    }

@@ -161,7 +161,8 @@ fn smaller(a: usize, b: usize) -> usize
     if a < b { a } else { b }
 }
 
-// The answer of begin and of lookup's judging call: refused with its number and detail, or accepted.
+// The answer of begin, of the calls on a graph and of lookup's judging call: refused with its number and detail, or
+// accepted.
 pub enum Answer {
     Refused(u32, u32),
     Accepted,
@@ -179,10 +180,15 @@ pub enum ReleaseOutcome {
     Placed(TaskId, WorkerId),
 }
 
-// A step's answer: refused; accepted alone (Start, Complete); the task fetched; what a Release did.
-pub enum StepAnswer {
-    Refused(u32, u32),
-    Accepted,
+// What an accepted step answers: nothing more (Start, Complete), the task fetched, or what a Release did.
+pub enum StepOutcome {
+    Moved,
     Fetched(TaskId),
     Released(ReleaseOutcome),
+}
+
+// A step's answer: refused with its number and detail, or accepted with its outcome.
+pub enum StepAnswer {
+    Refused(u32, u32),
+    Accepted(StepOutcome),
 }
