@@ -108,12 +108,12 @@ sound-of s a = record { sized = s; good = a .good; ends = a .ends }
 module _ (limits : Limits) {Far Odd : Type 0} (weights starts preds : List ℕ) where
   clear-fits : Clear (checkRows limits Far Odd weights starts preds) → (¬ Far) × ((¬ Odd) × GraphFits limits weights starts preds)
   clear-fits c =
-      (λ f. c .0 0 (refl, inl f),
+      (λ f. c .0 0 (refl, inl (inl f)),
       (λ o. c .1 .0 0 (refl, inr o),
       record {
-        tasks = stable (decLe (length weights) (capped limits .tasks)) (λ n. c .0 0 (refl, inr (inl (inl (omega arith)))));
-        edges = stable (decLe (length preds) (capped limits .edges)) (λ n. c .0 0 (refl, inr (inl (inr (omega arith)))));
-        light = λ t h. stable (decLe (getD weights t 0) 65535) (λ n. c .0 0 (refl, inr (inr (t, (h, omega arith)))));
+        tasks = stable (decLe (length weights) (capped limits .tasks)) (λ n. c .0 0 (refl, inl (inr (inl (omega arith)))));
+        edges = stable (decLe (length preds) (capped limits .edges)) (λ n. c .0 0 (refl, inl (inr (inr (omega arith)))));
+        light = λ t h. stable (decLe (getD weights t 0) 65535) (λ n. c .0 0 (refl, inr (t, (h, omega arith))));
         lengths = stable (ℕ-discrete (length starts) (length weights + 1)) (λ n. c .1 .0 0 (refl, inl n));
         graph = clear-iff (graphOf (length weights) starts preds) .0 (c .1 .1);
       }))
@@ -121,11 +121,11 @@ module _ (limits : Limits) {Far Odd : Type 0} (weights starts preds : List ℕ) 
   fits-clear : (¬ Far) × ((¬ Odd) × GraphFits limits weights starts preds) → Clear (checkRows limits Far Odd weights starts preds)
   fits-clear (f, (o, a)) = (λ d p. far (p .1), (λ d p. odd (p .1), clear-iff (graphOf (length weights) starts preds) .1 (a .graph)))
     where
-      far : Far ⊎ (Beyond limits (length weights) (length preds) ⊎ Heavy weights) → ⊥
-      far (inl x) = f x
-      far (inr (inl (inl h))) = omega (arith, a .tasks)
-      far (inr (inl (inr h))) = omega (arith, a .edges)
-      far (inr (inr h)) = omega (arith, a .light (h .0) (h .1 .0), h .1 .1)
+      far : (Far ⊎ Beyond limits (length weights) (length preds)) ⊎ Heavy weights → ⊥
+      far (inl (inl x)) = f x
+      far (inl (inr (inl h))) = omega (arith, a .tasks)
+      far (inl (inr (inr h))) = omega (arith, a .edges)
+      far (inr h) = omega (arith, a .light (h .0) (h .1 .0), h .1 .1)
 
       odd : ¬ (length starts ≡ length weights + 1) ⊎ Odd → ⊥
       odd (inl n) = n (a .lengths)

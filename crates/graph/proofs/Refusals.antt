@@ -75,15 +75,12 @@ sizes-told : (l : Limits) (n e : ℕ) → Told (sizesFit l n e) (¬ (Beyond l n 
 unfolding sizesFit
 sizes-told l n e = and-told (leb n (capped l .tasks)) (leb e (capped l .edges)) (le-told n (capped l .tasks)) (le-told e (capped l .edges))
 
-limits-told : (l : Limits) (n e : ℕ) (w : List ℕ) → Told (sizesFit l n e && holds (light? w)) (¬ (Beyond l n e ⊎ Heavy w)) (Beyond l n e ⊎ Heavy w)
-limits-told l n e w = and-told (sizesFit l n e) (holds (light? w)) (sizes-told l n e) (weights-told w)
-
 -- the whole check, with what a call adds to it
 pub check-follows : (limits : Limits) (within others : Bool) {Far Odd : Type 0} → Told within (¬ Far) Far → Told others (¬ Odd) Odd → (weights starts preds : List ℕ)
     → Follows (checkRows limits Far Odd weights starts preds) (answerSays (checkAnswer limits within others weights starts preds))
 unfolding checkAnswer
 check-follows limits within others f o weights starts preds =
-    test-row _ beyondLimit 0 _ _ (not-told _ (and-told within (sizesFit limits (length weights) (length preds) && holds (light? weights)) f (limits-told limits (length weights) (length preds) weights))) (λ _.
+    test-row _ beyondLimit 0 _ _ (not-told _ (and-told (within && sizesFit limits (length weights) (length preds)) (holds (light? weights)) (and-told within (sizesFit limits (length weights) (length preds)) f (sizes-told limits (length weights) (length preds))) (weights-told weights))) (λ _.
     test-row _ wrongLength 0 _ _ (not-told _ (and-told (eqb (length starts) (length weights + 1)) others (eq-told (length starts) (length weights + 1)) o)) (λ _.
     tables-follow (graphOf (length weights) starts preds)))
 

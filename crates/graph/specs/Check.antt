@@ -41,6 +41,6 @@ tablesAnswer g =
 -- numbers are within their limits, `others` that its other lists have their lengths.
 unfoldable pub checkAnswer : Limits → Bool → Bool → List ℕ → List ℕ → List ℕ → Answer
 checkAnswer limits within others weights starts preds =
-    refusedIf (not (within && (sizesFit limits (length weights) (length preds) && holds (light? weights)))) beyondLimit 0
+    refusedIf (not ((within && sizesFit limits (length weights) (length preds)) && holds (light? weights))) beyondLimit 0
     (refusedIf (not (eqb (length starts) (length weights + 1) && others)) wrongLength 0
     (tablesAnswer (graphOf (length weights) starts preds)))

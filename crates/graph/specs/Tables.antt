@@ -36,7 +36,7 @@ tableRows g =
 -- limit, and `Odd`, that another of its lists hasn't its length.
 abbrev pub checkRows : Limits → Type 0 → Type 0 → List ℕ → List ℕ → List ℕ → List Refusal
 checkRows limits Far Odd weights starts preds =
-    row beyondLimit (only 0 (Far ⊎ (Beyond limits (length weights) (length preds) ⊎ Heavy weights)))
+    row beyondLimit (only 0 ((Far ⊎ Beyond limits (length weights) (length preds)) ⊎ Heavy weights))
     ∷ row wrongLength (only 0 (¬ (length starts ≡ length weights + 1) ⊎ Odd))
     ∷ tableRows (graphOf (length weights) starts preds)
 

@@ -5,8 +5,8 @@ use mathlib.Core.Bool.{Bool, true, false, not, _&&_}
 use mathlib.Core.List.{List}
 use native.Mathlib.Omega.{arith}
 use lib.ListN.{length}
-use lib.Dec.{leb}
-use borrow.Author.Tests.{lt-ltb, le-ltb, leb-true, eq-eqb, ne-eqb, not-true, not-false}
+use lib.Dec.{leb, eqb}
+use borrow.Author.Tests.{lt-ltb, le-ltb, leb-true, eqb-true, not-true, not-false}
 use Rattle.lists.specs.Decided.{holds}
 use Rattle.lists.proofs.Decided.{holds-yes, first-least}
 use Rattle.lists.proofs.Told.{and-true}
@@ -28,7 +28,7 @@ module _ (g : Graph) (bad : ℕ) (hb : bad ≡ firstBad g) where
   module _ (b : g .tasks ≤ bad) (ends : Bool) (he : ends ≡ holds (endsFit? g)) where
     pub tables-ends : not ends ≡ true → Refused 3 (g .tasks) ≡ tablesAnswer g
     unfolding tablesAnswer
-    tables-ends e = rw (← hb) (simp (le-ltb _ _ b, sym he ∙ not-true ends e))
+    tables-ends e = rw (← hb, ← he) (simp (le-ltb _ _ b, not-true ends e))
 
     module _ (e : not ends ≡ false) where
       -- what the first three numbers have shown
@@ -44,43 +44,45 @@ module _ (g : Graph) (bad : ℕ) (hb : bad ≡ firstBad g) where
       module _ (twice : ℕ) (ht : twice ≡ firstTwice g) where
         pub tables-twice : twice < g .tasks → Refused 4 twice ≡ tablesAnswer g
         unfolding tablesAnswer
-        tables-twice h = rw (← hb, ← ht) (simp (le-ltb _ _ b, sym he ∙ not-false ends e, lt-ltb _ _ h))
+        tables-twice h = rw (← hb, ← he, ← ht) (simp (le-ltb _ _ b, not-false ends e, lt-ltb _ _ h))
 
         module _ (t : g .tasks ≤ twice) (on : ℕ) (ho : on ≡ firstOnCycle g) where
           pub tables-cycle : on < g .tasks → Refused 5 on ≡ tablesAnswer g
           unfolding tablesAnswer
-          tables-cycle h = rw (← hb, ← ht, ← ho) (simp (le-ltb _ _ b, sym he ∙ not-false ends e, le-ltb _ _ t, lt-ltb _ _ h))
+          tables-cycle h = rw (← hb, ← he, ← ht, ← ho) (simp (le-ltb _ _ b, not-false ends e, le-ltb _ _ t, lt-ltb _ _ h))
 
           pub tables-accepted : g .tasks ≤ on → Accepted ≡ tablesAnswer g
           unfolding tablesAnswer
-          tables-accepted h = rw (← hb, ← ht, ← ho) (simp (le-ltb _ _ b, sym he ∙ not-false ends e, le-ltb _ _ t, le-ltb _ _ h))
+          tables-accepted h = rw (← hb, ← he, ← ht, ← ho) (simp (le-ltb _ _ b, not-false ends e, le-ltb _ _ t, le-ltb _ _ h))
 
-module _ (limits : Limits) (weights starts preds : List ℕ) (fit : Bool) (hf : fit ≡ sizesFit limits (length weights) (length preds)) where
-  pub check-beyond : not fit ≡ true → Refused 2 0 ≡ checkAnswer limits weights starts preds
+module _ (limits : Limits) (within others : Bool) (weights starts preds : List ℕ) (fit : Bool) (hf : fit ≡ sizesFit limits (length weights) (length preds)) where
+  pub check-beyond : not (within && fit) ≡ true → Refused 2 0 ≡ checkAnswer limits within others weights starts preds
   unfolding checkAnswer
-  check-beyond e = simp (sym hf ∙ not-true fit e)
+  check-beyond e = rw (← hf) (simp (not-true (within && fit) e))
 
-  module _ (f : not fit ≡ false) (light : Bool) (hl : light ≡ holds (light? weights)) where
-    pub check-heavy : not light ≡ true → Refused 2 0 ≡ checkAnswer limits weights starts preds
+  module _ (f : not (within && fit) ≡ false) (light : Bool) (hl : light ≡ holds (light? weights)) where
+    pub check-heavy : not light ≡ true → Refused 2 0 ≡ checkAnswer limits within others weights starts preds
     unfolding checkAnswer
-    check-heavy e = simp (sym hf ∙ not-false fit f, sym hl ∙ not-true light e)
+    check-heavy e = rw (← hf, ← hl) (simp (not-false (within && fit) f, not-true light e))
 
     module _ (l : not light ≡ false) where
-      pub check-length : (length starts ≡ length weights + 1 → ⊥) → Refused 1 0 ≡ checkAnswer limits weights starts preds
+      pub check-length : not (eqb (length starts) (length weights + 1) && others) ≡ true → Refused 1 0 ≡ checkAnswer limits within others weights starts preds
       unfolding checkAnswer
-      check-length n = simp (sym hf ∙ not-false fit f, sym hl ∙ not-false light l, ne-eqb _ _ n)
+      check-length n = rw (← hf, ← hl) (simp (not-false (within && fit) f, not-false light l, not-true (eqb (length starts) (length weights + 1) && others) n))
 
-      pub check-rest : length starts ≡ length weights + 1 → (r : Answer) → r ≡ tablesAnswer (graphOf (length weights) starts preds) → r ≡ checkAnswer limits weights starts preds
-      unfolding checkAnswer
-      check-rest n r e = simp (sym hf ∙ not-false fit f, sym hl ∙ not-false light l, eq-eqb _ _ n) e
+      module _ (n : not (eqb (length starts) (length weights + 1) && others) ≡ false) where
+        pub check-rest : (r : Answer) → r ≡ tablesAnswer (graphOf (length weights) starts preds) → r ≡ checkAnswer limits within others weights starts preds
+        unfolding checkAnswer
+        check-rest r e = rw (← hf, ← hl) (simp (not-false (within && fit) f, not-false light l, not-false (eqb (length starts) (length weights + 1) && others) n) e)
 
--- what the limits and the length have shown
-pub sized : (limits : Limits) (n : ℕ) (starts preds : List ℕ) (fit : Bool) → fit ≡ sizesFit limits n (length preds) → not fit ≡ false → length starts ≡ n + 1 → Sized (graphOf n starts preds)
-unfolding sizesFit capped
-sized limits n starts preds fit hf f e =
-    let both = and-true (leb n (min (limits .tasks) 1024)) (leb (length preds) (min (limits .edges) 8192)) (sym hf ∙ not-false fit f) in
-    record {
-      tasks = omega (arith, leb-true n (min (limits .tasks) 1024) (both .0));
-      edges = omega (arith, leb-true (length preds) (min (limits .edges) 8192) (both .1));
-      starts = e;
-    }
+        -- what the limits and the length have shown
+        pub check-sized : Sized (graphOf (length weights) starts preds)
+        unfolding sizesFit capped
+        check-sized =
+            let fits = and-true within fit (not-false (within && fit) f) .1 in
+            let both = and-true (leb (length weights) (min (limits .tasks) 1024)) (leb (length preds) (min (limits .edges) 8192)) (sym hf ∙ fits) in
+            record {
+              tasks = omega (arith, leb-true (length weights) (min (limits .tasks) 1024) (both .0));
+              edges = omega (arith, leb-true (length preds) (min (limits .edges) 8192) (both .1));
+              starts = eqb-true (length starts) (length weights + 1) (and-true (eqb (length starts) (length weights + 1)) others (not-false (eqb (length starts) (length weights + 1) && others) n) .0);
+            }

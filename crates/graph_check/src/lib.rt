@@ -30,18 +30,26 @@ pub fn check_tables(n: usize, starts: &[u32], preds: &[u32]) -> Answer
     Answer::Accepted
 }
 
-// The whole check of weights and predecessor tables.
-pub fn check_graph(limits: Limits, weights: &[u32], starts: &[u32], preds: &[u32]) -> Answer
-    ensures { λ r. ⌜ r ≡ checkAnswer limits (now (weights .entry)) (now (starts .entry)) (now (preds .entry)) ⌝ }
+// The whole check of weights and predecessor tables, for every call on a graph. `within` says that the call's other
+// numbers are within their limits, `others` that its other lists have their lengths.
+pub fn check_graph(
+    limits: Limits,
+    within: bool,
+    others: bool,
+    weights: &[u32],
+    starts: &[u32],
+    preds: &[u32],
+) -> Answer
+    ensures { λ r. ⌜ r ≡ checkAnswer limits within others (now (weights .entry)) (now (starts .entry)) (now (preds .entry)) ⌝ }
 {
     let n = weights.len();
-    if !tables::sizes_fit(limits, n, preds.len()) {
+    if !(within & tables::sizes_fit(limits, n, preds.len())) {
         return Answer::Refused(refusal::BEYOND_LIMIT, 0);
     }
     if !tables::weights_fit(weights) {
         return Answer::Refused(refusal::BEYOND_LIMIT, 0);
     }
-    if starts.len() != n + 1 {
+    if !((starts.len() == n + 1) & others) {
         return Answer::Refused(refusal::WRONG_LENGTH, 0);
     }
     check_tables(n, starts, preds)
