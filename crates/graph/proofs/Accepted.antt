@@ -101,9 +101,6 @@ module _ (g : Graph) where
       u (a .good t (e .task) .below u (e .predecessor))
       (omega (arith, tally-no (leads? g u u) (a .acyclic u), tally-yes (leads? g u t) (edge e)))
 
-pub sound-of : {g : Graph} → Sized g → Acceptable g → Sound g
-sound-of s a = record { sized = s; good = a .good; ends = a .ends }
-
 -- the whole check accepts exactly what fits, whatever a call adds to it
 module _ (limits : Limits) {Far Odd : Type 0} (weights starts preds : List ℕ) where
   clear-fits : Clear (checkRows limits Far Odd weights starts preds) → (¬ Far) × ((¬ Odd) × GraphFits limits weights starts preds)
@@ -141,3 +138,13 @@ pub link-accepted-iff : (limits : Limits) (weights starts preds s w d : List ℕ
 link-accepted-iff limits weights starts preds s w d =
     (λ e. clear-fits limits {Far = ⊥} {Odd = Unfit weights preds s w d} weights starts preds (link-follows limits weights starts preds s w d .accepts .0 (said-accepted (linkAnswer limits weights starts preds s w d) .0 e)) .1,
     λ a. said-accepted (linkAnswer limits weights starts preds s w d) .1 (link-follows limits weights starts preds s w d .accepts .1 (fits-clear limits {Far = ⊥} {Odd = Unfit weights preds s w d} weights starts preds ((λ x. x), a))))
+
+-- what the whole check accepts, the leaves can work on
+pub fits-sound : {limits : Limits} {weights starts preds : List ℕ} → GraphFits limits weights starts preds → Sound (graphOf (length weights) starts preds)
+unfolding capped
+fits-sound a =
+    record {
+      sized = record { tasks = omega (arith, a .tasks); edges = omega (arith, a .edges); starts = a .lengths };
+      good = a .graph .good;
+      ends = a .graph .ends;
+    }

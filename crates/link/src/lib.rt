@@ -3,7 +3,6 @@ ghost use mathlib.Core.Path.{_≡_};
 ghost use Rattle.graph.specs.Successors.{linkedOf, linked};
 use task::Answer;
 use task::Limits;
-use task::refusal;
 
 // Checks a graph and fills its successor table and degrees: 2, 1, 3, 4, 5 in order, or accepted.
 pub fn link_graph(
@@ -18,18 +17,8 @@ pub fn link_graph(
     ensures { λ r. ⌜ linkedOf r (now («succ_starts» .exit)) (now (succs .exit)) (now (degrees .exit)) ≡ linked limits (now (weights .entry)) (now (starts .entry)) (now (preds .entry)) (now («succ_starts» .entry)) (now (succs .entry)) (now (degrees .entry)) ⌝ }
 {
     let n = weights.len();
-    let e = preds.len();
-    if !tables::sizes_fit(limits, n, e) {
-        return Answer::Refused(refusal::BEYOND_LIMIT, 0);
-    }
-    if !tables::weights_fit(weights) {
-        return Answer::Refused(refusal::BEYOND_LIMIT, 0);
-    }
-    if !((starts.len() == n + 1)
-        & ((succ_starts.len() == n + 1) & ((succs.len() == e) & (degrees.len() == n)))) {
-        return Answer::Refused(refusal::WRONG_LENGTH, 0);
-    }
-    let answer = graph_check::check_tables(n, starts, preds);
+    let fit = (succ_starts.len() == n + 1) & ((succs.len() == preds.len()) & (degrees.len() == n));
+    let answer = graph_check::check_graph(limits, true, fit, weights, starts, preds);
     let Answer::Accepted = answer else {
         return answer;
     };

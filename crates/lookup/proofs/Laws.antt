@@ -19,25 +19,36 @@ use Rattle.graph.specs.Graph.{part}
 use Rattle.graph.specs.Conditions.{Good}
 use Rattle.graph.specs.Decide.{good?}
 use Rattle.graph.specs.Check.{sizesFit}
-use Rattle.graph.specs.Lookup.{Lent, startsOn, wordsOn, lengthsFit, taskFits, judgedOf, judgeAnswer, handed, neighboursOf, Looks}
+use Rattle.graph.specs.Lookup.{Lent, startsOn, wordsOn, lengthsFit, taskFits, judgeAnswer, handed, neighboursOf, LookupFits}
 use Rattle.graph.proofs.Lookup.{judge-accepts, lookup-part}
+use Rattle.lookup.specs.Fits.{partFits, sideFits}
+use Rattle.task.specs.Refusals.{answerSays}
 
-pub fits-not : (n t : ℕ) (b : Bool) → n ≤ t → false ≡ (ltb t n && b)
-fits-not n t b h = rw (le-ltb t n h)
+module _ (n : ℕ) (starts words : List ℕ) (t : ℕ) where
+  pub fits-not : n ≤ t → false ≡ partFits n starts words t
+  fits-not h = rw (le-ltb t n h)
 
-pub fits-part : (n t : ℕ) (r b : Bool) → t < n → r ≡ b → r ≡ (ltb t n && b)
-fits-part n t r b h e = rw (lt-ltb t n h) e
+  pub fits-part : (r : Bool) → t < n → r ≡ holds (good? n starts words t) → r ≡ partFits n starts words t
+  fits-part r h e = rw (lt-ltb t n h) e
+
+pub side-preds : (n : ℕ) (ps p ss s : List ℕ) (d : Side) (t : ℕ) (r : Bool) → d ≡ Predecessors → r ≡ partFits n ps p t → r ≡ sideFits n ps p ss s d t
+side-preds n ps p ss s d t r e h = rw e h
+
+pub side-succs : (n : ℕ) (ps p ss s : List ℕ) (d : Side) (t : ℕ) (r : Bool) → d ≡ Successors → r ≡ partFits n ss s t → r ≡ sideFits n ps p ss s d t
+side-succs n ps p ss s d t r e h = rw e h
+
+side-is : (d : Side) (l : Lent) (t : ℕ) → sideFits (length (l .weights)) (l .predStarts) (l .preds) (l .succStarts) (l .succs) d t ≡ taskFits d l t
+unfolding taskFits
+side-is Predecessors l t = refl
+side-is Successors l t = refl
 
 -- the three lengths, compared at once
-module _ (n e ps ss s : ℕ) (h : not (eqb ps (n + 1) && (eqb ss (n + 1) && eqb s e)) ≡ false) where
-  all : (eqb ps (n + 1) && (eqb ss (n + 1) && eqb s e)) ≡ true
-  all = not-false _ h
-
-  pub pred-starts-fit : ps ≡ n + 1
-  pred-starts-fit = eqb-true ps (n + 1) (and-true (eqb ps (n + 1)) _ all .0)
-
-  pub succ-starts-fit : ss ≡ n + 1
-  succ-starts-fit = eqb-true ss (n + 1) (and-true (eqb ss (n + 1)) _ (and-true (eqb ps (n + 1)) _ all .1) .0)
+pub starts-fit : (l : Lent) → not (lengthsFit l) ≡ false → (length (l .predStarts) ≡ length (l .weights) + 1) × (length (l .succStarts) ≡ length (l .weights) + 1)
+unfolding lengthsFit
+starts-fit l h =
+    let a = and-true (eqb (length (l .predStarts)) (length (l .weights) + 1)) (eqb (length (l .succStarts)) (length (l .weights) + 1) && eqb (length (l .succs)) (length (l .preds))) (not-false _ h) in
+    let b = and-true (eqb (length (l .succStarts)) (length (l .weights) + 1)) (eqb (length (l .succs)) (length (l .preds))) (a .1) in
+    (eqb-true (length (l .predStarts)) (length (l .weights) + 1) (a .0), eqb-true (length (l .succStarts)) (length (l .weights) + 1) (b .0))
 
 module _ (side : Side) (l : Lent) (t : ℕ) (limits : Limits) (is : limits ≡ engine) (ok : Bool) (h : ok ≡ sizesFit limits (length (l .weights)) (length (l .preds))) where
   fit : sizesFit engine (length (l .weights)) (length (l .preds)) ≡ ok
@@ -45,16 +56,24 @@ module _ (side : Side) (l : Lent) (t : ℕ) (limits : Limits) (is : limits ≡ e
 
   pub judge-beyond : not ok ≡ true → Refused 2 0 ≡ judgeAnswer side l t
   unfolding judgeAnswer
-  judge-beyond e = simp (fit ∙ not-true ok e)
+  judge-beyond e = simp (fit, not-true ok e)
 
   module _ (e : not ok ≡ false) where
     pub judge-lengths : not (lengthsFit l) ≡ true → Refused 1 0 ≡ judgeAnswer side l t
     unfolding judgeAnswer
-    judge-lengths g = simp (fit ∙ not-false ok e, not-true (lengthsFit l) g)
+    judge-lengths g = simp (fit, not-false ok e, not-true (lengthsFit l) g)
 
-    pub judge-task : not (lengthsFit l) ≡ false → (d : Side) → side ≡ d → (f : Bool) → f ≡ taskFits d l t → (r : Answer) → r ≡ judgedOf f t → r ≡ judgeAnswer side l t
-    unfolding judgeAnswer
-    judge-task g d w f p r q = simp (fit ∙ not-false ok e, not-false (lengthsFit l) g) (rw (q, p, w))
+    module _ (g : not (lengthsFit l) ≡ false) (f : Bool) (p : f ≡ sideFits (length (l .weights)) (l .predStarts) (l .preds) (l .succStarts) (l .succs) side t) where
+      task : taskFits side l t ≡ f
+      task = sym (p ∙ side-is side l t)
+
+      pub judge-task : not f ≡ true → Refused 3 t ≡ judgeAnswer side l t
+      unfolding judgeAnswer
+      judge-task q = simp (fit, not-false ok e, not-false (lengthsFit l) g, task, not-true f q)
+
+      pub judge-accepted : not f ≡ false → Accepted ≡ judgeAnswer side l t
+      unfolding judgeAnswer
+      judge-accepted q = simp (fit, not-false ok e, not-false (lengthsFit l) g, task, not-false f q)
 
 -- where the judging call accepts
 module _ (side : Side) (l : Lent) (t : ℕ) (r : Answer) (h : r ≡ judgeAnswer side l t) where
@@ -63,16 +82,16 @@ module _ (side : Side) (l : Lent) (t : ℕ) (r : Answer) (h : r ≡ judgeAnswer 
   handed-nothing n d e = rw (sym h ∙ e)
 
   module _ (e : r ≡ Accepted) where
-    looks : Looks side l t
-    looks = judge-accepts side l t .0 (sym h ∙ e)
+    fits : LookupFits side l t
+    fits = judge-accepts side l t .0 (ap answerSays (sym h ∙ e))
 
     -- the task's range on a side
     pub range-on : (d : Side) → side ≡ d → (t + 1 < length (startsOn d l)) × ((getD (startsOn d l) t 0 ≤ getD (startsOn d l) (t + 1) 0) × (getD (startsOn d l) (t + 1) 0 ≤ length (wordsOn d l)))
-    range-on d w = rw w at (in-range side looks)
+    range-on d w = rw w at (in-range side fits)
       where
-        in-range : (x : Side) → Looks x l t → (t + 1 < length (startsOn x l)) × ((getD (startsOn x l) t 0 ≤ getD (startsOn x l) (t + 1) 0) × (getD (startsOn x l) (t + 1) 0 ≤ length (wordsOn x l)))
+        in-range : (x : Side) → LookupFits x l t → (t + 1 < length (startsOn x l)) × ((getD (startsOn x l) t 0 ≤ getD (startsOn x l) (t + 1) 0) × (getD (startsOn x l) (t + 1) 0 ≤ length (wordsOn x l)))
         in-range Predecessors a = (omega (arith, a .task, a .predStarts), (a .good .rises, a .good .inside))
         in-range Successors a = (omega (arith, a .task, a .succStarts), (a .good .rises, a .good .inside))
 
     pub handed-part : (d : Side) → side ≡ d → (p : List ℕ) → p ≡ part (startsOn d l) (wordsOn d l) t → p ≡ neighboursOf side l t
-    handed-part d w p q = q ∙ ap (λ (x : Side). part (startsOn x l) (wordsOn x l) t) (sym w) ∙ sym (lookup-part side l t looks)
+    handed-part d w p q = q ∙ ap (λ (x : Side). part (startsOn x l) (wordsOn x l) t) (sym w) ∙ sym (lookup-part side l t fits)

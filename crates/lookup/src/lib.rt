@@ -1,13 +1,10 @@
 // The neighbours of a task, handed back as a part of the table itself, and the judging call on the same arguments.
 ghost use mathlib.Core.Path.{_≡_};
-ghost use mathlib.Core.Bool.{_&&_};
 ghost use Prim.Native.Nat.{ℕ, _+_, _≤_, _<_};
 ghost use lib.ListN.{length, getD};
-ghost use lib.Dec.{ltb};
-ghost use Rattle.lists.specs.Decided.{holds};
 ghost use Rattle.graph.specs.Graph.{part};
-ghost use Rattle.graph.specs.Decide.{good?};
-ghost use Rattle.graph.specs.Lookup.{lentOf, judgedOf, judgeAnswer, neighboursOf};
+ghost use Rattle.graph.specs.Lookup.{lentOf, judgeAnswer, neighboursOf};
+ghost use Rattle.lookup.specs.Fits.{partFits, sideFits};
 use task::Answer;
 use task::Limits;
 use task::Side;
@@ -17,12 +14,31 @@ use task::refusal;
 // Whether t is one of the n tasks and its part of the table is good.
 fn task_fits(n: usize, starts: &[u32], words: &[u32], t: usize) -> bool
     requires { ⌜ length (now starts) ≡ n + 1 ⌝ }
-    ensures { λ r. ⌜ r ≡ (ltb t n && holds (good? n (now (starts .entry)) (now (words .entry)) t)) ⌝ }
+    ensures { λ r. ⌜ r ≡ partFits n (now (starts .entry)) (now (words .entry)) t ⌝ }
 {
     if n <= t {
         return false;
     }
     tables::part_good(n, starts, words, t)
+}
+
+// The same on the side named.
+fn side_fits(
+    n: usize,
+    pred_starts: &[u32],
+    preds: &[u32],
+    succ_starts: &[u32],
+    succs: &[u32],
+    side: Side,
+    t: usize,
+) -> bool
+    requires { ⌜ (length (now «pred_starts») ≡ n + 1) × (length (now «succ_starts») ≡ n + 1) ⌝ }
+    ensures { λ r. ⌜ r ≡ sideFits n (now («pred_starts» .entry)) (now (preds .entry)) (now («succ_starts» .entry)) (now (succs .entry)) side t ⌝ }
+{
+    match side {
+        Side::Predecessors => task_fits(n, pred_starts, preds, t),
+        Side::Successors => task_fits(n, succ_starts, succs, t),
+    }
 }
 
 // The judging call: 2, 1, 3 in order, or accepted.
@@ -46,24 +62,14 @@ pub fn judge(
         return Answer::Refused(refusal::WRONG_LENGTH, 0);
     }
     let t = task.0;
-    match side {
-        Side::Predecessors => judged(task_fits(n, pred_starts, preds, t as usize), t),
-        Side::Successors => judged(task_fits(n, succ_starts, succs, t as usize), t),
+    if !side_fits(n, pred_starts, preds, succ_starts, succs, side, t as usize) {
+        return Answer::Refused(refusal::BAD_TABLE, t);
     }
-}
-
-fn judged(fits: bool, t: u32) -> Answer
-    ensures { λ r. ⌜ r ≡ judgedOf fits t ⌝ }
-{
-    if fits {
-        Answer::Accepted
-    } else {
-        Answer::Refused(refusal::BAD_TABLE, t)
-    }
+    Answer::Accepted
 }
 
 // Task t's part of a table in which its range is good.
-fn part_at<'a>(starts: &'a [u32], words: &'a [u32], t: usize) -> &'a [u32]
+fn part_at<'a>(starts: &[u32], words: &'a [u32], t: usize) -> &'a [u32]
     requires { ⌜ (t + 1 < length (now starts)) × ((getD (now starts) t 0 ≤ getD (now starts) (t + 1) 0) × (getD (now starts) (t + 1) 0 ≤ length (now words))) ⌝ }
     ensures { λ r. ⌜ now r ≡ part (now (starts .entry)) (now (words .entry)) t ⌝ }
 {
@@ -72,12 +78,13 @@ fn part_at<'a>(starts: &'a [u32], words: &'a [u32], t: usize) -> &'a [u32]
     &words[a..e]
 }
 
-// The neighbours on the side named; a refused lookup hands back an empty part.
+// The neighbours on the side named; a refused lookup hands back an empty part. Only the two tables can be handed back: no
+// other list has the result's lifetime.
 pub fn neighbours<'a>(
-    weights: &'a [u32],
-    pred_starts: &'a [u32],
+    weights: &[u32],
+    pred_starts: &[u32],
     preds: &'a [u32],
-    succ_starts: &'a [u32],
+    succ_starts: &[u32],
     succs: &'a [u32],
     side: Side,
     task: TaskId,
