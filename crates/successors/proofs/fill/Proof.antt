@@ -1,6 +1,6 @@
 -- Counts to sums, sums to blocks that are full at the end, gaps to degrees.
 use Rattle.successors.proofs.Edges.{preds-below, sums-fit, summed-begun, sound-rising, summed-starts, gaps-degrees}
-use Rattle.tables.proofs.Laws.{zeros}
+use Rattle.lists.proofs.Prefixes.{zeros}
 use native.Mathlib.Omega.{arith}
 use borrow.Author.Needs.{needs}
 use Rattle.successors.proofs.fill.Statement.{statement}
