@@ -1,5 +1,5 @@
 -- PROMISES: a graph is accepted by rows 3 to 5 exactly if it is acceptable; and it then has a rank that rises along every edge.
-use Prim.Native.Nat.{ℕ, _+_, _≤_, _<_}
+use Prim.Native.Nat.{ℕ, _≤_, _<_}
 use mathlib.Core.Path.{_≡_, refl}
 use mathlib.Core.Logic.{_⊎_, inl, inr, _↔_}
 use native.Mathlib.Omega.{arith}
@@ -8,14 +8,14 @@ use lib.ListN.{getD}
 use Rattle.lists.specs.Decided.{tally, firstBelow, Smallest}
 use Rattle.lists.specs.Lists.{occ}
 use Rattle.lists.specs.Sums.{sumTo}
-use Rattle.lists.proofs.Decided.{first-smallest, first-least, tally-le, tally-no, tally-yes}
+use Rattle.lists.proofs.Decided.{stable, first-smallest, first-least, tally-le, tally-no, tally-yes}
 use Rattle.lists.proofs.Sums.{sum-lt}
 use Rattle.task.specs.Refusals.{answerSays}
 use Rattle.task.specs.Rows.{Acceptance, Clear}
 use Rattle.task.specs.declared.Answer.{Answer}
 use Rattle.task.specs.declared.Answer.the-variants.{Refused, Accepted}
-use Rattle.graph.specs.Graph.{Graph, edgeCount, predsOf, Edge, Leads, edge, via}
-use Rattle.graph.specs.Conditions.{Good, Bad, EndsFit, Twice, OnCycle, Acceptable, Sized, Sound}
+use Rattle.graph.specs.Graph.{Graph, edgeCount, predsOf, Edge, edge}
+use Rattle.graph.specs.Conditions.{Twice, Acceptable, Sized, Sound}
 use Rattle.graph.specs.Decide.{bad?, good?, twice?, onCycle?, leads?, leads-append}
 use Rattle.graph.specs.Check.{tablesAnswer}
 use Rattle.graph.specs.Tables.{tableRows}
@@ -28,10 +28,6 @@ none-smallest n {P} d f t h = go (decLt (firstBelow n d) n)
     go : Dec (firstBelow n d < n) → ¬ (P t)
     go (yes l) = absurd (f (firstBelow n d) (first-smallest n d l))
     go (no m) = first-least n d t (omega arith)
-
-pub stable : {A : Type 0} → Dec A → ¬ (¬ A) → A
-stable (yes a) f = a
-stable (no n) f = absurd (f n)
 
 pub said-accepted : (a : Answer) → Acceptance (answerSays a) → a ≡ Accepted
 said-accepted Accepted h = refl

@@ -1,9 +1,9 @@
 -- PROMISE: the judging call answers 0 and 0 exactly if the lookup is accepted, an accepted lookup hands back the task's part of
 -- the table, and a refused one an empty part.
-use Prim.Native.Nat.{ℕ, _+_, _≤_, _<_}
-use mathlib.Core.Path.{_≡_, refl, sym, ap, _∙_}
+use Prim.Native.Nat.{ℕ, _+_, _≤_}
+use mathlib.Core.Path.{_≡_, refl, ap}
 use mathlib.Core.Logic.{_⊎_, inl, inr, _↔_}
-use mathlib.Core.List.{List, []}
+use mathlib.Core.List.{[]}
 use native.Mathlib.Omega.{arith}
 use native.Mathlib.Decide.{ℕ-discrete, decLe, decLt}
 use lib.ListN.{length}
@@ -19,7 +19,8 @@ use Rattle.graph.specs.Decide.{good?}
 use Rattle.graph.specs.Lookup.{Lent, startsOn, wordsOn, Looks, judgeAnswer, handed, neighboursOf}
 use Rattle.graph.specs.Tables.{lookupRows, Beyond}
 use Rattle.graph.proofs.Refusals.{judge-follows}
-use Rattle.graph.proofs.Accepted.{stable, said-accepted}
+use Rattle.lists.proofs.Decided.{stable}
+use Rattle.graph.proofs.Accepted.{said-accepted}
 
 module _ (side : Side) (l : Lent) (t : ℕ) where
   clear-looks : Clear (lookupRows side l t) → Looks side l t

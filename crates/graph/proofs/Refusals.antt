@@ -1,26 +1,24 @@
 -- PROMISE: the calls on a graph are refused under the table's conditions and no others.
 use Prim.Native.Nat.{ℕ, _+_, _≤_, _<_}
-use mathlib.Core.Path.{_≡_, refl, sym, ap, _∙_}
-use mathlib.Core.Bool.{Bool, true, false, cond, _&&_}
-use mathlib.Core.Logic.{_⊎_, inl, inr, _↔_}
-use mathlib.Core.List.{List, [], _∷_}
+use mathlib.Core.Path.{_≡_}
+use mathlib.Core.Bool.{_&&_}
+use mathlib.Core.Logic.{_⊎_, inl, inr}
+use mathlib.Core.List.{List, []}
 use native.Mathlib.Omega.{arith}
 use native.Mathlib.Decide.{ℕ-discrete, decLe, decLt}
 use lib.ListN.{length, getD}
 use lib.Dec.{ltb, leb, eqb}
 use Rattle.lists.specs.Decided.{holds, firstBelow}
-use Rattle.lists.proofs.Decided.{holds-yes, holds-no, first-smallest, first-least}
+use Rattle.lists.proofs.Decided.{stable, holds-yes, holds-no, first-smallest, first-least}
 use Rattle.lists.proofs.Told.{Told, told, le-told, lt-told, eq-told, dec-told, and-told}
 use Rattle.task.specs.Types.{capped, engine}
-use Rattle.task.specs.Refusals.{Said, refused, accepted, answerSays, wrongLength, beyondLimit, badTable, duplicate, cycle}
+use Rattle.task.specs.Refusals.{answerSays, wrongLength, beyondLimit, badTable, duplicate, cycle}
 use Rattle.task.specs.Rows.{Follows}
 use Rattle.task.proofs.Rows.{follows-accepted, test-row, smallest-row}
 use Rattle.task.specs.declared.Limits.{Limits}
-use Rattle.task.specs.declared.Answer.{Answer}
-use Rattle.task.specs.declared.Answer.the-variants.{Refused, Accepted}
 use Rattle.task.specs.declared.Side.{Side}
 use Rattle.graph.specs.Graph.{Graph, graphOf, edgeCount, Edge, Leads, edge, via}
-use Rattle.graph.specs.Conditions.{Light, Good, Bad, EndsFit, Twice, OnCycle}
+use Rattle.graph.specs.Conditions.{Bad, EndsFit, Twice, OnCycle}
 use Rattle.graph.specs.Decide.{light?, good?, bad?, endsFit?, twice?, onCycle?, not?}
 use Rattle.graph.specs.Check.{sizesFit, firstBad, firstTwice, firstOnCycle, tablesAnswer, checkAnswer}
 use Rattle.graph.specs.Successors.{linkAnswer}
@@ -57,13 +55,9 @@ tables-follow g =
 find-other : (n : ℕ) {P : ℕ → Type 0} → ((t : ℕ) → Dec (P t)) → ¬ ((t : ℕ) → t < n → P t) → (t : ℕ) × ((t < n) × ¬ (P t))
 find-other n {P} d f = go (decLt (firstBelow n (λ t. not? (d t))) n)
   where
-    has : (t : ℕ) → Dec (P t) → ¬ (¬ (P t)) → P t
-    has t (yes p) q = p
-    has t (no m) q = absurd (q m)
-
     go : Dec (firstBelow n (λ t. not? (d t)) < n) → (t : ℕ) × ((t < n) × ¬ (P t))
     go (yes h) = (firstBelow n (λ t. not? (d t)), (h, first-smallest n (λ t. not? (d t)) h .such .1))
-    go (no m) = absurd (f (λ t l. has t (d t) (first-least n (λ k. not? (d k)) t (omega arith))))
+    go (no m) = absurd (f (λ t l. stable (d t) (first-least n (λ k. not? (d k)) t (omega arith))))
 
 weights-told : (w : List ℕ) → Told (holds (light? w)) (¬ (Heavy w)) (Heavy w)
 weights-told w = told (holds (light? w)) (λ e h. omega (arith, holds-yes (light? w) e (h .0) (h .1 .0), h .1 .1)) (λ e. heavy (find-other (length w) (λ t. decLe (getD w t 0) 65535) (holds-no (light? w) e)))

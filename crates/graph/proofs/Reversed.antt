@@ -1,18 +1,18 @@
 -- PROMISES: the successor table is the predecessor table read the other way round, each task's successors rising.
 use Prim.Native.Nat.{ℕ, zero, suc, _+_, _-_, _≤_, _<_}
 use mathlib.Core.Path.{_≡_, refl, sym, ap, _∙_}
-use mathlib.Core.List.{List, [], _∷_, _++_}
 use native.Mathlib.Omega.{arith}
 use native.Mathlib.Numerals.{add-one}
 use native.Mathlib.Decide.{ℕ-discrete, decLt}
 use lib.ListN.{length, getD, take, drop, replicate, length-replicate, getD-replicate}
-use Rattle.lists.specs.Lists.{occ, joined, tabulate, Rising}
+use Rattle.lists.specs.Lists.{occ, joined, Rising}
 use Rattle.lists.specs.Sums.{sumTo}
+use Rattle.lists.proofs.Decided.{stable}
 use Rattle.lists.proofs.Occurrences.{occ-joined, occ-replicate, occ-replicate-other, at-occ}
 use Rattle.lists.proofs.Sums.{sum-same, sum-zero, sum-only, sum-suc, length-joined, length-occ}
 use Rattle.lists.proofs.Blocks.{length-tabulate, getD-tabulate, block-at, rising-append}
-use Rattle.graph.specs.Graph.{Among, part, Graph, edgeCount, predsOf, Edge}
-use Rattle.graph.specs.Conditions.{Acceptable, Sound, Sized}
+use Rattle.graph.specs.Graph.{Among, part, Graph, edgeCount, predsOf}
+use Rattle.graph.specs.Conditions.{Acceptable, Sound}
 use Rattle.graph.specs.Successors.{succsBelow, succsOf, succStart, succStarts, succWords, degreeList}
 use Rattle.graph.proofs.Parts.{occ-preds, preds-below}
 
@@ -37,11 +37,7 @@ module _ (g : Graph) where
 
   -- a successor is a task
   pub succs-below : (u t : ℕ) → Among t (succsOf g u) → t < g .tasks
-  succs-below u t h = go (decLt t (g .tasks))
-    where
-      go : Dec (t < g .tasks) → t < g .tasks
-      go (yes l) = l
-      go (no m) = absurd (omega (arith, occ-above (g .tasks) u t (omega arith)))
+  succs-below u t h = stable (decLt t (g .tasks)) (λ m. omega (arith, occ-above (g .tasks) u t (omega arith)))
 
   pub length-succsBelow : (n u : ℕ) → length (succsBelow g n u) ≡ sumTo n (λ t. occ u (predsOf g t))
   unfolding succsBelow
@@ -95,11 +91,9 @@ module _ (g : Graph) where
         (λ i j l m. omega (arith, low i l, getD-replicate (occ u (predsOf g n)) j n 0 (omega (arith, length-replicate (occ u (predsOf g n)) n))))
       where
         low : (i : ℕ) → i < length (succsBelow g n u) → getD (succsBelow g n u) i 0 < n
-        low i l = go (decLt (getD (succsBelow g n u) i 0) n)
-          where
-            go : Dec (getD (succsBelow g n u) i 0 < n) → getD (succsBelow g n u) i 0 < n
-            go (yes q) = q
-            go (no m) = absurd (omega (arith, at-occ ℕ-discrete 0 (succsBelow g n u) i l, occ-above n u (getD (succsBelow g n u) i 0) (omega arith)))
+        low i l =
+            stable (decLt (getD (succsBelow g n u) i 0) n)
+            (λ m. omega (arith, at-occ ℕ-discrete 0 (succsBelow g n u) i l, occ-above n u (getD (succsBelow g n u) i 0) (omega arith)))
 
     pub succs-rise : (u : ℕ) → Rising (succsOf g u)
     succs-rise u = rises-below (g .tasks) u (omega arith)

@@ -1,13 +1,17 @@
 -- Laws of decided questions and of the first number that has a property.
-use Prim.Native.Nat.{ℕ, zero, suc, _+_, _≤_, _<_}
-use mathlib.Core.Path.{_≡_, refl, sym, ap, _∙_}
-use mathlib.Core.Bool.{Bool, true, false}
+use Prim.Native.Nat.{ℕ, zero, suc, _≤_, _<_}
+use mathlib.Core.Path.{_≡_, refl}
+use mathlib.Core.Bool.{true, false}
 use native.Mathlib.Omega.{arith}
 use native.Mathlib.Nat.{le-antisymm}
-use native.Mathlib.Decide.{ℕ-discrete, decLt}
+use native.Mathlib.Decide.{decLt}
 use Rattle.lists.specs.Decided.{holds, tally, Smallest, stop, firstBelow}
 
 module _ {A : Type 0} where
+  pub stable : Dec A → ¬ (¬ A) → A
+  stable (yes a) f = a
+  stable (no n) f = absurd (f n)
+
   pub yes-holds : (d : Dec A) → A → holds d ≡ true
   yes-holds (yes a) b = refl
   yes-holds (no n) b = absurd (n b)
@@ -103,6 +107,3 @@ module _ (n : ℕ) {P : ℕ → Type 0} (d : (t : ℕ) → Dec (P t)) where
 
   pub first-smallest : firstBelow n d < n → Smallest (λ t. (t < n) × P t) (firstBelow n d)
   first-smallest h = record { such = (h, first-such n d h); least = λ k l p. first-least n d k l (p .1) }
-
-  pub smallest-first : (t : ℕ) → Smallest (λ k. (k < n) × P k) t → t ≡ firstBelow n d
-  smallest-first t s = first-is t (s .such .0) (s .such .1) (λ k h p. s .least k h (omega (arith, s .such .0), p))

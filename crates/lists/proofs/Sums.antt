@@ -6,6 +6,7 @@ use native.Mathlib.Omega.{arith}
 use native.Mathlib.Decide.{ℕ-discrete, decLt}
 use native.Mathlib.Nat.{zero-mul, one-mul, suc-mul, mul-le-mul-right}
 use lib.ListN.{length, length-append}
+use Rattle.lists.proofs.Decided.{stable}
 use Rattle.lists.proofs.Occurrences.{occ-nil, occ-cons, occ-hit, occ-miss}
 use Rattle.lists.specs.Lists.{occ, joined}
 use Rattle.lists.specs.Sums.{sumTo, sumOf}
@@ -85,17 +86,6 @@ sum-find (suc n) f h = go (ℕ-discrete (f n) 0) (sum-find n f)
     go : Dec (f n ≡ 0) → (0 < sumTo n f → (k : ℕ) × (k < n) × (0 < f k)) → (k : ℕ) × (k < suc n) × (0 < f k)
     go (yes e) r = let w : (k : ℕ) × (k < n) × (0 < f k) = r (omega arith) in (w .0, omega arith, w .2)
     go (no m) r = (n, omega arith, omega arith)
-
-pub sum-add : (n : ℕ) (f g : ℕ → ℕ) → sumTo n (λ k. f k + g k) ≡ sumTo n f + sumTo n g
-unfolding sumTo
-sum-add zero f g = refl
-sum-add (suc n) f g = omega (arith, sum-add n f g)
-
--- a sum over two numbers, in either order
-pub sum-swap : (n m : ℕ) (a : ℕ → ℕ → ℕ) → sumTo n (λ u. sumTo m (λ t. a u t)) ≡ sumTo m (λ t. sumTo n (λ u. a u t))
-unfolding sumTo
-sum-swap zero m a = sym (sum-zero m (λ t. 0) (λ k lk. refl))
-sum-swap (suc n) m a = omega (arith, sum-swap n m a, sum-add m (λ t. sumTo n (λ u. a u t)) (λ t. a n t))
 
 pub length-joined : {A : Type 0} (n : ℕ) (f : ℕ → List A) → length (joined n f) ≡ sumTo n (λ k. length (f k))
 unfolding joined sumTo
@@ -177,8 +167,9 @@ module _ (f : ℕ → ℕ) (n : ℕ) (l : List ℕ) (below : (u : ℕ) → 0 < o
   sumOf-missing h = go (sum-find-lt n (λ u. occ u l * f u) f (omega (arith, sumOf-places f n l below)))
     where
       go : (t : ℕ) × (t < n) × (occ t l * f t < f t) → (t : ℕ) × (t < n) × (0 < f t) × (occ t l ≡ 0)
-      go w = (w .0, w .1, omega (arith, w .2), at (ℕ-discrete (occ (w .0) l) 0))
-        where
-          at : Dec (occ (w .0) l ≡ 0) → occ (w .0) l ≡ 0
-          at (yes e) = e
-          at (no m) = absurd (omega (arith, w .2, one-mul (f (w .0)), mul-le-mul-right {m = 1} {n = occ (w .0) l} (f (w .0)) (omega arith)))
+      go w = (
+        w .0,
+        w .1,
+        omega (arith, w .2),
+        stable (ℕ-discrete (occ (w .0) l) 0) (λ m. omega (arith, w .2, one-mul (f (w .0)), mul-le-mul-right {m = 1} {n = occ (w .0) l} (f (w .0)) (omega arith))),
+      )

@@ -1,13 +1,12 @@
 -- The cases of the judging call and of the lookup, over plain lists.
 use Prim.Native.Nat.{ℕ, _+_, _-_, _≤_, _<_}
-use mathlib.Core.Path.{_≡_, refl, sym, ap, _∙_}
-use mathlib.Core.Bool.{Bool, true, false, not, cond, _&&_}
+use mathlib.Core.Path.{_≡_, sym, ap, _∙_}
+use mathlib.Core.Bool.{Bool, true, false, not, _&&_}
 use mathlib.Core.List.{List, []}
 use native.Mathlib.Omega.{arith}
-use lib.ListN.{length, getD, take, drop}
+use lib.ListN.{length, getD}
 use lib.Dec.{ltb, eqb}
 use borrow.Author.Tests.{lt-ltb, le-ltb, eqb-true, not-true, not-false}
-use Rattle.lists.specs.Decided.{holds}
 use Rattle.lists.proofs.Told.{and-true}
 use Rattle.task.specs.Types.{engine}
 use Rattle.task.specs.declared.Limits.{Limits}
@@ -16,10 +15,8 @@ use Rattle.task.specs.declared.Answer.the-variants.{Refused, Accepted}
 use Rattle.task.specs.declared.Side.{Side}
 use Rattle.task.specs.declared.Side.the-variants.{Predecessors, Successors}
 use Rattle.graph.specs.Graph.{part}
-use Rattle.graph.specs.Conditions.{Good}
-use Rattle.graph.specs.Decide.{good?}
 use Rattle.graph.specs.Check.{sizesFit}
-use Rattle.graph.specs.Lookup.{Lent, startsOn, wordsOn, lengthsFit, taskFits, judgedOf, judgeAnswer, handed, neighboursOf, Looks}
+use Rattle.graph.specs.Lookup.{Lent, startsOn, wordsOn, lengthsFit, taskFits, judgedOf, judgeAnswer, neighboursOf, Looks}
 use Rattle.graph.proofs.Lookup.{judge-accepts, lookup-part}
 
 pub fits-not : (n t : ℕ) (b : Bool) → n ≤ t → false ≡ (ltb t n && b)

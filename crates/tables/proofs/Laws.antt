@@ -1,18 +1,17 @@
 -- Laws over plain lists and numbers that the leaves' proofs cite.
-use Prim.Native.Nat.{ℕ, zero, suc, _+_, _-_, _≤_, _<_}
+use Prim.Native.Nat.{ℕ, _+_, _-_, _≤_, _<_}
 use mathlib.Core.Path.{_≡_, refl, sym, _∙_}
-use mathlib.Core.List.{List, [], _∷_, _++_}
+use mathlib.Core.List.{List}
 use native.Mathlib.Omega.{arith}
-use native.Mathlib.Numerals.{add-one}
 use native.Mathlib.Decide.{ℕ-discrete, decLt}
 use mathlib.Core.Bool.{Bool, true, false, not, _&&_}
 use borrow.Author.Tests.{eq-eqb, ne-eqb, not-true, not-false}
 use lib.Dec.{leb, eqb}
-use lib.ListN.{length, getD, set, take, drop, replicate}
-use lib.Seq.{take-suc, take-all, length-take-le, getD-set-same, getD-set-other}
+use lib.ListN.{length, getD, set, take, drop}
+use lib.Seq.{take-all, length-take-le, getD-set-same, getD-set-other}
 use Rattle.lists.specs.Lists.{occ}
 use Rattle.lists.specs.Decided.{holds}
-use Rattle.lists.proofs.Decided.{yes-holds, no-holds, holds-yes, holds-no, first-is, first-none}
+use Rattle.lists.proofs.Decided.{stable, yes-holds, no-holds, holds-yes, holds-no, first-is, first-none}
 use Rattle.task.specs.Types.{capped}
 use Rattle.task.specs.declared.Limits.{Limits}
 use Rattle.graph.specs.Graph.{Among, part, graphOf}
@@ -151,11 +150,7 @@ module _ {words marks : List ℕ} {stamp i : ℕ} (k : Met words marks stamp i) 
       record { once = λ u. first u (ℕ-discrete u (getD words i 0)); low = λ u. second u (ℕ-discrete u (getD words i 0)); stamped = λ u. third u (ℕ-discrete u (getD words i 0)) }
     where
       fresh : occ (getD words i 0) (take i words) ≡ 0
-      fresh = at (ℕ-discrete (occ (getD words i 0) (take i words)) 0)
-        where
-          at : Dec (occ (getD words i 0) (take i words) ≡ 0) → occ (getD words i 0) (take i words) ≡ 0
-          at (yes e) = e
-          at (no q) = absurd (n (k .stamped (getD words i 0) (omega arith)))
+      fresh = stable (ℕ-discrete (occ (getD words i 0) (take i words)) 0) (λ q. n (k .stamped (getD words i 0) (omega arith)))
 
       first : (u : ℕ) → Dec (u ≡ getD words i 0) → occ u (take (i + 1) words) ≤ 1
       first u (yes e) = rw e (omega (arith, fresh, occ-more-hit words i h (getD words i 0) refl))
