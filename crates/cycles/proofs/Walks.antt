@@ -8,13 +8,12 @@ use native.Mathlib.Omega.{arith}
 use native.Mathlib.Decide.{ℕ-discrete, decLt}
 use lib.Dec.{eqb}
 use lib.ListN.{length, take, getD, replicate, length-replicate}
-use lib.Seq.{length-take-le, getD-take}
 use borrow.Author.Tests.{eq-eqb, ne-eqb}
 use Rattle.lists.specs.Lists.{occ}
 use Rattle.lists.specs.Decided.{holds, tally}
 use Rattle.lists.proofs.Decided.{yes-holds, no-holds, tally-pos}
-use Rattle.lists.proofs.Prefixes.{zeros, occ-more, take-same}
-use Rattle.lists.proofs.Occurrences.{occ-nil, at-occ}
+use Rattle.lists.proofs.Prefixes.{zeros, occ-more, occ-early, take-same}
+use Rattle.lists.proofs.Occurrences.{occ-nil}
 use Rattle.graph.specs.Graph.{Among, Graph, predsOf, Edge, Leads, edge, via}
 use Rattle.graph.specs.Conditions.{Good, Sound, OnCycle}
 use Rattle.graph.specs.Decide.{onCycle?}
@@ -62,13 +61,8 @@ module _ {g : Graph} (s : Sound g) where
     module _ (l : head < tail) where
       -- the next of the queue leads to t, and so is a task
       pub next-leads : Leads (Edge g) (getD queue head 0) t
-      next-leads = w .leads (getD queue head 0) (omega (arith, w .marked .once (getD queue head 0), inside))
-        where
-          size : length (take tail queue) ≡ tail
-          size = length-take-le tail queue (omega (arith, w .marked .tail-fits, w .marked .queue-size))
-
-          inside : 0 < occ (getD queue head 0) (take tail queue)
-          inside = rw (getD-take tail queue head 0 l) at (at-occ ℕ-discrete 0 (take tail queue) head (omega (arith, size)))
+      next-leads =
+          w .leads (getD queue head 0) (omega (arith, w .marked .once (getD queue head 0), occ-early queue tail head l (omega (arith, w .marked .tail-fits, w .marked .queue-size))))
 
       pub next-task : getD queue head 0 < g .tasks
       next-task = leads-from s next-leads

@@ -23,11 +23,7 @@ use Rattle.graph.proofs.Refusals.{tables-follow, leads-task}
 
 -- what has no smallest task below n has none
 none-smallest : (n : ℕ) {P : ℕ → Type 0} (d : (t : ℕ) → Dec (P t)) → ((k : ℕ) → ¬ (Smallest (λ t. (t < n) × P t) k)) → (t : ℕ) → t < n → ¬ (P t)
-none-smallest n {P} d f t h = go (decLt (firstBelow n d) n)
-  where
-    go : Dec (firstBelow n d < n) → ¬ (P t)
-    go (yes l) = absurd (f (firstBelow n d) (first-smallest n d l))
-    go (no m) = first-least n d t (omega arith)
+none-smallest n d f t h = first-least n d t (stable (decLt t (firstBelow n d)) (λ m. f (firstBelow n d) (first-smallest n d (omega arith))))
 
 pub said-accepted : (a : Answer) → Acceptance (answerSays a) → a ≡ Accepted
 said-accepted Accepted h = refl

@@ -6,11 +6,11 @@ use native.Mathlib.Omega.{arith}
 use native.Mathlib.Numerals.{add-one}
 use native.Mathlib.Decide.{ℕ-discrete, decLt}
 use lib.ListN.{length, getD, set, take, replicate, List·getD-eq-default}
-use lib.Seq.{take-suc, take-suc-set, take-take}
+use lib.Seq.{length-take-le, getD-take, take-suc, take-suc-set, take-take}
 use Rattle.lists.specs.Decided.{tally}
 use Rattle.lists.specs.Lists.{occ}
 use Rattle.lists.proofs.Decided.{stable, tally-yes, tally-no}
-use Rattle.lists.proofs.Occurrences.{occ-nil, occ-cons, occ-append, occ-split}
+use Rattle.lists.proofs.Occurrences.{occ-nil, occ-cons, occ-append, occ-split, at-occ}
 
 -- an item alone, and at the end of a list
 pub occ-single : (u x : ℕ) → occ u (x ∷ []) ≡ tally (ℕ-discrete u x)
@@ -44,6 +44,10 @@ module _ (l : List ℕ) (i x : ℕ) (h : i < length l) where
 -- no more among the first i than among the first k
 pub occ-take-le : (l : List ℕ) (i k u : ℕ) → i ≤ k → occ u (take i l) ≤ occ u (take k l)
 occ-take-le l i k u h = omega (arith, occ-split ℕ-discrete u i (take k l), ap (occ u) (take-take i k l h))
+
+-- a member of the first n
+pub occ-early : (l : List ℕ) (n i : ℕ) → i < n → n ≤ length l → 0 < occ (getD l i 0) (take n l)
+occ-early l n i h m = rw (getD-take n l i 0 h) at (at-occ ℕ-discrete 0 (take n l) i (omega (arith, length-take-le n l m)))
 
 -- lists with the same first n members have the same first i
 pub take-same : (k l : List ℕ) (i n : ℕ) → i ≤ n → take n k ≡ take n l → take i k ≡ take i l

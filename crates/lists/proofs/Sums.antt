@@ -1,5 +1,5 @@
 -- Laws of sums over places and over members, and what a change in one place does to them.
-use Prim.Native.Nat.{ℕ, zero, suc, _+_, _-_, _*_, _≤_, _<_}
+use Prim.Native.Nat.{ℕ, zero, suc, _+_, _*_, _≤_, _<_}
 use mathlib.Core.Path.{_≡_, refl, sym, ap, _∙_}
 use mathlib.Core.List.{List, [], _∷_, _++_}
 use native.Mathlib.Omega.{arith}
@@ -44,23 +44,18 @@ unfolding sumTo
 sum-le zero f g h = omega arith
 sum-le (suc n) f g h = omega (arith, sum-le n f g (λ k l. h k (omega arith)), h n (omega arith))
 
-pub sum-lt : (n : ℕ) (f g : ℕ → ℕ) → ((k : ℕ) → k < n → f k ≤ g k) → (k : ℕ) → k < n → f k < g k → sumTo n f < sumTo n g
+-- where no place falls, a sum grows at least by what one place does
+pub sum-gap : (n : ℕ) (f g : ℕ → ℕ) → ((k : ℕ) → k < n → f k ≤ g k) → (k : ℕ) → k < n → sumTo n f + g k ≤ sumTo n g + f k
 unfolding sumTo
-sum-lt zero f g h k l d = absurd (omega arith)
-sum-lt (suc n) f g h k l d = go (ℕ-discrete k n) (λ l′. sum-lt n f g (λ j m. h j (omega arith)) k l′ d)
+sum-gap zero f g h k l = absurd (omega arith)
+sum-gap (suc n) f g h k l = go (ℕ-discrete k n) (λ l′. sum-gap n f g (λ j m. h j (omega arith)) k l′)
   where
-    go : Dec (k ≡ n) → (k < n → sumTo n f < sumTo n g) → sumTo n f + f n < sumTo n g + g n
-    go (yes e) r = omega (arith, sum-le n f g (λ j m. h j (omega arith)), rw e at d)
+    go : Dec (k ≡ n) → (k < n → sumTo n f + g k ≤ sumTo n g + f k) → sumTo n f + f n + g k ≤ sumTo n g + g n + f k
+    go (yes e) r = rw e (omega (arith, sum-le n f g (λ j m. h j (omega arith))))
     go (no m) r = omega (arith, r (omega arith), h n (omega arith))
 
-pub sum-term : (n : ℕ) (f : ℕ → ℕ) (k : ℕ) → k < n → f k ≤ sumTo n f
-unfolding sumTo
-sum-term zero f k h = absurd (omega arith)
-sum-term (suc n) f k h = go (ℕ-discrete k n) (sum-term n f k)
-  where
-    go : Dec (k ≡ n) → (k < n → f k ≤ sumTo n f) → f k ≤ sumTo n f + f n
-    go (yes e) r = rw e (omega arith)
-    go (no m) r = omega (arith, r (omega arith))
+pub sum-lt : (n : ℕ) (f g : ℕ → ℕ) → ((k : ℕ) → k < n → f k ≤ g k) → (k : ℕ) → k < n → f k < g k → sumTo n f < sumTo n g
+sum-lt n f g h k l d = omega (arith, sum-gap n f g h k l)
 
 -- the sum up to a place, and that place
 pub sum-prefix : (n : ℕ) (f : ℕ → ℕ) (k : ℕ) → k < n → sumTo k f + f k ≤ sumTo n f
@@ -77,15 +72,19 @@ unfolding sumTo
 sum-one zero = refl
 sum-one (suc n) = omega (arith, sum-one n)
 
+-- where a sum is larger, some place is
+pub sum-find-lt : (n : ℕ) (f g : ℕ → ℕ) → sumTo n f < sumTo n g → (k : ℕ) × (k < n) × (f k < g k)
+unfolding sumTo
+sum-find-lt zero f g h = absurd (omega arith)
+sum-find-lt (suc n) f g h = go (decLt (f n) (g n)) (sum-find-lt n f g)
+  where
+    go : Dec (f n < g n) → (sumTo n f < sumTo n g → (k : ℕ) × (k < n) × (f k < g k)) → (k : ℕ) × (k < suc n) × (f k < g k)
+    go (yes l) r = (n, omega arith, l)
+    go (no m) r = let w : (k : ℕ) × (k < n) × (f k < g k) = r (omega arith) in (w .0, omega arith, w .2)
+
 -- a place that adds to a sum
 pub sum-find : (n : ℕ) (f : ℕ → ℕ) → 0 < sumTo n f → (k : ℕ) × (k < n) × (0 < f k)
-unfolding sumTo
-sum-find zero f h = absurd (omega arith)
-sum-find (suc n) f h = go (ℕ-discrete (f n) 0) (sum-find n f)
-  where
-    go : Dec (f n ≡ 0) → (0 < sumTo n f → (k : ℕ) × (k < n) × (0 < f k)) → (k : ℕ) × (k < suc n) × (0 < f k)
-    go (yes e) r = let w : (k : ℕ) × (k < n) × (0 < f k) = r (omega arith) in (w .0, omega arith, w .2)
-    go (no m) r = (n, omega arith, omega arith)
+sum-find n f h = sum-find-lt n (λ k. 0) f (omega (arith, sum-zero n (λ k. 0) (λ k l. refl)))
 
 pub length-joined : {A : Type 0} (n : ℕ) (f : ℕ → List A) → length (joined n f) ≡ sumTo n (λ k. length (f k))
 unfolding joined sumTo
@@ -104,26 +103,6 @@ pub sumOf-append : {A : Type 0} (f : A → ℕ) (k l : List A) → sumOf f (k ++
 unfolding sumOf
 sumOf-append f [] l = omega arith
 sumOf-append f (x ∷ k) l = omega (arith, sumOf-append f k l)
-
--- where no place falls, a sum grows at least by what one place does
-pub sum-gap : (n : ℕ) (f g : ℕ → ℕ) → ((k : ℕ) → k < n → f k ≤ g k) → (k : ℕ) → k < n → sumTo n f + g k ≤ sumTo n g + f k
-unfolding sumTo
-sum-gap zero f g h k l = absurd (omega arith)
-sum-gap (suc n) f g h k l = go (ℕ-discrete k n) (λ l′. sum-gap n f g (λ j m. h j (omega arith)) k l′)
-  where
-    go : Dec (k ≡ n) → (k < n → sumTo n f + g k ≤ sumTo n g + f k) → sumTo n f + f n + g k ≤ sumTo n g + g n + f k
-    go (yes e) r = rw e (omega (arith, sum-le n f g (λ j m. h j (omega arith))))
-    go (no m) r = omega (arith, r (omega arith), h n (omega arith))
-
--- where a sum is larger, some place is
-pub sum-find-lt : (n : ℕ) (f g : ℕ → ℕ) → sumTo n f < sumTo n g → (k : ℕ) × (k < n) × (f k < g k)
-unfolding sumTo
-sum-find-lt zero f g h = absurd (omega arith)
-sum-find-lt (suc n) f g h = go (decLt (f n) (g n)) (sum-find-lt n f g)
-  where
-    go : Dec (f n < g n) → (sumTo n f < sumTo n g → (k : ℕ) × (k < n) × (f k < g k)) → (k : ℕ) × (k < suc n) × (f k < g k)
-    go (yes l) r = (n, omega arith, l)
-    go (no m) r = let w : (k : ℕ) × (k < n) × (f k < g k) = r (omega arith) in (w .0, omega arith, w .2)
 
 -- a sum over the members of a list of numbers below n, by places
 pub sumOf-places : (f : ℕ → ℕ) (n : ℕ) (l : List ℕ) → ((u : ℕ) → 0 < occ u l → u < n) → sumOf f l ≡ sumTo n (λ t. occ t l * f t)

@@ -1,6 +1,6 @@
 -- Which tasks have a path of edges to a cycle: a task has one exactly if a successor has one, and every task of a set in
 -- which each has a successor has one.
-use Prim.Native.Nat.{ℕ, zero, suc, _-_, _<_}
+use Prim.Native.Nat.{ℕ, zero, suc, _<_}
 use mathlib.Core.Logic.{inl, inr}
 use native.Mathlib.Omega.{arith}
 use Rattle.lists.specs.Decided.{tally}

@@ -9,8 +9,8 @@ use lib.ListN.{length, getD, take}
 use Rattle.lists.specs.Lists.{occ}
 use Rattle.lists.specs.Sums.{sumOf}
 use Rattle.lists.proofs.Decided.{stable}
-use Rattle.lists.proofs.Sums.{sum-term, sumOf-nil, sumOf-single, sumOf-append, sumOf-other, sumOf-missing}
-use Rattle.lists.proofs.Prefixes.{take-more, occ-more-hit, occ-take-le, take-same}
+use Rattle.lists.proofs.Sums.{sum-prefix, sumOf-nil, sumOf-single, sumOf-append, sumOf-other, sumOf-missing}
+use Rattle.lists.proofs.Prefixes.{take-more, occ-more-hit, occ-take-le, occ-early, take-same}
 use Rattle.graph.specs.Graph.{Graph, Among, predsOf, Edge}
 use Rattle.graph.specs.Conditions.{Sound, ToCycle}
 use Rattle.graph.proofs.Parts.{occ-preds, preds-beyond}
@@ -51,7 +51,7 @@ module _ (g : Graph) (sound : Sound g) (left queue : List ℕ) where
     where
       none : (u : ℕ) → getD left u 0 ≡ 0 → (t : ℕ) × (Edge g u t × ToCycle g t) → ⊥
       none u z w =
-          omega (arith, e u, occ-preds sound u, sum-term (g .tasks) (λ t. occ u (predsOf g t)) (w .0) (w .1 .0 .task), w .1 .0 .predecessor)
+          omega (arith, e u, occ-preds sound u, sum-prefix (g .tasks) (λ t. occ u (predsOf g t)) (w .0) (w .1 .0 .task), w .1 .0 .predecessor)
 
   module _ (head tail : ℕ) (s : Stripping g left queue head tail) where
     queue-length : tail ≤ length queue
@@ -75,20 +75,10 @@ module _ (g : Graph) (sound : Sound g) (left queue : List ℕ) where
 
     module _ (more : head < tail) where
       next-queued : Among (getD queue head 0) (take tail queue)
-      next-queued =
-          omega (
-            arith,
-            occ-more-hit queue head (omega (arith, queue-length)) (getD queue head 0) refl,
-            occ-take-le queue (head + 1) tail (getD queue head 0) (omega arith),
-          )
+      next-queued = occ-early queue tail head more queue-length
 
       next-new : occ (getD queue head 0) (take head queue) ≡ 0
-      next-new =
-          omega (
-            arith,
-            occ-more-hit queue head (omega (arith, queue-length)) (getD queue head 0) refl,
-            part-once (head + 1) (omega arith) (getD queue head 0),
-          )
+      next-new = omega (arith, occ-more-hit queue head (omega (arith, queue-length)) (getD queue head 0) refl, part-once (head + 1) (omega arith) (getD queue head 0))
 
       next-task : getD queue head 0 < g .tasks
       next-task = queued-below (getD queue head 0) next-queued
