@@ -3,22 +3,22 @@ use Prim.Native.Nat.{ℕ, _+_, _≤_, _<_}
 use mathlib.Core.Path.{_≡_, sym, ap, _∙_}
 use mathlib.Core.Logic.{_⊎_, inl, inr, _↔_}
 use mathlib.Core.Bool.{not}
-use mathlib.Core.List.{List, [], _∷_, _++_}
+use mathlib.Core.List.{List}
 use native.Mathlib.Omega.{arith}
 use native.Mathlib.Decide.{ℕ-discrete, decLt}
 use lib.Dec.{eqb}
 use lib.ListN.{length, take, getD, replicate, length-replicate}
-use lib.Seq.{length-take-le, take-take, getD-take}
 use borrow.Author.Tests.{eq-eqb, ne-eqb}
 use Rattle.lists.specs.Lists.{occ}
-use Rattle.lists.specs.Decided.{holds}
-use Rattle.lists.proofs.Decided.{yes-holds, no-holds}
-use Rattle.lists.proofs.Occurrences.{occ-nil, occ-append, at-occ}
+use Rattle.lists.specs.Decided.{holds, tally}
+use Rattle.lists.proofs.Decided.{yes-holds, no-holds, tally-pos}
+use Rattle.lists.proofs.Prefixes.{zeros, occ-more, occ-early, take-same}
+use Rattle.lists.proofs.Occurrences.{occ-nil}
 use Rattle.graph.specs.Graph.{Among, Graph, predsOf, Edge, Leads, edge, via}
 use Rattle.graph.specs.Conditions.{Good, Sound, OnCycle}
 use Rattle.graph.specs.Decide.{onCycle?}
+use Rattle.graph.proofs.Parts.{leads-from}
 use Rattle.cycles.specs.Marks.{Has, Marked, Grown, Walked}
-use Rattle.cycles.proofs.Marks.{replicate-zero, among-one, take-next}
 
 -- nothing is marked in fresh tables
 pub fresh : Marked (replicate 1024 0) (replicate 1024 0) 0
@@ -27,8 +27,8 @@ fresh =
       seen-size = length-replicate {A = ℕ} 1024 0;
       queue-size = length-replicate {A = ℕ} 1024 0;
       tail-fits = omega arith;
-      flags = λ u. omega (arith, replicate-zero 1024 u);
-      once = λ u. omega (arith, occ-nil ℕ-discrete u, replicate-zero 1024 u);
+      flags = λ u. omega (arith, zeros 1024 u);
+      once = λ u. omega (arith, occ-nil ℕ-discrete u, zeros 1024 u);
     }
 
 -- nothing is marked where nothing is queued
@@ -36,10 +36,6 @@ pub unmarked : {seen queue : List ℕ} → Marked seen queue 0 → (u : ℕ) →
 unmarked m u h = omega (arith, m .once u, occ-nil ℕ-discrete u)
 
 module _ {g : Graph} (s : Sound g) where
-  pub leads-task : {u t : ℕ} → Leads (Edge g) u t → u < g .tasks
-  leads-task {u} (edge {t = t} e) = s .good t (e .task) .below u (e .predecessor)
-  leads-task {u} (via {v = v} e p) = s .good v (e .task) .below u (e .predecessor)
-
   -- what a look at the predecessors of a task asks
   pub good-small : (t : ℕ) → t < g .tasks → Good 1024 (g .starts) (g .preds) t
   good-small t h = record { rises = s .good t h .rises; inside = s .good t h .inside; below = λ u k. omega (arith, s .good t h .below u k, s .sized .tasks) }
@@ -65,16 +61,11 @@ module _ {g : Graph} (s : Sound g) where
     module _ (l : head < tail) where
       -- the next of the queue leads to t, and so is a task
       pub next-leads : Leads (Edge g) (getD queue head 0) t
-      next-leads = w .leads (getD queue head 0) (omega (arith, w .marked .once (getD queue head 0), inside))
-        where
-          size : length (take tail queue) ≡ tail
-          size = length-take-le tail queue (omega (arith, w .marked .tail-fits, w .marked .queue-size))
-
-          inside : 0 < occ (getD queue head 0) (take tail queue)
-          inside = rw (getD-take tail queue head 0 l) at (at-occ ℕ-discrete 0 (take tail queue) head (omega (arith, size)))
+      next-leads =
+          w .leads (getD queue head 0) (omega (arith, w .marked .once (getD queue head 0), occ-early queue tail head l (omega (arith, w .marked .tail-fits, w .marked .queue-size))))
 
       pub next-task : getD queue head 0 < g .tasks
-      next-task = leads-task next-leads
+      next-task = leads-from s next-leads
 
       pub walk-more : {seen′ queue′ : List ℕ} {tail′ : ℕ} → Grown (predsOf g (getD queue head 0)) seen queue tail seen′ queue′ tail′ → Walked g t seen′ queue′ (head + 1) tail′
       walk-more {seen′} {queue′} {tail′} f =
@@ -90,17 +81,14 @@ module _ {g : Graph} (s : Sound g) where
           lead u (inl k) = w .leads u k
           lead u (inr k) = via (record { task = next-task; predecessor = k }) next-leads
 
-          front : take (head + 1) queue′ ≡ take head queue ++ (getD queue head 0 ∷ [])
-          front =
-              sym (take-take (head + 1) tail queue′ (omega arith)) ∙ ap (take (head + 1)) (f .front) ∙ take-take (head + 1) tail queue (omega arith)
-              ∙ take-next queue head (omega (arith, w .marked .tail-fits, w .marked .queue-size))
-
-          both : (v : ℕ) → occ v (take (head + 1) queue′) ≡ occ v (take head queue) + occ v (getD queue head 0 ∷ [])
-          both v = ap (occ v) front ∙ occ-append ℕ-discrete v (take head queue) (getD queue head 0 ∷ [])
+          both : (v : ℕ) → occ v (take (head + 1) queue′) ≡ occ v (take head queue) + tally (ℕ-discrete v (getD queue head 0))
+          both v =
+              ap (occ v) (take-same queue′ queue (head + 1) tail (omega arith) (f .front))
+              ∙ occ-more queue head (omega (arith, w .marked .tail-fits, w .marked .queue-size)) v
 
           close : (u v : ℕ) → Among v (take (head + 1) queue′) → Edge g u v → Dec (0 < occ v (take head queue)) → Has seen′ u
           close u v k e (yes h) = f .kept u (w .closed u v h e)
-          close u v k e (no n) = f .added u (rw (among-one v (getD queue head 0) (omega (arith, both v))) at (e .predecessor))
+          close u v k e (no n) = f .added u (rw (tally-pos (ℕ-discrete v (getD queue head 0)) (omega (arith, both v))) at (e .predecessor))
 
     -- at the queue's end all that lead to t are marked
     module _ (l : tail ≤ head) where

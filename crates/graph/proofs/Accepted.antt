@@ -10,7 +10,7 @@ use lib.ListN.{length, getD}
 use Rattle.lists.specs.Decided.{tally, firstBelow, Smallest}
 use Rattle.lists.specs.Lists.{occ}
 use Rattle.lists.specs.Sums.{sumTo}
-use Rattle.lists.proofs.Decided.{first-smallest, first-least, tally-le, tally-no, tally-yes}
+use Rattle.lists.proofs.Decided.{stable, first-smallest, first-least, tally-le, tally-no, tally-yes}
 use Rattle.lists.proofs.Sums.{sum-lt}
 use Rattle.task.specs.Refusals.{answerSays, refused, accepted, cycle}
 use Rattle.task.specs.Types.{capped}
@@ -18,8 +18,8 @@ use Rattle.task.specs.declared.Limits.{Limits}
 use Rattle.task.specs.Rows.{Acceptance, Given, Clear}
 use Rattle.task.specs.declared.Answer.{Answer}
 use Rattle.task.specs.declared.Answer.the-variants.{Refused, Accepted}
-use Rattle.graph.specs.Graph.{Graph, graphOf, edgeCount, predsOf, Edge, Leads, edge, via}
-use Rattle.graph.specs.Conditions.{Good, Bad, EndsFit, Twice, OnCycle, Acceptable, Sized, Sound, GraphFits}
+use Rattle.graph.specs.Graph.{Graph, graphOf, edgeCount, predsOf, Edge, edge}
+use Rattle.graph.specs.Conditions.{Twice, OnCycle, Acceptable, Sound, GraphFits}
 use Rattle.graph.specs.Decide.{bad?, good?, twice?, onCycle?, leads?, leads-append}
 use Rattle.graph.specs.Check.{tablesAnswer, checkAnswer}
 use Rattle.graph.specs.Successors.{linkAnswer}
@@ -33,10 +33,6 @@ none-smallest n {P} d f t h = go (decLt (firstBelow n d) n)
     go : Dec (firstBelow n d < n) → ¬ (P t)
     go (yes l) = absurd (f (firstBelow n d) (first-smallest n d l))
     go (no m) = first-least n d t (omega arith)
-
-pub stable : {A : Type 0} → Dec A → ¬ (¬ A) → A
-stable (yes a) f = a
-stable (no n) f = absurd (f n)
 
 pub said-accepted : (a : Answer) → (answerSays a ≡ accepted) ↔ Acceptance (answerSays a)
 said-accepted Accepted = (λ e. tt, λ u. refl)
@@ -75,9 +71,10 @@ module _ (g : Graph) where
 
   -- 3, 4 and 5 are passed exactly by an acceptable graph
   pub accepted-iff : (answerSays (tablesAnswer g) ≡ accepted) ↔ Acceptable g
-  accepted-iff =
-      (λ e. clear-iff .0 (tables-follow g .accepts .0 (said-accepted (tablesAnswer g) .0 e)),
-      λ a. said-accepted (tablesAnswer g) .1 (tables-follow g .accepts .1 (clear-iff .1 a)))
+  accepted-iff = (
+    λ e. clear-iff .0 (tables-follow g .accepts .0 (said-accepted (tablesAnswer g) .0 e)),
+    λ a. said-accepted (tablesAnswer g) .1 (tables-follow g .accepts .1 (clear-iff .1 a)),
+  )
 
   -- 5 names the smallest task on a cycle, so never one behind or before it
   pub cycle-named : (d : ℕ) → answerSays (tablesAnswer g) ≡ refused cycle d → Smallest (OnCycle g) d
@@ -104,16 +101,19 @@ module _ (g : Graph) where
 -- the whole check accepts exactly what fits, whatever a call adds to it
 module _ (limits : Limits) {Far Odd : Type 0} (weights starts preds : List ℕ) where
   clear-fits : Clear (checkRows limits Far Odd weights starts preds) → (¬ Far) × ((¬ Odd) × GraphFits limits weights starts preds)
-  clear-fits c =
-      (λ f. c .0 0 (refl, inl (inl f)),
-      (λ o. c .1 .0 0 (refl, inr o),
+  clear-fits c = (
+    λ f. c .0 0 (refl, inl (inl f)),
+    (
+      λ o. c .1 .0 0 (refl, inr o),
       record {
         tasks = stable (decLe (length weights) (capped limits .tasks)) (λ n. c .0 0 (refl, inl (inr (inl (omega arith)))));
         edges = stable (decLe (length preds) (capped limits .edges)) (λ n. c .0 0 (refl, inl (inr (inr (omega arith)))));
         light = λ t h. stable (decLe (getD weights t 0) 65535) (λ n. c .0 0 (refl, inr (t, (h, omega arith))));
         lengths = stable (ℕ-discrete (length starts) (length weights + 1)) (λ n. c .1 .0 0 (refl, inl n));
         graph = clear-iff (graphOf (length weights) starts preds) .0 (c .1 .1);
-      }))
+      },
+    ),
+  )
 
   fits-clear : (¬ Far) × ((¬ Odd) × GraphFits limits weights starts preds) → Clear (checkRows limits Far Odd weights starts preds)
   fits-clear (f, (o, a)) = (λ d p. far (p .1), (λ d p. odd (p .1), clear-iff (graphOf (length weights) starts preds) .1 (a .graph)))
@@ -129,15 +129,17 @@ module _ (limits : Limits) {Far Odd : Type 0} (weights starts preds : List ℕ) 
       odd (inr x) = o x
 
 pub graph-accepted-iff : (limits : Limits) (weights starts preds : List ℕ) → (answerSays (checkAnswer limits true true weights starts preds) ≡ accepted) ↔ GraphFits limits weights starts preds
-graph-accepted-iff limits weights starts preds =
-    (λ e. clear-fits limits {Far = ⊥} {Odd = ⊥} weights starts preds (graph-follows limits weights starts preds .accepts .0 (said-accepted (checkAnswer limits true true weights starts preds) .0 e)) .1 .1,
-    λ a. said-accepted (checkAnswer limits true true weights starts preds) .1 (graph-follows limits weights starts preds .accepts .1 (fits-clear limits {Far = ⊥} {Odd = ⊥} weights starts preds ((λ x. x), ((λ x. x), a)))))
+graph-accepted-iff limits weights starts preds = (
+  λ e. clear-fits limits {Far = ⊥} {Odd = ⊥} weights starts preds (graph-follows limits weights starts preds .accepts .0 (said-accepted (checkAnswer limits true true weights starts preds) .0 e)) .1 .1,
+  λ a. said-accepted (checkAnswer limits true true weights starts preds) .1 (graph-follows limits weights starts preds .accepts .1 (fits-clear limits {Far = ⊥} {Odd = ⊥} weights starts preds ((λ x. x), ((λ x. x), a)))),
+)
 
 pub link-accepted-iff : (limits : Limits) (weights starts preds s w d : List ℕ)
     → (answerSays (linkAnswer limits weights starts preds s w d) ≡ accepted) ↔ ((¬ (Unfit weights preds s w d)) × GraphFits limits weights starts preds)
-link-accepted-iff limits weights starts preds s w d =
-    (λ e. clear-fits limits {Far = ⊥} {Odd = Unfit weights preds s w d} weights starts preds (link-follows limits weights starts preds s w d .accepts .0 (said-accepted (linkAnswer limits weights starts preds s w d) .0 e)) .1,
-    λ a. said-accepted (linkAnswer limits weights starts preds s w d) .1 (link-follows limits weights starts preds s w d .accepts .1 (fits-clear limits {Far = ⊥} {Odd = Unfit weights preds s w d} weights starts preds ((λ x. x), a))))
+link-accepted-iff limits weights starts preds s w d = (
+  λ e. clear-fits limits {Far = ⊥} {Odd = Unfit weights preds s w d} weights starts preds (link-follows limits weights starts preds s w d .accepts .0 (said-accepted (linkAnswer limits weights starts preds s w d) .0 e)) .1,
+  λ a. said-accepted (linkAnswer limits weights starts preds s w d) .1 (link-follows limits weights starts preds s w d .accepts .1 (fits-clear limits {Far = ⊥} {Odd = Unfit weights preds s w d} weights starts preds ((λ x. x), a))),
+)
 
 -- what the whole check accepts, the leaves can work on
 pub fits-sound : {limits : Limits} {weights starts preds : List ℕ} → GraphFits limits weights starts preds → Sound (graphOf (length weights) starts preds)

@@ -1,9 +1,9 @@
 -- PROMISE: the judging call answers 0 and 0 exactly if the lookup is accepted, an accepted lookup hands back the task's part of
 -- the table, and a refused one an empty part.
-use Prim.Native.Nat.{ℕ, _+_, _≤_, _<_}
-use mathlib.Core.Path.{_≡_, refl, sym, ap, _∙_}
+use Prim.Native.Nat.{ℕ, _+_, _≤_}
+use mathlib.Core.Path.{_≡_, refl, ap}
 use mathlib.Core.Logic.{_⊎_, inl, inr, _↔_}
-use mathlib.Core.List.{List, []}
+use mathlib.Core.List.{[]}
 use native.Mathlib.Omega.{arith}
 use native.Mathlib.Decide.{ℕ-discrete, decLe, decLt}
 use lib.ListN.{length}
@@ -19,7 +19,8 @@ use Rattle.graph.specs.Decide.{good?}
 use Rattle.graph.specs.Lookup.{Lent, startsOn, wordsOn, LookupFits, judgeAnswer, handed, neighboursOf}
 use Rattle.graph.specs.Tables.{lookupRows, Beyond}
 use Rattle.graph.proofs.Refusals.{judge-follows}
-use Rattle.graph.proofs.Accepted.{stable, said-accepted}
+use Rattle.lists.proofs.Decided.{stable}
+use Rattle.graph.proofs.Accepted.{said-accepted}
 
 module _ (side : Side) (l : Lent) (t : ℕ) where
   clear-fits : Clear (lookupRows side l t) → LookupFits side l t
@@ -52,9 +53,10 @@ module _ (side : Side) (l : Lent) (t : ℕ) where
       fits (inr n) = n (a .good)
 
   pub judge-accepts : (answerSays (judgeAnswer side l t) ≡ accepted) ↔ LookupFits side l t
-  judge-accepts =
-      (λ e. clear-fits (judge-follows side l t .accepts .0 (said-accepted (judgeAnswer side l t) .0 e)),
-      λ a. said-accepted (judgeAnswer side l t) .1 (judge-follows side l t .accepts .1 (fits-clear a)))
+  judge-accepts = (
+    λ e. clear-fits (judge-follows side l t .accepts .0 (said-accepted (judgeAnswer side l t) .0 e)),
+    λ a. said-accepted (judgeAnswer side l t) .1 (judge-follows side l t .accepts .1 (fits-clear a)),
+  )
 
   judged-fits : LookupFits side l t → judgeAnswer side l t ≡ Accepted
   judged-fits a = go (judgeAnswer side l t) (judge-accepts .1 a)

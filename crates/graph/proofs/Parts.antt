@@ -1,7 +1,7 @@
 -- The parts of a sound table: where they lie, and that they make up the table.
 use Prim.Native.Nat.{ℕ, zero, suc, _+_, _-_, _≤_, _<_}
-use mathlib.Core.Path.{_≡_, refl, sym, ap, _∙_}
-use mathlib.Core.List.{List, [], _++_}
+use mathlib.Core.Path.{_≡_, sym, ap, _∙_}
+use mathlib.Core.List.{List, _++_}
 use native.Mathlib.Omega.{arith}
 use native.Mathlib.Numerals.{add-one}
 use native.Mathlib.Decide.{ℕ-discrete}
@@ -9,10 +9,11 @@ use lib.ListN.{length, take, drop, getD, length-take, length-drop}
 use lib.Seq.{take-add, take-all}
 use Rattle.lists.specs.Lists.{occ, joined}
 use Rattle.lists.specs.Sums.{sumTo}
+use Rattle.lists.proofs.Decided.{stable}
 use Rattle.lists.proofs.Occurrences.{occ-joined}
 use Rattle.lists.proofs.Sums.{sum-find}
-use Rattle.graph.specs.Graph.{Among, part, Graph, graphOf, edgeCount, predsOf, Edge}
-use Rattle.graph.specs.Conditions.{Good, EndsFit, Sized, Sound}
+use Rattle.graph.specs.Graph.{Among, part, Graph, predsOf, Edge, Leads, edge, via}
+use Rattle.graph.specs.Conditions.{Good, Sound}
 
 pub length-part : {n : ℕ} {starts words : List ℕ} {t : ℕ} → Good n starts words t → length (part starts words t) ≡ getD starts (t + 1) 0 - getD starts t 0
 unfolding part
@@ -48,13 +49,13 @@ module _ {g : Graph} (s : Sound g) where
   pub edge-from : (u t : ℕ) → Edge g u t → u < g .tasks
   edge-from u t e = s .good t (e .task) .below u (e .predecessor)
 
+  pub leads-from : {u t : ℕ} → Leads (Edge g) u t → u < g .tasks
+  leads-from {u} {t} (edge e) = edge-from u t e
+  leads-from {u} {t} (via {v = v} e p) = edge-from u v e
+
   -- what is no task is no predecessor
   pub preds-beyond : (u : ℕ) → g .tasks ≤ u → occ u (g .preds) ≡ 0
-  preds-beyond u h = go (ℕ-discrete (occ u (g .preds)) 0)
-    where
-      go : Dec (occ u (g .preds) ≡ 0) → occ u (g .preds) ≡ 0
-      go (yes e) = e
-      go (no n) = absurd (omega (arith, preds-below u (omega arith)))
+  preds-beyond u h = stable (ℕ-discrete (occ u (g .preds)) 0) (λ n. omega (arith, preds-below u (omega arith)))
 
   -- what a count of the predecessors asks of scratch memory of the engine's size
   pub preds-small : (u : ℕ) → Among u (g .preds) → u < 1024

@@ -1,9 +1,9 @@
 -- PROMISE: the calls on a graph are refused under the table's conditions and no others.
 use Prim.Native.Nat.{ℕ, _+_, _≤_, _<_}
-use mathlib.Core.Path.{_≡_, refl, sym, ap, _∙_}
+use mathlib.Core.Path.{_≡_, refl}
 use mathlib.Core.Bool.{Bool, true, not, _&&_}
-use mathlib.Core.Logic.{_⊎_, inl, inr, _↔_}
-use mathlib.Core.List.{List, [], _∷_}
+use mathlib.Core.Logic.{_⊎_, inl, inr}
+use mathlib.Core.List.{List}
 use native.Mathlib.Omega.{arith}
 use native.Mathlib.Decide.{ℕ-discrete, decLe, decLt}
 use lib.ListN.{length, getD}
@@ -12,15 +12,13 @@ use Rattle.lists.specs.Decided.{holds, firstBelow}
 use Rattle.lists.proofs.Decided.{holds-yes, holds-no, first-smallest, first-least}
 use Rattle.lists.proofs.Told.{Told, told-true, told, le-told, lt-told, eq-told, dec-told, and-told, not-told}
 use Rattle.task.specs.Types.{capped, engine}
-use Rattle.task.specs.Refusals.{Said, refused, accepted, answerSays, wrongLength, beyondLimit, badTable, duplicate, cycle}
+use Rattle.task.specs.Refusals.{answerSays, wrongLength, beyondLimit, badTable, duplicate, cycle}
 use Rattle.task.specs.Rows.{Follows}
 use Rattle.task.proofs.Rows.{follows-accepted, test-row, smallest-row}
 use Rattle.task.specs.declared.Limits.{Limits}
-use Rattle.task.specs.declared.Answer.{Answer}
-use Rattle.task.specs.declared.Answer.the-variants.{Refused, Accepted}
 use Rattle.task.specs.declared.Side.{Side}
 use Rattle.graph.specs.Graph.{Graph, graphOf, edgeCount, Edge, Leads, edge, via}
-use Rattle.graph.specs.Conditions.{Light, Good, Bad, EndsFit, Twice, OnCycle}
+use Rattle.graph.specs.Conditions.{Bad, EndsFit, Twice, OnCycle}
 use Rattle.graph.specs.Decide.{light?, good?, bad?, endsFit?, twice?, onCycle?, not?}
 use Rattle.graph.specs.Check.{sizesFit, firstBad, firstTwice, firstOnCycle, tablesAnswer, checkAnswer}
 use Rattle.graph.specs.Successors.{lentFit, linkAnswer}

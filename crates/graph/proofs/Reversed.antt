@@ -1,7 +1,7 @@
 -- PROMISES: the successor table is the predecessor table read the other way round, each task's successors rising.
 use Prim.Native.Nat.{ℕ, zero, suc, _+_, _-_, _≤_, _<_}
 use mathlib.Core.Path.{_≡_, refl, sym, ap, _∙_}
-use mathlib.Core.List.{List, [], _∷_, _++_}
+use mathlib.Core.List.{List, [], _∷_}
 use mathlib.Core.Bool.{cond}
 use mathlib.Core.Logic.{_↔_}
 use native.Mathlib.Omega.{arith}
@@ -10,10 +10,10 @@ use Rattle.lists.proofs.Decided.{yes-holds}
 use native.Mathlib.Numerals.{add-one}
 use native.Mathlib.Decide.{ℕ-discrete, decLt}
 use lib.ListN.{length, getD, take, drop, replicate, length-replicate, getD-replicate}
-use Rattle.lists.specs.Lists.{occ, joined, tabulate, Rising}
+use Rattle.lists.specs.Lists.{occ, joined, Rising}
 use Rattle.lists.specs.Sums.{sumTo}
 use Rattle.lists.proofs.Occurrences.{occ-nil, occ-hit, occ-miss, occ-joined, occ-replicate, occ-replicate-other, at-occ}
-use Rattle.lists.proofs.Sums.{sum-find, sum-term, sum-same, sum-zero, sum-only, sum-suc, sum-prefix, length-joined, length-occ}
+use Rattle.lists.proofs.Sums.{sum-find, sum-same, sum-zero, sum-only, sum-suc, sum-prefix, length-joined, length-occ}
 use Rattle.lists.proofs.Blocks.{length-tabulate, getD-tabulate, block-at, rising-append}
 use Rattle.graph.specs.Graph.{Among, part, Graph, graphOf, edgeCount, predsOf}
 use Rattle.graph.specs.Conditions.{Good, Acceptable, Sound}
@@ -161,7 +161,7 @@ roots-are g t = (to, from)
         go w = let p = at (w .0) (w .2) in rw (p .0) (w .1, p .1)
 
     from : (t < g .tasks) × (length (predsOf g t) ≡ 0) → Among t (roots g)
-    from p = omega (arith, total, sum-term (g .tasks) (λ k. occ t (kept k)) t (p .0), here)
+    from p = omega (arith, total, sum-prefix (g .tasks) (λ k. occ t (kept k)) t (p .0), here)
       where
         here : occ t (kept t) ≡ 1
         here = rw (yes-holds (ℕ-discrete (length (predsOf g t)) 0) (p .1)) (omega (arith, occ-hit ℕ-discrete t t [] refl, occ-nil ℕ-discrete t))

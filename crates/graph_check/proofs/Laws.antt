@@ -1,24 +1,23 @@
 -- The cases of the check, in its order.
 use Prim.Native.Nat.{ℕ, _+_, _≤_, _<_, min}
-use mathlib.Core.Path.{_≡_, refl, sym, ap, _∙_}
-use mathlib.Core.Bool.{Bool, true, false, not, _&&_}
+use mathlib.Core.Path.{_≡_, sym, _∙_}
+use mathlib.Core.Bool.{Bool, true, false, not}
 use mathlib.Core.List.{List}
 use native.Mathlib.Omega.{arith}
 use lib.ListN.{length}
 use lib.Dec.{leb, eqb}
 use borrow.Author.Tests.{lt-ltb, le-ltb, leb-true, eqb-true, not-true, not-false}
 use Rattle.lists.specs.Decided.{holds}
-use Rattle.lists.proofs.Decided.{holds-yes, first-least}
+use Rattle.lists.proofs.Decided.{stable, holds-yes, first-least}
 use Rattle.lists.proofs.Told.{and-true}
 use Rattle.task.specs.Types.{capped}
 use Rattle.task.specs.declared.Limits.{Limits}
 use Rattle.task.specs.declared.Answer.{Answer}
 use Rattle.task.specs.declared.Answer.the-variants.{Refused, Accepted}
-use Rattle.graph.specs.Graph.{Graph, graphOf, edgeCount}
+use Rattle.graph.specs.Graph.{Graph, graphOf}
 use Rattle.graph.specs.Conditions.{Sized, Sound}
 use Rattle.graph.specs.Decide.{light?, good?, bad?, endsFit?}
 use Rattle.graph.specs.Check.{sizesFit, firstBad, firstTwice, firstOnCycle, tablesAnswer, checkAnswer}
-use Rattle.graph.proofs.Accepted.{stable}
 
 module _ (g : Graph) (bad : ℕ) (hb : bad ≡ firstBad g) where
   pub tables-bad : bad < g .tasks → Refused 3 bad ≡ tablesAnswer g

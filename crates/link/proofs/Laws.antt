@@ -1,13 +1,12 @@
 -- The cases of the call: refused, and the lists stay; accepted, and what the check has shown lets them be filled.
 use Prim.Native.Nat.{ℕ, _+_}
-use mathlib.Core.Path.{_≡_, refl, sym, ap, _∙_}
-use mathlib.Core.Bool.{Bool, true}
+use mathlib.Core.Path.{_≡_, sym, ap, _∙_}
+use mathlib.Core.Bool.{true}
 use mathlib.Core.Logic.{inl, inr}
 use mathlib.Core.List.{List}
-use native.Mathlib.Omega.{arith}
 use native.Mathlib.Decide.{ℕ-discrete}
 use lib.ListN.{length}
-use Rattle.task.specs.Types.{capped}
+use Rattle.lists.proofs.Decided.{stable}
 use Rattle.task.specs.Refusals.{answerSays}
 use Rattle.task.specs.declared.Limits.{Limits}
 use Rattle.task.specs.declared.Answer.{Answer}
@@ -17,7 +16,7 @@ use Rattle.graph.specs.Conditions.{Sound, GraphFits}
 use Rattle.graph.specs.Check.{checkAnswer}
 use Rattle.graph.specs.Successors.{succStarts, succWords, degreeList, linkedOf, lentFit, linkAnswer, linked}
 use Rattle.graph.specs.Tables.{Unfit}
-use Rattle.graph.proofs.Accepted.{stable, link-accepted-iff, fits-sound}
+use Rattle.graph.proofs.Accepted.{link-accepted-iff, fits-sound}
 
 module _ (limits : Limits) (weights starts preds s w d : List ℕ) (a : Answer) (ha : a ≡ checkAnswer limits true (lentFit weights preds s w d) weights starts preds) where
   answers : linkAnswer limits weights starts preds s w d ≡ a
@@ -36,9 +35,13 @@ module _ (limits : Limits) (weights starts preds s w d : List ℕ) (a : Answer) 
     pub link-fillable : Sound (graphOf (length weights) starts preds) × ((length s ≡ length weights + 1) × ((length w ≡ length preds) × (length d ≡ length weights)))
     link-fillable = (
       fits-sound (fits .1),
-      (stable (ℕ-discrete (length s) (length weights + 1)) (λ n. fits .0 (inl n)),
-      (stable (ℕ-discrete (length w) (length preds)) (λ n. fits .0 (inr (inl n))),
-      stable (ℕ-discrete (length d) (length weights)) (λ n. fits .0 (inr (inr n))))),
+      (
+        stable (ℕ-discrete (length s) (length weights + 1)) (λ n. fits .0 (inl n)),
+        (
+          stable (ℕ-discrete (length w) (length preds)) (λ n. fits .0 (inr (inl n))),
+          stable (ℕ-discrete (length d) (length weights)) (λ n. fits .0 (inr (inr n))),
+        ),
+      ),
     )
 
     pub link-filled : (s′ w′ d′ : List ℕ) → s′ ≡ succStarts (graphOf (length weights) starts preds) → w′ ≡ succWords (graphOf (length weights) starts preds) → d′ ≡ degreeList (graphOf (length weights) starts preds)

@@ -1,13 +1,17 @@
 -- Laws of decided questions and of the first number that has a property.
-use Prim.Native.Nat.{ℕ, zero, suc, _+_, _≤_, _<_}
-use mathlib.Core.Path.{_≡_, refl, sym, ap, _∙_}
-use mathlib.Core.Bool.{Bool, true, false}
+use Prim.Native.Nat.{ℕ, zero, suc, _≤_, _<_}
+use mathlib.Core.Path.{_≡_, refl}
+use mathlib.Core.Bool.{true, false}
 use native.Mathlib.Omega.{arith}
 use native.Mathlib.Nat.{le-antisymm}
-use native.Mathlib.Decide.{ℕ-discrete, decLt}
+use native.Mathlib.Decide.{decLe}
 use Rattle.lists.specs.Decided.{holds, tally, Smallest, stop, firstBelow}
 
 module _ {A : Type 0} where
+  pub stable : Dec A → ¬ (¬ A) → A
+  stable (yes a) f = a
+  stable (no n) f = absurd (f n)
+
   pub yes-holds : (d : Dec A) → A → holds d ≡ true
   yes-holds (yes a) b = refl
   yes-holds (no n) b = absurd (n b)
@@ -44,16 +48,11 @@ pub tally-le : {A B : Type 0} (a : Dec A) (b : Dec B) → (A → B) → tally a 
 tally-le (yes a) b f = omega (arith, tally-yes b (f a))
 tally-le (no n) b f = omega arith
 
-pub smallest-unique : {P : ℕ → Type 0} {d e : ℕ} → Smallest P d → Smallest P e → d ≡ e
-smallest-unique {P} {d} {e} s r = le-antisymm (go (decLt e d)) (back (decLt d e))
-  where
-    go : Dec (e < d) → d ≤ e
-    go (yes h) = absurd (s .least e h (r .such))
-    go (no n) = omega arith
+smallest-le : {P : ℕ → Type 0} {d e : ℕ} → Smallest P d → Smallest P e → d ≤ e
+smallest-le {P} {d} {e} s r = stable (decLe d e) (λ m. s .least e (omega arith) (r .such))
 
-    back : Dec (d < e) → e ≤ d
-    back (yes h) = absurd (r .least d h (s .such))
-    back (no n) = omega arith
+pub smallest-unique : {P : ℕ → Type 0} {d e : ℕ} → Smallest P d → Smallest P e → d ≡ e
+smallest-unique s r = le-antisymm (smallest-le s r) (smallest-le r s)
 
 module _ (P : ℕ → Type 0) where
   stops : (a : Dec (P 0)) (r n : ℕ) → r ≤ n → stop a r ≤ suc n
@@ -87,22 +86,12 @@ first-least (suc n) {P} d k h = stops-least P (d 0) (firstBelow n (λ t. d (suc 
 -- the two ways to find it
 module _ (n : ℕ) {P : ℕ → Type 0} (d : (t : ℕ) → Dec (P t)) where
   pub first-is : (t : ℕ) → t < n → P t → ((k : ℕ) → k < t → ¬ (P k)) → t ≡ firstBelow n d
-  first-is t h p f = go (decLt t (firstBelow n d)) (decLt (firstBelow n d) t)
-    where
-      go : Dec (t < firstBelow n d) → Dec (firstBelow n d < t) → t ≡ firstBelow n d
-      go (yes l) b = absurd (first-least n d t l p)
-      go (no m) (yes l) = absurd (f (firstBelow n d) l (first-such n d (omega arith)))
-      go (no m) (no l) = omega arith
+  first-is t h p f =
+      le-antisymm (stable (decLe t (firstBelow n d)) (λ m. f (firstBelow n d) (omega arith) (first-such n d (omega arith))))
+      (stable (decLe (firstBelow n d) t) (λ m. first-least n d t (omega arith) p))
 
   pub first-none : ((k : ℕ) → k < n → ¬ (P k)) → n ≡ firstBelow n d
-  first-none f = go (decLt (firstBelow n d) n)
-    where
-      go : Dec (firstBelow n d < n) → n ≡ firstBelow n d
-      go (yes l) = absurd (f (firstBelow n d) l (first-such n d l))
-      go (no m) = omega (arith, first-le n d)
+  first-none f = le-antisymm (stable (decLe n (firstBelow n d)) (λ m. f (firstBelow n d) (omega arith) (first-such n d (omega arith)))) (first-le n d)
 
   pub first-smallest : firstBelow n d < n → Smallest (λ t. (t < n) × P t) (firstBelow n d)
   first-smallest h = record { such = (h, first-such n d h); least = λ k l p. first-least n d k l (p .1) }
-
-  pub smallest-first : (t : ℕ) → Smallest (λ k. (k < n) × P k) t → t ≡ firstBelow n d
-  smallest-first t s = first-is t (s .such .0) (s .such .1) (λ k h p. s .least k h (omega (arith, s .such .0), p))

@@ -5,7 +5,7 @@ use mathlib.Core.List.{List, [], _∷_, _++_}
 use native.Mathlib.Omega.{arith}
 use lib.ListN.{length, getD, take, drop, replicate, take-append-drop}
 use Rattle.lists.specs.Decided.{tally}
-use Rattle.lists.specs.Lists.{occOf, occ, joined}
+use Rattle.lists.specs.Lists.{occOf, joined}
 use Rattle.lists.specs.Sums.{sumTo}
 use Rattle.lists.proofs.Decided.{tally-yes, tally-no}
 

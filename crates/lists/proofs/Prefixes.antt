@@ -1,20 +1,23 @@
 -- Laws of a list that is read from the front: its first i members, one more, all of them; and of a list of zeros.
 use Prim.Native.Nat.{ℕ, zero, suc, _+_, _≤_, _<_}
-use mathlib.Core.Path.{_≡_, refl, ap, _∙_}
+use mathlib.Core.Path.{_≡_, refl, sym, ap, _∙_}
 use mathlib.Core.List.{List, [], _∷_, _++_}
 use native.Mathlib.Omega.{arith}
 use native.Mathlib.Numerals.{add-one}
 use native.Mathlib.Decide.{ℕ-discrete, decLt}
 use lib.ListN.{length, getD, set, take, replicate, List·getD-eq-default}
-use lib.Seq.{take-suc, take-suc-set, take-take}
+use lib.Seq.{length-take-le, getD-take, take-suc, take-suc-set, take-take}
 use Rattle.lists.specs.Decided.{tally}
 use Rattle.lists.specs.Lists.{occ}
-use Rattle.lists.proofs.Decided.{tally-yes, tally-no}
-use Rattle.lists.proofs.Occurrences.{occ-nil, occ-cons, occ-append, occ-split}
+use Rattle.lists.proofs.Decided.{stable, tally-yes, tally-no}
+use Rattle.lists.proofs.Occurrences.{occ-nil, occ-cons, occ-append, occ-split, at-occ}
 
--- an item at the end of a list
+-- an item alone, and at the end of a list
+pub occ-single : (u x : ℕ) → occ u (x ∷ []) ≡ tally (ℕ-discrete u x)
+occ-single u x = omega (arith, occ-cons ℕ-discrete u x [], occ-nil ℕ-discrete u)
+
 pub occ-snoc : (u x : ℕ) (l : List ℕ) → occ u (l ++ (x ∷ [])) ≡ occ u l + tally (ℕ-discrete u x)
-occ-snoc u x l = omega (arith, occ-append ℕ-discrete u l (x ∷ []), occ-cons ℕ-discrete u x [], occ-nil ℕ-discrete u)
+occ-snoc u x l = omega (arith, occ-append ℕ-discrete u l (x ∷ []), occ-single u x)
 
 -- the first i members and one more
 module _ (l : List ℕ) (i : ℕ) (h : i < length l) where
@@ -42,6 +45,14 @@ module _ (l : List ℕ) (i x : ℕ) (h : i < length l) where
 pub occ-take-le : (l : List ℕ) (i k u : ℕ) → i ≤ k → occ u (take i l) ≤ occ u (take k l)
 occ-take-le l i k u h = omega (arith, occ-split ℕ-discrete u i (take k l), ap (occ u) (take-take i k l h))
 
+-- a member of the first n
+pub occ-early : (l : List ℕ) (n i : ℕ) → i < n → n ≤ length l → 0 < occ (getD l i 0) (take n l)
+occ-early l n i h m = rw (getD-take n l i 0 h) at (at-occ ℕ-discrete 0 (take n l) i (omega (arith, length-take-le n l m)))
+
+-- lists with the same first n members have the same first i
+pub take-same : (k l : List ℕ) (i n : ℕ) → i ≤ n → take n k ≡ take n l → take i k ≡ take i l
+take-same k l i n h e = sym (take-take i n k h) ∙ ap (take i) e ∙ take-take i n l h
+
 -- what stands in a list of zeros, and behind its end
 pub zeros : (n u : ℕ) → _≡_ {A = ℕ} (getD (replicate n 0) u 0) 0
 zeros zero u = refl
@@ -50,8 +61,4 @@ zeros (suc n) (suc u) = zeros n u
 
 -- a place where something other than 0 is read lies inside
 pub inside : (l : List ℕ) (u : ℕ) → 0 < getD l u 0 → u < length l
-inside l u h = go (decLt u (length l))
-  where
-    go : Dec (u < length l) → u < length l
-    go (yes m) = m
-    go (no m) = absurd (omega (arith, List·getD-eq-default l 0 {n = u} (omega arith)))
+inside l u h = stable (decLt u (length l)) (λ m. omega (arith, List·getD-eq-default l 0 {n = u} (omega arith)))

@@ -1,11 +1,12 @@
 -- Laws of sums over places and over members, and what a change in one place does to them.
-use Prim.Native.Nat.{ℕ, zero, suc, _+_, _-_, _*_, _≤_, _<_}
+use Prim.Native.Nat.{ℕ, zero, suc, _+_, _*_, _≤_, _<_}
 use mathlib.Core.Path.{_≡_, refl, sym, ap, _∙_}
 use mathlib.Core.List.{List, [], _∷_, _++_}
 use native.Mathlib.Omega.{arith}
 use native.Mathlib.Decide.{ℕ-discrete, decLt}
 use native.Mathlib.Nat.{zero-mul, one-mul, suc-mul, mul-le-mul-right}
 use lib.ListN.{length, length-append}
+use Rattle.lists.proofs.Decided.{stable}
 use Rattle.lists.proofs.Occurrences.{occ-nil, occ-cons, occ-hit, occ-miss}
 use Rattle.lists.specs.Lists.{occ, joined}
 use Rattle.lists.specs.Sums.{sumTo, sumOf}
@@ -43,23 +44,18 @@ unfolding sumTo
 sum-le zero f g h = omega arith
 sum-le (suc n) f g h = omega (arith, sum-le n f g (λ k l. h k (omega arith)), h n (omega arith))
 
-pub sum-lt : (n : ℕ) (f g : ℕ → ℕ) → ((k : ℕ) → k < n → f k ≤ g k) → (k : ℕ) → k < n → f k < g k → sumTo n f < sumTo n g
+-- where no place falls, a sum grows at least by what one place does
+pub sum-gap : (n : ℕ) (f g : ℕ → ℕ) → ((k : ℕ) → k < n → f k ≤ g k) → (k : ℕ) → k < n → sumTo n f + g k ≤ sumTo n g + f k
 unfolding sumTo
-sum-lt zero f g h k l d = absurd (omega arith)
-sum-lt (suc n) f g h k l d = go (ℕ-discrete k n) (λ l′. sum-lt n f g (λ j m. h j (omega arith)) k l′ d)
+sum-gap zero f g h k l = absurd (omega arith)
+sum-gap (suc n) f g h k l = go (ℕ-discrete k n) (λ l′. sum-gap n f g (λ j m. h j (omega arith)) k l′)
   where
-    go : Dec (k ≡ n) → (k < n → sumTo n f < sumTo n g) → sumTo n f + f n < sumTo n g + g n
-    go (yes e) r = omega (arith, sum-le n f g (λ j m. h j (omega arith)), rw e at d)
+    go : Dec (k ≡ n) → (k < n → sumTo n f + g k ≤ sumTo n g + f k) → sumTo n f + f n + g k ≤ sumTo n g + g n + f k
+    go (yes e) r = rw e (omega (arith, sum-le n f g (λ j m. h j (omega arith))))
     go (no m) r = omega (arith, r (omega arith), h n (omega arith))
 
-pub sum-term : (n : ℕ) (f : ℕ → ℕ) (k : ℕ) → k < n → f k ≤ sumTo n f
-unfolding sumTo
-sum-term zero f k h = absurd (omega arith)
-sum-term (suc n) f k h = go (ℕ-discrete k n) (sum-term n f k)
-  where
-    go : Dec (k ≡ n) → (k < n → f k ≤ sumTo n f) → f k ≤ sumTo n f + f n
-    go (yes e) r = rw e (omega arith)
-    go (no m) r = omega (arith, r (omega arith))
+pub sum-lt : (n : ℕ) (f g : ℕ → ℕ) → ((k : ℕ) → k < n → f k ≤ g k) → (k : ℕ) → k < n → f k < g k → sumTo n f < sumTo n g
+sum-lt n f g h k l d = omega (arith, sum-gap n f g h k l)
 
 -- the sum up to a place, and that place
 pub sum-prefix : (n : ℕ) (f : ℕ → ℕ) (k : ℕ) → k < n → sumTo k f + f k ≤ sumTo n f
@@ -76,26 +72,19 @@ unfolding sumTo
 sum-one zero = refl
 sum-one (suc n) = omega (arith, sum-one n)
 
+-- where a sum is larger, some place is
+pub sum-find-lt : (n : ℕ) (f g : ℕ → ℕ) → sumTo n f < sumTo n g → (k : ℕ) × (k < n) × (f k < g k)
+unfolding sumTo
+sum-find-lt zero f g h = absurd (omega arith)
+sum-find-lt (suc n) f g h = go (decLt (f n) (g n)) (sum-find-lt n f g)
+  where
+    go : Dec (f n < g n) → (sumTo n f < sumTo n g → (k : ℕ) × (k < n) × (f k < g k)) → (k : ℕ) × (k < suc n) × (f k < g k)
+    go (yes l) r = (n, omega arith, l)
+    go (no m) r = let w : (k : ℕ) × (k < n) × (f k < g k) = r (omega arith) in (w .0, omega arith, w .2)
+
 -- a place that adds to a sum
 pub sum-find : (n : ℕ) (f : ℕ → ℕ) → 0 < sumTo n f → (k : ℕ) × (k < n) × (0 < f k)
-unfolding sumTo
-sum-find zero f h = absurd (omega arith)
-sum-find (suc n) f h = go (ℕ-discrete (f n) 0) (sum-find n f)
-  where
-    go : Dec (f n ≡ 0) → (0 < sumTo n f → (k : ℕ) × (k < n) × (0 < f k)) → (k : ℕ) × (k < suc n) × (0 < f k)
-    go (yes e) r = let w : (k : ℕ) × (k < n) × (0 < f k) = r (omega arith) in (w .0, omega arith, w .2)
-    go (no m) r = (n, omega arith, omega arith)
-
-pub sum-add : (n : ℕ) (f g : ℕ → ℕ) → sumTo n (λ k. f k + g k) ≡ sumTo n f + sumTo n g
-unfolding sumTo
-sum-add zero f g = refl
-sum-add (suc n) f g = omega (arith, sum-add n f g)
-
--- a sum over two numbers, in either order
-pub sum-swap : (n m : ℕ) (a : ℕ → ℕ → ℕ) → sumTo n (λ u. sumTo m (λ t. a u t)) ≡ sumTo m (λ t. sumTo n (λ u. a u t))
-unfolding sumTo
-sum-swap zero m a = sym (sum-zero m (λ t. 0) (λ k lk. refl))
-sum-swap (suc n) m a = omega (arith, sum-swap n m a, sum-add m (λ t. sumTo n (λ u. a u t)) (λ t. a n t))
+sum-find n f h = sum-find-lt n (λ k. 0) f (omega (arith, sum-zero n (λ k. 0) (λ k l. refl)))
 
 pub length-joined : {A : Type 0} (n : ℕ) (f : ℕ → List A) → length (joined n f) ≡ sumTo n (λ k. length (f k))
 unfolding joined sumTo
@@ -114,26 +103,6 @@ pub sumOf-append : {A : Type 0} (f : A → ℕ) (k l : List A) → sumOf f (k ++
 unfolding sumOf
 sumOf-append f [] l = omega arith
 sumOf-append f (x ∷ k) l = omega (arith, sumOf-append f k l)
-
--- where no place falls, a sum grows at least by what one place does
-pub sum-gap : (n : ℕ) (f g : ℕ → ℕ) → ((k : ℕ) → k < n → f k ≤ g k) → (k : ℕ) → k < n → sumTo n f + g k ≤ sumTo n g + f k
-unfolding sumTo
-sum-gap zero f g h k l = absurd (omega arith)
-sum-gap (suc n) f g h k l = go (ℕ-discrete k n) (λ l′. sum-gap n f g (λ j m. h j (omega arith)) k l′)
-  where
-    go : Dec (k ≡ n) → (k < n → sumTo n f + g k ≤ sumTo n g + f k) → sumTo n f + f n + g k ≤ sumTo n g + g n + f k
-    go (yes e) r = rw e (omega (arith, sum-le n f g (λ j m. h j (omega arith))))
-    go (no m) r = omega (arith, r (omega arith), h n (omega arith))
-
--- where a sum is larger, some place is
-pub sum-find-lt : (n : ℕ) (f g : ℕ → ℕ) → sumTo n f < sumTo n g → (k : ℕ) × (k < n) × (f k < g k)
-unfolding sumTo
-sum-find-lt zero f g h = absurd (omega arith)
-sum-find-lt (suc n) f g h = go (decLt (f n) (g n)) (sum-find-lt n f g)
-  where
-    go : Dec (f n < g n) → (sumTo n f < sumTo n g → (k : ℕ) × (k < n) × (f k < g k)) → (k : ℕ) × (k < suc n) × (f k < g k)
-    go (yes l) r = (n, omega arith, l)
-    go (no m) r = let w : (k : ℕ) × (k < n) × (f k < g k) = r (omega arith) in (w .0, omega arith, w .2)
 
 -- a sum over the members of a list of numbers below n, by places
 pub sumOf-places : (f : ℕ → ℕ) (n : ℕ) (l : List ℕ) → ((u : ℕ) → 0 < occ u l → u < n) → sumOf f l ≡ sumTo n (λ t. occ t l * f t)
@@ -177,8 +146,9 @@ module _ (f : ℕ → ℕ) (n : ℕ) (l : List ℕ) (below : (u : ℕ) → 0 < o
   sumOf-missing h = go (sum-find-lt n (λ u. occ u l * f u) f (omega (arith, sumOf-places f n l below)))
     where
       go : (t : ℕ) × (t < n) × (occ t l * f t < f t) → (t : ℕ) × (t < n) × (0 < f t) × (occ t l ≡ 0)
-      go w = (w .0, w .1, omega (arith, w .2), at (ℕ-discrete (occ (w .0) l) 0))
-        where
-          at : Dec (occ (w .0) l ≡ 0) → occ (w .0) l ≡ 0
-          at (yes e) = e
-          at (no m) = absurd (omega (arith, w .2, one-mul (f (w .0)), mul-le-mul-right {m = 1} {n = occ (w .0) l} (f (w .0)) (omega arith)))
+      go w = (
+        w .0,
+        w .1,
+        omega (arith, w .2),
+        stable (ℕ-discrete (occ (w .0) l) 0) (λ m. omega (arith, w .2, one-mul (f (w .0)), mul-le-mul-right {m = 1} {n = occ (w .0) l} (f (w .0)) (omega arith))),
+      )

@@ -1,11 +1,11 @@
 -- The cases of the judging call and of the lookup, over plain lists.
-use Prim.Native.Nat.{ℕ, _+_, _-_, _≤_, _<_}
+use Prim.Native.Nat.{ℕ, _+_, _≤_, _<_}
 use mathlib.Core.Path.{_≡_, refl, sym, ap, _∙_}
-use mathlib.Core.Bool.{Bool, true, false, not, cond, _&&_}
+use mathlib.Core.Bool.{Bool, true, false, not, _&&_}
 use mathlib.Core.List.{List, []}
 use native.Mathlib.Omega.{arith}
-use lib.ListN.{length, getD, take, drop}
-use lib.Dec.{ltb, eqb}
+use lib.ListN.{length, getD}
+use lib.Dec.{eqb}
 use borrow.Author.Tests.{lt-ltb, le-ltb, eqb-true, not-true, not-false}
 use Rattle.lists.specs.Decided.{holds}
 use Rattle.lists.proofs.Told.{and-true}
@@ -16,10 +16,9 @@ use Rattle.task.specs.declared.Answer.the-variants.{Refused, Accepted}
 use Rattle.task.specs.declared.Side.{Side}
 use Rattle.task.specs.declared.Side.the-variants.{Predecessors, Successors}
 use Rattle.graph.specs.Graph.{part}
-use Rattle.graph.specs.Conditions.{Good}
 use Rattle.graph.specs.Decide.{good?}
 use Rattle.graph.specs.Check.{sizesFit}
-use Rattle.graph.specs.Lookup.{Lent, startsOn, wordsOn, lengthsFit, taskFits, judgeAnswer, handed, neighboursOf, LookupFits}
+use Rattle.graph.specs.Lookup.{Lent, startsOn, wordsOn, lengthsFit, taskFits, judgeAnswer, neighboursOf, LookupFits}
 use Rattle.graph.proofs.Lookup.{judge-accepts, lookup-part}
 use Rattle.lookup.specs.Fits.{partFits, sideFits}
 use Rattle.task.specs.Refusals.{answerSays}

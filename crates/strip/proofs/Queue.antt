@@ -1,46 +1,18 @@
 -- Laws of the queue over plain lists: what one task more at its end changes, and how steps compose.
 use Prim.Native.Nat.{ℕ, suc, _+_, _-_, _≤_, _<_}
 use mathlib.Core.Path.{_≡_, refl, sym, ap, _∙_}
-use mathlib.Core.List.{List, [], _∷_, _++_}
+use mathlib.Core.List.{List, [], _∷_}
 use native.Mathlib.Omega.{arith}
-use native.Mathlib.Numerals.{add-one}
 use native.Mathlib.Decide.{ℕ-discrete, decLt}
-use lib.ListN.{length, getD, set, take, length-set, List·getD-eq-default}
-use lib.Seq.{length-take-le, take-suc, take-suc-set, take-set-le, take-take, take-all, getD-set-same, getD-set-other}
-use Rattle.lists.specs.Decided.{tally}
+use lib.ListN.{length, getD, set, take, length-set}
+use lib.Seq.{length-take-le, take-set-le, take-all, getD-set-same, getD-set-other}
 use Rattle.lists.specs.Lists.{occ}
-use Rattle.lists.proofs.Decided.{tally-yes, tally-no, tally-le-one, tally-pos}
-use Rattle.lists.proofs.Occurrences.{occ-nil, occ-cons, occ-hit, occ-miss, occ-append, occ-split}
-use Rattle.lists.proofs.Sums.{sum-lt, sum-one, length-occ}
+use Rattle.lists.proofs.Decided.{stable, tally-yes, tally-no, tally-le-one, tally-pos}
+use Rattle.lists.proofs.Occurrences.{occ-nil, occ-hit, occ-miss, occ-split}
+use Rattle.lists.proofs.Sums.{short-without}
+use Rattle.lists.proofs.Prefixes.{occ-single, occ-more, occ-more-hit, occ-store, take-same, inside}
 use Rattle.graph.specs.Graph.{Among}
 use Rattle.strip.specs.Queue.{stripped, queuedAt, Queued, Looked, Sinks, Lowered}
-
--- the first i and one more
-pub take-more : (l : List ℕ) (i : ℕ) → i < length l → take (i + 1) l ≡ take i l ++ (getD l i 0 ∷ [])
-take-more l i h = rw (add-one i) (take-suc l i 0 h)
-
-pub occ-more : (l : List ℕ) (i u : ℕ) → i < length l → occ u (take (i + 1) l) ≡ occ u (take i l) + tally (ℕ-discrete u (getD l i 0))
-occ-more l i u h =
-    ap (occ u) (take-more l i h)
-    ∙ omega (arith, occ-append ℕ-discrete u (take i l) (getD l i 0 ∷ []), occ-cons ℕ-discrete u (getD l i 0) [], occ-nil ℕ-discrete u)
-
--- no more in the first i than in the first k
-pub occ-take-le : (l : List ℕ) (i k u : ℕ) → i ≤ k → occ u (take i l) ≤ occ u (take k l)
-occ-take-le l i k u h = omega (arith, occ-split ℕ-discrete u i (take k l), ap (occ u) (take-take i k l h))
-
--- a store at the end
-take-push : (queue : List ℕ) (tail t : ℕ) → tail < length queue → take (tail + 1) (set queue tail t) ≡ take tail queue ++ (t ∷ [])
-take-push queue tail t h = rw (add-one tail) (take-suc-set queue tail t h)
-
-push : (queue : List ℕ) (tail t u : ℕ) → tail < length queue → queuedAt (set queue tail t) (tail + 1) u ≡ queuedAt queue tail u + tally (ℕ-discrete u t)
-push queue tail t u h =
-    ap (occ u) (take-push queue tail t h)
-    ∙ omega (arith, occ-append ℕ-discrete u (take tail queue) (t ∷ []), occ-cons ℕ-discrete u t [], occ-nil ℕ-discrete u)
-
--- a list of numbers below n, each once, without one of them
-short-without : (n : ℕ) (l : List ℕ) → ((u : ℕ) → Among u l → u < n) → ((u : ℕ) → occ u l ≤ 1) → (t : ℕ) → t < n → occ t l ≡ 0 → length l < n
-short-without n l below once t h z =
-    omega (arith, length-occ n l below, sum-lt n (λ u. occ u l) (λ u. 1) (λ u m. once u) t h (omega arith), sum-one n)
 
 -- a task without successors left is counted as 1, another as 0
 pub stripped-none : (left : List ℕ) (u : ℕ) → getD left u 0 ≡ 0 → stripped left u ≡ 1
@@ -54,14 +26,6 @@ stripped-is left u h = tally-pos (ℕ-discrete (getD left u 0) 0) h
 
 pub stripped-le : (left : List ℕ) (u : ℕ) → stripped left u ≤ 1
 stripped-le left u = tally-le-one (ℕ-discrete (getD left u 0) 0)
-
--- a task with a count stands in the list
-pub counted-lt : (l : List ℕ) (u : ℕ) → 0 < getD l u 0 → u < length l
-counted-lt l u h = go (decLt u (length l))
-  where
-    go : Dec (u < length l) → u < length l
-    go (yes m) = m
-    go (no m) = absurd (omega (arith, List·getD-eq-default l 0 {n = u} (omega arith)))
 
 module _ (left queue : List ℕ) (tail : ℕ) (q : Queued left queue tail) where
   -- there is room for a task that is not queued
@@ -86,10 +50,10 @@ module _ (left queue : List ℕ) (tail : ℕ) (q : Queued left queue tail) where
 
   module _ (t : ℕ) (h : t < 1024) (z : queuedAt queue tail t ≡ 0) where
     push-here : queuedAt (set queue tail t) (tail + 1) t ≡ 1
-    push-here = omega (arith, push queue tail t t (omega (arith, q .room, room-for t h z)), tally-yes (ℕ-discrete t t) refl)
+    push-here = omega (arith, occ-store queue tail t (omega (arith, q .room, room-for t h z)) t, tally-yes (ℕ-discrete t t) refl)
 
     push-other : (u : ℕ) → ¬ (u ≡ t) → queuedAt (set queue tail t) (tail + 1) u ≡ queuedAt queue tail u
-    push-other u n = omega (arith, push queue tail t u (omega (arith, q .room, room-for t h z)), tally-no (ℕ-discrete u t) n)
+    push-other u n = omega (arith, occ-store queue tail t (omega (arith, q .room, room-for t h z)) u, tally-no (ℕ-discrete u t) n)
 
     -- the queue with one task more, for counts in which that task has none left and the others what they had
     pushed : (left′ : List ℕ) → length left′ ≡ 1024 → getD left′ t 0 ≡ 0 → ((u : ℕ) → ¬ (u ≡ t) → getD left′ u 0 ≡ getD left u 0) → Queued left′ (set queue tail t) (tail + 1)
@@ -129,14 +93,14 @@ module _ (left queue : List ℕ) (tail : ℕ) (q : Queued left queue tail) where
   -- one successor less for task u
   module _ (u : ℕ) (some : 0 < getD left u 0) where
     pub lower-at : u < 1024
-    lower-at = omega (arith, counted-lt left u some, q .lefts)
+    lower-at = omega (arith, inside left u some, q .lefts)
 
     fewer : List ℕ
     fewer = set left u (getD left u 0 - 1)
 
     fewer-here : getD fewer u 0 ≡ getD left u 0 - 1
     unfolding fewer
-    fewer-here = getD-set-same left u (getD left u 0 - 1) 0 (counted-lt left u some)
+    fewer-here = getD-set-same left u (getD left u 0 - 1) 0 (inside left u some)
 
     fewer-other : (v : ℕ) → ¬ (v ≡ u) → getD fewer v 0 ≡ getD left v 0
     unfolding fewer
@@ -179,11 +143,7 @@ module _ (left queue : List ℕ) (tail : ℕ) (q : Queued left queue tail) where
         }
       where
         same : (v : ℕ) → Dec (v ≡ u) → stripped fewer v ≡ stripped left v
-        same v (yes p) = rw p (omega (arith, stripped-some left u some, stripped-some fewer u (positive (ℕ-discrete (getD left u 0 - 1) 0))))
-          where
-            positive : Dec (getD left u 0 - 1 ≡ 0) → 0 < getD fewer u 0
-            positive (yes e) = absurd (m e)
-            positive (no n) = omega (arith, fewer-here)
+        same v (yes p) = rw p (omega (arith, stripped-some left u some, stripped-some fewer u (stable (decLt 0 (getD fewer u 0)) (λ n. m (omega (arith, fewer-here))))))
         same v (no n) = rw (fewer-other v n)
 
         count : (v : ℕ) → Dec (v ≡ u) → queuedAt queue tail v ≤ stripped fewer v
@@ -238,10 +198,8 @@ module _ (words left₀ left queue₀ queue : List ℕ) (tail₀ tail i : ℕ) (
         arith,
         l .counts (getD words i 0),
         f (getD words i 0),
-        occ-more words i (getD words i 0) h,
-        tally-yes (ℕ-discrete (getD words i 0) (getD words i 0)) refl,
-        occ-take-le words (i + 1) (length words) (getD words i 0) (omega arith),
-        ap (occ (getD words i 0)) (take-all (length words) words (omega arith)),
+        occ-more-hit words i h (getD words i 0) refl,
+        occ-split ℕ-discrete (getD words i 0) (i + 1) words,
       )
 
   pub lowered-next : (left′ queue′ : List ℕ) (tail′ : ℕ) → Lowered (getD words i 0 ∷ []) left left′ queue queue′ tail tail′
@@ -249,9 +207,9 @@ module _ (words left₀ left queue₀ queue : List ℕ) (tail₀ tail i : ℕ) (
   lowered-next left′ queue′ tail′ m =
       record {
         queued = m .queued;
-        counts = λ u. omega (arith, l .counts u, m .counts u, occ-more words i u h, occ-cons ℕ-discrete u (getD words i 0) [], occ-nil ℕ-discrete u);
+        counts = λ u. omega (arith, l .counts u, m .counts u, occ-more words i h u, occ-single u (getD words i 0));
         joins = λ u. omega (arith, l .joins u, m .joins u);
-        front = sym (take-take tail₀ tail queue′ (l .longer)) ∙ ap (take tail₀) (m .front) ∙ take-take tail₀ tail queue (l .longer) ∙ l .front;
+        front = take-same queue′ queue tail₀ tail (l .longer) (m .front) ∙ l .front;
         longer = omega (arith, l .longer, m .longer);
       }
 

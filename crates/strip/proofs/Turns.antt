@@ -1,21 +1,22 @@
 -- What holds at each turn of the stripping, that each turn keeps it, and what it says where the queue is used up.
 use Prim.Native.Nat.{ℕ, _+_, _≤_, _<_}
-use mathlib.Core.Path.{_≡_, refl, sym, ap, _∙_}
+use mathlib.Core.Path.{_≡_, refl, ap, _∙_}
 use mathlib.Core.Logic.{_↔_}
 use mathlib.Core.List.{List, [], _∷_}
 use native.Mathlib.Omega.{arith}
 use native.Mathlib.Decide.{ℕ-discrete, decLt}
 use lib.ListN.{length, getD, take}
-use lib.Seq.{take-take}
 use Rattle.lists.specs.Lists.{occ}
 use Rattle.lists.specs.Sums.{sumOf}
-use Rattle.lists.proofs.Decided.{tally-yes}
-use Rattle.lists.proofs.Sums.{sum-term, sumOf-append, sumOf-other, sumOf-missing}
+use Rattle.lists.proofs.Decided.{stable}
+use Rattle.lists.proofs.Sums.{sum-prefix, sumOf-nil, sumOf-single, sumOf-append, sumOf-other, sumOf-missing}
+use Rattle.lists.proofs.Prefixes.{take-more, occ-more-hit, occ-take-le, occ-early, take-same}
 use Rattle.graph.specs.Graph.{Graph, Among, predsOf, Edge}
 use Rattle.graph.specs.Conditions.{Sound, ToCycle}
+use Rattle.graph.proofs.Parts.{occ-preds, preds-beyond}
 use Rattle.strip.specs.Queue.{queuedAt, Sinks, Lowered}
-use Rattle.strip.proofs.Closed.{after-cycle, closed, edges-from, edges-beyond}
-use Rattle.strip.proofs.Queue.{take-more, occ-more, occ-take-le, stripped-none, stripped-le, queued-once, queued-none}
+use Rattle.strip.proofs.Closed.{after-cycle, closed}
+use Rattle.strip.proofs.Queue.{stripped-none, stripped-le, queued-once, queued-none}
 
 -- how many of u's edges lead to the tasks of a list
 abbrev pub edgesTo : Graph → ℕ → List ℕ → ℕ
@@ -37,14 +38,6 @@ pub record Ranges (g : Graph) (t : ℕ) : Type 0 where
   pub inside : getD (g .starts) (t + 1) 0 ≤ length (g .preds)
   pub edges : length (g .preds) ≤ 8192
 
-sumOf-nil : (f : ℕ → ℕ) → sumOf f [] ≡ 0
-unfolding sumOf
-sumOf-nil f = refl
-
-sumOf-single : (f : ℕ → ℕ) (x : ℕ) → sumOf f (x ∷ []) ≡ f x
-unfolding sumOf
-sumOf-single f x = omega arith
-
 module _ (g : Graph) (sound : Sound g) (left queue : List ℕ) where
   -- at the start: a task without successors has no path
   pub strip-starts : (tail : ℕ) → Sinks 0 (g .tasks) left queue tail → ((u : ℕ) → getD left u 0 ≡ occ u (g .preds)) → Stripping g left queue 0 tail
@@ -58,7 +51,7 @@ module _ (g : Graph) (sound : Sound g) (left queue : List ℕ) where
     where
       none : (u : ℕ) → getD left u 0 ≡ 0 → (t : ℕ) × (Edge g u t × ToCycle g t) → ⊥
       none u z w =
-          omega (arith, e u, edges-from g sound u, sum-term (g .tasks) (λ t. occ u (predsOf g t)) (w .0) (w .1 .0 .task), w .1 .0 .predecessor)
+          omega (arith, e u, occ-preds sound u, sum-prefix (g .tasks) (λ t. occ u (predsOf g t)) (w .0) (w .1 .0 .task), w .1 .0 .predecessor)
 
   module _ (head tail : ℕ) (s : Stripping g left queue head tail) where
     queue-length : tail ≤ length queue
@@ -66,11 +59,7 @@ module _ (g : Graph) (sound : Sound g) (left queue : List ℕ) where
 
     -- a queued task is a task
     queued-below : (u : ℕ) → Among u (take tail queue) → u < g .tasks
-    queued-below u h = go (decLt u (g .tasks))
-      where
-        go : Dec (u < g .tasks) → u < g .tasks
-        go (yes m) = m
-        go (no m) = absurd (omega (arith, s .sinks .beyond u (omega arith)))
+    queued-below u h = stable (decLt u (g .tasks)) (λ m. omega (arith, s .sinks .beyond u (omega arith)))
 
     module _ (k : ℕ) (k≤tail : k ≤ tail) where
       part-below : (u : ℕ) → Among u (take k queue) → u < g .tasks
@@ -82,26 +71,14 @@ module _ (g : Graph) (sound : Sound g) (left queue : List ℕ) where
       -- edges to some of the queued tasks and to another task
       other-edges : (u t : ℕ) → t < g .tasks → occ t (take k queue) ≡ 0 → edgesTo g u (take k queue) + occ u (predsOf g t) ≤ occ u (g .preds)
       other-edges u t h z =
-          omega (arith, edges-from g sound u, sumOf-other (λ x. occ u (predsOf g x)) (g .tasks) (take k queue) part-below part-once t h z)
+          omega (arith, occ-preds sound u, sumOf-other (λ x. occ u (predsOf g x)) (g .tasks) (take k queue) part-below part-once t h z)
 
     module _ (more : head < tail) where
       next-queued : Among (getD queue head 0) (take tail queue)
-      next-queued =
-          omega (
-            arith,
-            occ-more queue head (getD queue head 0) (omega (arith, queue-length)),
-            tally-yes (ℕ-discrete (getD queue head 0) (getD queue head 0)) refl,
-            occ-take-le queue (head + 1) tail (getD queue head 0) (omega arith),
-          )
+      next-queued = occ-early queue tail head more queue-length
 
       next-new : occ (getD queue head 0) (take head queue) ≡ 0
-      next-new =
-          omega (
-            arith,
-            occ-more queue head (getD queue head 0) (omega (arith, queue-length)),
-            tally-yes (ℕ-discrete (getD queue head 0) (getD queue head 0)) refl,
-            part-once (head + 1) (omega arith) (getD queue head 0),
-          )
+      next-new = omega (arith, occ-more-hit queue head (omega (arith, queue-length)) (getD queue head 0) refl, part-once (head + 1) (omega arith) (getD queue head 0))
 
       next-task : getD queue head 0 < g .tasks
       next-task = queued-below (getD queue head 0) next-queued
@@ -141,7 +118,7 @@ module _ (g : Graph) (sound : Sound g) (left queue : List ℕ) where
 
       module _ (left′ queue′ : List ℕ) (tail′ : ℕ) (l : Lowered (predsOf g (getD queue head 0)) left left′ queue queue′ tail tail′) where
         same-front : take (head + 1) queue′ ≡ take (head + 1) queue
-        same-front = sym (take-take (head + 1) tail queue′ (omega arith)) ∙ ap (take (head + 1)) (l .front) ∙ take-take (head + 1) tail queue (omega arith)
+        same-front = take-same queue′ queue (head + 1) tail (omega arith) (l .front)
 
         counts-next : (u : ℕ) → getD left′ u 0 + edgesTo g u (take (head + 1) queue) ≡ occ u (g .preds)
         counts-next u = omega (arith, l .counts u, s .counts u, edges-more u)
@@ -162,7 +139,7 @@ module _ (g : Graph) (sound : Sound g) (left queue : List ℕ) where
           where
             -- beyond the tasks nothing is counted
             outside : (u : ℕ) → g .tasks ≤ u → queuedAt queue′ tail′ u ≡ 0
-            outside u h = omega (arith, l .joins u, s .sinks .beyond u h, stripped-none left u (omega (arith, s .counts u, edges-beyond g sound u h)), stripped-le left′ u)
+            outside u h = omega (arith, l .joins u, s .sinks .beyond u h, stripped-none left u (omega (arith, s .counts u, preds-beyond sound u h)), stripped-le left′ u)
 
             clear : (u : ℕ) → Among u (take tail′ queue′) → Dec (queuedAt queue tail u ≡ 0) → ¬ (ToCycle g u)
             clear u h (no n) = s .away u (omega arith)
@@ -172,18 +149,13 @@ module _ (g : Graph) (sound : Sound g) (left queue : List ℕ) where
       -- a task with successors left has one among them
       stays : (u : ℕ) → (u < g .tasks) × (0 < getD left u 0) → (t : ℕ) × (Edge g u t × ((t < g .tasks) × (0 < getD left t 0)))
       stays u r =
-          go (sumOf-missing (λ t. occ u (predsOf g t)) (g .tasks) (take head queue) (part-below head (s .reached)) (omega (arith, s .counts u, r .1, edges-from g sound u)))
+          go (sumOf-missing (λ t. occ u (predsOf g t)) (g .tasks) (take head queue) (part-below head (s .reached)) (omega (arith, s .counts u, r .1, occ-preds sound u)))
         where
           go : (t : ℕ) × (t < g .tasks) × (0 < occ u (predsOf g t)) × (occ t (take head queue) ≡ 0) → (t : ℕ) × (Edge g u t × ((t < g .tasks) × (0 < getD left t 0)))
-          go w = (w .0, (record { task = w .1; predecessor = w .2 }, (w .1, at (ℕ-discrete (getD left (w .0) 0) 0))))
+          go w = (w .0, (record { task = w .1; predecessor = w .2 }, (w .1, stable (decLt 0 (getD left (w .0) 0)) left-over)))
             where
-              at : Dec (getD left (w .0) 0 ≡ 0) → 0 < getD left (w .0) 0
-              at (yes z) = absurd (omega (arith, w .3, occ-take-le queue tail head (w .0) end, s .sinks .looked (w .0) (omega arith) (w .1), stripped-none left (w .0) z))
-              at (no n) = omega arith
+              left-over : ¬ (¬ (0 < getD left (w .0) 0))
+              left-over n = omega (arith, w .3, occ-take-le queue tail head (w .0) end, s .sinks .looked (w .0) (omega arith) (w .1), stripped-none left (w .0) (omega arith))
 
       pub strip-ends : (t : ℕ) → t < g .tasks → (0 < getD left t 0) ↔ ToCycle g t
-      strip-ends t h = (λ m. closed g (λ u. (u < g .tasks) × (0 < getD left u 0)) stays t (h, m), λ c. some c (ℕ-discrete (getD left t 0) 0))
-        where
-          some : ToCycle g t → Dec (getD left t 0 ≡ 0) → 0 < getD left t 0
-          some c (yes z) = absurd (s .away t (omega (arith, s .sinks .looked t (omega arith) h, stripped-none left t z)) c)
-          some c (no n) = omega arith
+      strip-ends t h = (λ m. closed g (λ u. (u < g .tasks) × (0 < getD left u 0)) stays t (h, m), λ c. stable (decLt 0 (getD left t 0)) (λ n. s .away t (omega (arith, s .sinks .looked t (omega arith) h, stripped-none left t (omega arith))) c))

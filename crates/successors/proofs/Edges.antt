@@ -1,36 +1,23 @@
 -- A sound graph's edges, counted by predecessor and by task, and its successors laid down task by task.
-use Prim.Native.Nat.{ℕ, zero, suc, _+_, _-_, _≤_, _<_}
+use Prim.Native.Nat.{ℕ, _+_, _≤_, _<_}
 use mathlib.Core.Path.{_≡_, refl, sym, ap, _∙_}
 use mathlib.Core.List.{List, [], _++_}
 use native.Mathlib.Omega.{arith}
-use native.Mathlib.Decide.{ℕ-discrete}
 use native.Mathlib.Numerals.{add-one}
-use lib.ListN.{length, getD, take, drop, replicate, length-take, length-drop, length-replicate}
-use lib.Seq.{take-length}
-use Rattle.lists.specs.Lists.{occ, joined, tabulate}
+use lib.ListN.{length, getD, replicate}
+use Rattle.lists.specs.Lists.{occ, joined}
 use Rattle.lists.specs.Sums.{sumTo}
-use Rattle.lists.proofs.Occurrences.{occ-joined}
-use Rattle.lists.proofs.Sums.{sum-same, sum-prefix, sum-find, length-joined, length-occ}
-use Rattle.lists.proofs.Blocks.{joined-same}
-use Rattle.graph.specs.Graph.{Graph, Among, part, predsOf}
+use Rattle.lists.proofs.Sums.{sum-same, sum-prefix, length-joined}
+use Rattle.lists.proofs.Blocks.{tabulate-same}
+use Rattle.graph.specs.Graph.{Graph, predsOf}
 use Rattle.graph.specs.Conditions.{Sound}
 use Rattle.graph.specs.Successors.{succsBelow, succsOf, succStart, succStarts, succWords, degreeList}
+use Rattle.graph.proofs.Parts.{length-part}
+use Rattle.graph.proofs.Reversed.{length-succsBelow, length-succs, length-succWords}
 use Rattle.successors.specs.Filling.{Rising, gaps, sumBelow, Summed, placedOf, placeAll, Room, Begun}
-use Rattle.successors.proofs.Places.{Filled, filled-same, filled-room, filled-all, filled-whole, joined-parts}
-
-pub tabulate-same : {A : Type 0} (n : ℕ) (f g : ℕ → A) → ((k : ℕ) → k < n → f k ≡ g k) → tabulate n f ≡ tabulate n g
-unfolding tabulate
-tabulate-same zero f g h = refl
-tabulate-same (suc n) f g h = rw (h 0 (omega arith), tabulate-same n (λ k. f (suc k)) (λ k. g (suc k)) (λ k m. h (suc k) (omega arith)))
+use Rattle.successors.proofs.Places.{Filled, filled-same, filled-room, filled-all, filled-whole}
 
 module _ (g : Graph) where
-  -- u's successors below t are as many as u is predecessor of a task below t
-  pub succs-length : (t u : ℕ) → length (succsBelow g t u) ≡ sumTo t (λ k. occ u (predsOf g k))
-  unfolding succsBelow
-  succs-length t u =
-      length-joined t (λ k. replicate (occ u (predsOf g k)) k)
-      ∙ sum-same t (λ k. occ u (predsOf g k)) (λ k. length (replicate (occ u (predsOf g k)) k)) (λ k m. length-replicate (occ u (predsOf g k)) k)
-
   succs-more : (t u : ℕ) → succsBelow g (t + 1) u ≡ succsBelow g t u ++ replicate (occ u (predsOf g t)) t
   unfolding succsBelow joined
   succs-more t u = rw (add-one t)
@@ -51,48 +38,12 @@ module _ (g : Graph) where
   words-are = refl
 
   module _ (s : Sound g) where
-    pub preds-length : (t : ℕ) → t < g .tasks → length (predsOf g t) ≡ getD (g .starts) (t + 1) 0 - getD (g .starts) t 0
-    unfolding part
-    preds-length t h =
-        omega (arith, length-take (getD (g .starts) (t + 1) 0 - getD (g .starts) t 0) (drop (getD (g .starts) t 0) (g .preds)), length-drop (getD (g .starts) t 0) (g .preds), s .good t h .rises, s .good t h .inside)
-
-    starts-sum : (t : ℕ) → t ≤ g .tasks → sumTo t (λ k. length (predsOf g k)) ≡ getD (g .starts) t 0
-    unfolding sumTo
-    starts-sum zero h = sym (s .ends .first)
-    starts-sum (suc t) h =
-        omega (arith, starts-sum t (omega arith), preds-length t h, s .good t h .rises, ap (λ (k : ℕ). getD (g .starts) k 0) (add-one t))
-
-    preds-joined : joined (g .tasks) (predsOf g) ≡ g .preds
-    preds-joined =
-        joined-same (g .tasks) (λ t. take (length (predsOf g t)) (drop (sumTo t (λ k. length (predsOf g k))) (g .preds))) (predsOf g) cut
-        ∙ joined-parts (g .tasks) (λ t. length (predsOf g t)) (g .preds)
-        ∙ ap (λ (k : ℕ). take k (g .preds)) (starts-sum (g .tasks) (omega arith) ∙ s .ends .last)
-        ∙ take-length (g .preds)
-      where
-        cut : (t : ℕ) → t < g .tasks → predsOf g t ≡ take (length (predsOf g t)) (drop (sumTo t (λ k. length (predsOf g k))) (g .preds))
-        cut t h = sym (ap (λ (k : ℕ). take k (drop (sumTo t (λ k. length (predsOf g k))) (g .preds))) (preds-length t h) ∙ ap (λ (k : ℕ). take (getD (g .starts) (t + 1) 0 - getD (g .starts) t 0) (drop k (g .preds))) (starts-sum t (omega arith)) ∙ part-is t)
-          where
-            part-is : (t : ℕ) → take (getD (g .starts) (t + 1) 0 - getD (g .starts) t 0) (drop (getD (g .starts) t 0) (g .preds)) ≡ predsOf g t
-            part-is t = unfold part in refl
-
-    occ-preds : (u : ℕ) → occ u (g .preds) ≡ sumTo (g .tasks) (λ t. occ u (predsOf g t))
-    occ-preds u = ap (λ (l : List ℕ). occ u l) (sym preds-joined) ∙ occ-joined ℕ-discrete u (g .tasks) (predsOf g)
-
-    -- u has as many successors as it stands among the predecessors
-    pub succs-occ : (u : ℕ) → occ u (g .preds) ≡ succCount u
-    succs-occ u = occ-preds u ∙ sym (succs-length (g .tasks) u)
-
-    pub preds-below : (u : ℕ) → Among u (g .preds) → u < g .tasks
-    preds-below u h = go (sum-find (g .tasks) (λ t. occ u (predsOf g t)) (omega (arith, occ-preds u)))
-      where
-        go : (t : ℕ) × (t < g .tasks) × (0 < occ u (predsOf g t)) → u < g .tasks
-        go w = s .good (w .0) (w .1) .below u (w .2)
-
-    pub edges-sum : length (g .preds) ≡ sumTo (g .tasks) succCount
-    edges-sum = length-occ (g .tasks) (g .preds) preds-below ∙ sym (sum-same (g .tasks) (λ u. occ u (g .preds)) succCount (λ u h. sym (succs-occ u)))
+    edges-sum : length (g .preds) ≡ sumTo (g .tasks) succCount
+    unfolding succWords
+    edges-sum = sym (length-succWords g s) ∙ length-joined (g .tasks) (succsOf g)
 
     pub succs-room : (t : ℕ) → t < g .tasks → (u : ℕ) → length (succsBelow g t u) + occ u (predsOf g t) ≤ succCount u
-    succs-room t h u = omega (arith, succs-length t u, succs-length (g .tasks) u, sum-prefix (g .tasks) (λ k. occ u (predsOf g k)) t h)
+    succs-room t h u = omega (arith, length-succsBelow g t u, length-succsBelow g (g .tasks) u, sum-prefix (g .tasks) (λ k. occ u (predsOf g k)) t h)
 
 -- the successors below t are laid down
 pub record Laying (g : Graph) (next₀ succs₀ next succs : List ℕ) (t : ℕ) : Type 0 where
@@ -148,12 +99,12 @@ module _ (g : Graph) (s : Sound g) where
 
   pub gaps-degrees : (degrees : List ℕ) → degrees ≡ gaps (g .tasks) (g .starts) → degrees ≡ degreeList g
   unfolding gaps degreeList
-  gaps-degrees degrees e = e ∙ tabulate-same (g .tasks) _ _ (λ t h. sym (preds-length g s t h))
+  gaps-degrees degrees e = e ∙ tabulate-same (g .tasks) _ _ (λ t h. sym (length-part (s .good t h)))
 
   module _ (counts : List ℕ) (counted : (u : ℕ) → getD counts u 0 ≡ occ u (g .preds)) where
     sums-start : (u : ℕ) → sumBelow counts u ≡ succStart g u
     unfolding sumBelow succStart
-    sums-start u = sum-same u (succCount g) (λ v. getD counts v 0) (λ v h. counted v ∙ succs-occ g s v)
+    sums-start u = sum-same u (succCount g) (λ v. getD counts v 0) (λ v h. counted v ∙ sym (length-succs g s v))
 
     pub sums-fit : sumBelow counts (g .tasks) ≤ 8192
     sums-fit = omega (arith, sums-start (g .tasks), start-is g (g .tasks), edges-sum g s, s .sized .edges)

@@ -1,19 +1,20 @@
 -- Laws of the stores at next free places: what room they need, and how they fill the blocks.
-use Prim.Native.Nat.{ℕ, zero, suc, _+_, _-_, _≤_, _<_}
+use Prim.Native.Nat.{ℕ, suc, _+_, _-_, _≤_, _<_}
 use mathlib.Core.Path.{_≡_, refl, sym, ap, _∙_}
 use mathlib.Core.List.{List, [], _∷_, _++_, append-nil, append-assoc}
 use native.Mathlib.Omega.{arith}
 use native.Mathlib.Decide.{ℕ-discrete, decLt}
 use native.Mathlib.Numerals.{add-one}
 use lib.ListN.{length, getD, set, take, drop, replicate, length-set, length-append, length-drop, length-replicate, replicate-append-replicate}
-use lib.Seq.{getD-set-same, getD-set-other, drop-cons, drop-length, drop-set-add, drop-set-lt, take-suc-set, take-set-le, take-add, take-length}
+use lib.Seq.{getD-set-same, getD-set-other, drop-cons, drop-length, drop-set-add, drop-set-lt, take-set-le, take-length}
 use Rattle.lists.specs.Decided.{tally}
 use Rattle.lists.specs.Lists.{occ, joined}
 use Rattle.lists.specs.Sums.{sumTo}
 use Rattle.lists.proofs.Decided.{tally-yes, tally-no}
 use Rattle.lists.proofs.Occurrences.{occ-nil, occ-cons, occ-hit, occ-miss}
 use Rattle.lists.proofs.Sums.{sum-prefix}
-use Rattle.lists.proofs.Blocks.{joined-same}
+use Rattle.lists.proofs.Prefixes.{take-store}
+use Rattle.lists.proofs.Blocks.{joined-same, joined-parts}
 use Rattle.graph.specs.Graph.{Among}
 use Rattle.successors.specs.Filling.{Placed, placedOf, placeOne, placeAll, Room}
 
@@ -97,7 +98,7 @@ store-here : (k l : List ℕ) (s t : ℕ) → s + length k < length l → take (
     → take (length (k ++ (t ∷ []))) (drop s (set l (s + length k) t)) ≡ k ++ (t ∷ [])
 store-here k l s t h e =
     rw (length-append k (t ∷ []), drop-set-add s l (length k) t)
-    (rw (add-one (length k)) (take-suc-set (drop s l) (length k) t (omega (arith, length-drop s l)) ∙ ap (λ (r : List ℕ). r ++ (t ∷ [])) e))
+    (take-store (drop s l) (length k) t (omega (arith, length-drop s l)) ∙ ap (λ (r : List ℕ). r ++ (t ∷ [])) e)
 
 store-before : (k s i t : ℕ) (l : List ℕ) → i < s → take k (drop s (set l i t)) ≡ take k (drop s l)
 store-before k s i t l h = ap (λ (r : List ℕ). take k r) (drop-set-lt s l i t h)
@@ -191,12 +192,6 @@ module _ (n : ℕ) (size : ℕ → ℕ) where
 
       rest : (u : ℕ) → u < n → length (with-x u) + occ u words ≤ size u
       rest u h = omega (arith, r u h, occ-cons ℕ-discrete u x words, length-append (f u) (replicate (tally (ℕ-discrete u x)) t), length-replicate (tally (ℕ-discrete u x)) t)
-
--- a list cut into parts of the given sizes
-pub joined-parts : (n : ℕ) (size : ℕ → ℕ) (l : List ℕ) → joined n (λ u. take (size u) (drop (sumTo u size) l)) ≡ take (sumTo n size) l
-unfolding joined sumTo
-joined-parts zero size l = refl
-joined-parts (suc n) size l = ap (λ (k : List ℕ). k ++ take (size n) (drop (sumTo n size) l)) (joined-parts n size l) ∙ sym (take-add (sumTo n size) (size n) l)
 
 -- when every block is full, the blocks are all
 pub filled-whole : (n : ℕ) (size : ℕ → ℕ) (f : ℕ → List ℕ) (p : Placed) → Filled n size f p → ((u : ℕ) → u < n → length (f u) ≡ size u) → p .succs ≡ joined n f

@@ -1,44 +1,29 @@
 -- Laws over plain lists and numbers that the leaves' proofs cite.
-use Prim.Native.Nat.{ℕ, zero, suc, _+_, _-_, _≤_, _<_}
+use Prim.Native.Nat.{ℕ, _+_, _-_, _≤_, _<_}
 use mathlib.Core.Path.{_≡_, refl, sym, _∙_}
-use mathlib.Core.List.{List, [], _∷_, _++_}
+use mathlib.Core.List.{List}
 use native.Mathlib.Omega.{arith}
-use native.Mathlib.Numerals.{add-one}
 use native.Mathlib.Decide.{ℕ-discrete, decLt}
 use mathlib.Core.Bool.{Bool, true, false, not, _&&_}
 use borrow.Author.Tests.{eq-eqb, ne-eqb, not-true, not-false}
 use lib.Dec.{leb, eqb}
-use lib.ListN.{length, getD, set, take, drop, replicate}
-use lib.Seq.{take-suc, take-all, length-take-le, getD-set-same, getD-set-other}
+use lib.ListN.{length, getD, set, take, drop}
+use lib.Seq.{take-all, length-take-le, getD-set-same, getD-set-other}
 use Rattle.lists.specs.Lists.{occ}
 use Rattle.lists.specs.Decided.{holds}
-use Rattle.lists.proofs.Decided.{yes-holds, no-holds, holds-yes, holds-no, first-is, first-none}
+use Rattle.lists.proofs.Decided.{stable, yes-holds, no-holds, holds-yes, holds-no, first-is, first-none}
 use Rattle.task.specs.Types.{capped}
 use Rattle.task.specs.declared.Limits.{Limits}
 use Rattle.graph.specs.Graph.{Among, part, graphOf}
 use Rattle.graph.specs.Conditions.{Good, Twice, Sound}
 use Rattle.graph.specs.Decide.{light?, among?, good?, bad?, endsFit?, twiceIn?, twice?}
 use Rattle.graph.specs.Check.{sizesFit, firstBad, firstTwice}
-use Rattle.lists.proofs.Occurrences.{occ-nil, occ-hit, occ-miss, occ-append, occ-le-length, occ-split, at-occ, occ-at}
+use Rattle.lists.proofs.Occurrences.{occ-nil, occ-le-length, occ-split, at-occ, occ-at}
+use Rattle.lists.proofs.Prefixes.{occ-more-hit, occ-more-miss}
 
--- A list read word by word: one word more.
-module _ (words : List ℕ) (i : ℕ) (h : i < length words) where
-  pub take-more : take (i + 1) words ≡ take i words ++ (getD words i 0 ∷ [])
-  take-more = rw add-one (take-suc words i 0 h)
-
-  pub occ-more : (u : ℕ) → u ≡ getD words i 0 → occ u (take (i + 1) words) ≡ suc (occ u (take i words))
-  occ-more u e =
-      rw take-more
-      (omega (arith, occ-append ℕ-discrete u (take i words) (getD words i 0 ∷ []), occ-hit ℕ-discrete u (getD words i 0) [] e, occ-nil ℕ-discrete u))
-
-  pub occ-other : (u : ℕ) → ¬ (u ≡ getD words i 0) → occ u (take (i + 1) words) ≡ occ u (take i words)
-  occ-other u n =
-      rw take-more
-      (omega (arith, occ-append ℕ-discrete u (take i words) (getD words i 0 ∷ []), occ-miss ℕ-discrete u (getD words i 0) [] n, occ-nil ℕ-discrete u))
-
-  -- what holds of every word holds of this one
-  pub word-below : (n : ℕ) → ((u : ℕ) → Among u words → u < n) → getD words i 0 < n
-  word-below n f = f (getD words i 0) (at-occ ℕ-discrete 0 words i h)
+-- what holds of every word holds of each
+pub word-below : (words : List ℕ) (i : ℕ) → i < length words → (n : ℕ) → ((u : ℕ) → Among u words → u < n) → getD words i 0 < n
+word-below words i h n f = f (getD words i 0) (at-occ ℕ-discrete 0 words i h)
 
 -- After i words each count is how often its number stands among them.
 pub record Counted (words counts : List ℕ) (i : ℕ) : Type 0 where
@@ -59,9 +44,9 @@ module _ {words counts : List ℕ} {i : ℕ} (k : Counted words counts i) where
           → getD (set counts (getD words i 0) (getD counts (getD words i 0) 0 + 1)) u 0 ≡ occ u (take (i + 1) words)
       go u (yes e) =
           rw e
-          (omega (arith, getD-set-same counts (getD words i 0) (getD counts (getD words i 0) 0 + 1) 0 m, k .count (getD words i 0), occ-more words i h (getD words i 0) refl))
+          (omega (arith, getD-set-same counts (getD words i 0) (getD counts (getD words i 0) 0 + 1) 0 m, k .count (getD words i 0), occ-more-hit words i h (getD words i 0) refl))
       go u (no n) =
-          omega (arith, getD-set-other counts (getD words i 0) u (getD counts (getD words i 0) 0 + 1) 0 n, k .count u, occ-other words i h u n)
+          omega (arith, getD-set-other counts (getD words i 0) u (getD counts (getD words i 0) 0 + 1) 0 n, k .count u, occ-more-miss words i h u n)
 
   pub count-whole : length words ≤ i → (u : ℕ) → getD counts u 0 ≡ occ u words
   count-whole h u = rw (take-all i words h) at (k .count u)
@@ -156,7 +141,7 @@ module _ {words marks : List ℕ} {stamp i : ℕ} (k : Met words marks stamp i) 
       sym
       (yes-holds (twiceIn? words) (
         getD words i 0,
-        omega (arith, k .low (getD words i 0), occ-more words i h (getD words i 0) refl, occ-split ℕ-discrete (getD words i 0) (i + 1) words),
+        omega (arith, k .low (getD words i 0), occ-more-hit words i h (getD words i 0) refl, occ-split ℕ-discrete (getD words i 0) (i + 1) words),
       ))
 
   pub met-turn : i < length words → getD words i 0 < length marks → ¬ (getD marks (getD words i 0) 0 ≡ stamp)
@@ -165,24 +150,20 @@ module _ {words marks : List ℕ} {stamp i : ℕ} (k : Met words marks stamp i) 
       record { once = λ u. first u (ℕ-discrete u (getD words i 0)); low = λ u. second u (ℕ-discrete u (getD words i 0)); stamped = λ u. third u (ℕ-discrete u (getD words i 0)) }
     where
       fresh : occ (getD words i 0) (take i words) ≡ 0
-      fresh = at (ℕ-discrete (occ (getD words i 0) (take i words)) 0)
-        where
-          at : Dec (occ (getD words i 0) (take i words) ≡ 0) → occ (getD words i 0) (take i words) ≡ 0
-          at (yes e) = e
-          at (no q) = absurd (n (k .stamped (getD words i 0) (omega arith)))
+      fresh = stable (ℕ-discrete (occ (getD words i 0) (take i words)) 0) (λ q. n (k .stamped (getD words i 0) (omega arith)))
 
       first : (u : ℕ) → Dec (u ≡ getD words i 0) → occ u (take (i + 1) words) ≤ 1
-      first u (yes e) = rw e (omega (arith, fresh, occ-more words i h (getD words i 0) refl))
-      first u (no q) = omega (arith, k .once u, occ-other words i h u q)
+      first u (yes e) = rw e (omega (arith, fresh, occ-more-hit words i h (getD words i 0) refl))
+      first u (no q) = omega (arith, k .once u, occ-more-miss words i h u q)
 
       second : (u : ℕ) → Dec (u ≡ getD words i 0) → getD (set marks (getD words i 0) stamp) u 0 < stamp + occ u (take (i + 1) words)
       second u (yes e) =
-          rw e (omega (arith, getD-set-same marks (getD words i 0) stamp 0 m, occ-more words i h (getD words i 0) refl))
-      second u (no q) = omega (arith, k .low u, getD-set-other marks (getD words i 0) u stamp 0 q, occ-other words i h u q)
+          rw e (omega (arith, getD-set-same marks (getD words i 0) stamp 0 m, occ-more-hit words i h (getD words i 0) refl))
+      second u (no q) = omega (arith, k .low u, getD-set-other marks (getD words i 0) u stamp 0 q, occ-more-miss words i h u q)
 
       third : (u : ℕ) → Dec (u ≡ getD words i 0) → 0 < occ u (take (i + 1) words) → getD (set marks (getD words i 0) stamp) u 0 ≡ stamp
       third u (yes e) o = rw e (getD-set-same marks (getD words i 0) stamp 0 m)
-      third u (no q) o = getD-set-other marks (getD words i 0) u stamp 0 q ∙ k .stamped u (omega (arith, occ-other words i h u q))
+      third u (no q) o = getD-set-other marks (getD words i 0) u stamp 0 q ∙ k .stamped u (omega (arith, occ-more-miss words i h u q))
 
   pub met-whole : length words ≤ i → false ≡ holds (twiceIn? words)
   met-whole h =
@@ -209,9 +190,3 @@ module _ {n : ℕ} {starts preds : List ℕ} (s : Sound (graphOf n starts preds)
   pub twice-none : n ≤ t → ((k : ℕ) → k < t → ¬ (Twice (graphOf n starts preds) k)) → n ≡ firstTwice (graphOf n starts preds)
   unfolding firstTwice
   twice-none h f = first-none n (twice? (graphOf n starts preds)) (λ k l. f k (omega arith))
-
--- what stands in a list of zeros, and beyond its end
-pub zeros : (n u : ℕ) → _≡_ {A = ℕ} (getD (replicate n 0) u 0) 0
-zeros zero u = refl
-zeros (suc n) zero = refl
-zeros (suc n) (suc u) = zeros n u

@@ -1,6 +1,6 @@
 -- How an answer is shown to follow a list of rows, row by row.
 use Prim.Native.Nat.{ℕ, _≤_, _<_}
-use mathlib.Core.Path.{_≡_, refl, sym, subst}
+use mathlib.Core.Path.{_≡_, refl, subst}
 use mathlib.Core.Bool.{Bool, false}
 use mathlib.Core.Logic.{_⊎_, inl, inr}
 use mathlib.Core.List.{List, [], _∷_}
@@ -11,7 +11,7 @@ use Rattle.lists.specs.Decided.{firstBelow, Smallest}
 use Rattle.lists.proofs.Decided.{first-smallest, first-least, smallest-unique}
 use Rattle.lists.proofs.Told.{Told, told-true, told-false, told}
 use Rattle.task.specs.Refusals.{Said, refused, accepted, answerSays, refusedIf}
-use Rattle.task.specs.Rows.{Refusal, row, only, Passed, Given, Clear, Acceptance, Follows}
+use Rattle.task.specs.Rows.{Refusal, row, only, Passed, Given, Follows}
 use Rattle.task.specs.declared.Answer.{Answer}
 
 pub follows-accepted : Follows [] accepted

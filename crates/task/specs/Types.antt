@@ -1,4 +1,4 @@
-use Prim.Native.Nat.{ℕ, min}
+use Prim.Native.Nat.{min}
 use Rattle.task.specs.declared.TaskId.{TaskId}
 use Rattle.task.specs.declared.Row.{Row}
 use Rattle.task.specs.declared.Limits.{Limits}

@@ -1,6 +1,7 @@
 -- Counts to sums, sums to blocks that are full at the end, gaps to degrees.
-use Rattle.successors.proofs.Edges.{preds-below, sums-fit, summed-begun, sound-rising, summed-starts, gaps-degrees}
-use Rattle.tables.proofs.Laws.{zeros}
+use Rattle.successors.proofs.Edges.{sums-fit, summed-begun, sound-rising, summed-starts, gaps-degrees}
+use Rattle.lists.proofs.Prefixes.{zeros}
+use Rattle.graph.proofs.Parts.{preds-small}
 use native.Mathlib.Omega.{arith}
 use borrow.Author.Needs.{needs}
 use Rattle.successors.proofs.fill.Statement.{statement}
@@ -10,7 +11,7 @@ slice-aggregate-count-words : tie.Need-slice-aggregate-count-words
 slice-aggregate-count-words c = search needs
 
 count-words-requires : tie.Need-count-words-requires
-count-words-requires c κs = (λ u h. omega (arith, preds-below _ (c .before .before .before .before .before .before .pre .0) u h, c .before .before .before .before .before .before .pre .0 .sized .tasks), (c .before .before .before .before .before .before .pre .0 .sized .edges, zeros 1024))
+count-words-requires c κs = (preds-small (c .before .before .before .before .before .before .pre .0), (c .before .before .before .before .before .before .pre .0 .sized .edges, zeros 1024))
 
 slice-aggregate-fill-starts : tie.Need-slice-aggregate-fill-starts
 slice-aggregate-fill-starts c = search needs

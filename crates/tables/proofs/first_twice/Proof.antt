@@ -1,5 +1,5 @@
 -- Every mark starts as 0.
-use Rattle.tables.proofs.Laws.{zeros}
+use Rattle.lists.proofs.Prefixes.{zeros}
 use mathlib.Core.Path.{refl}
 use borrow.Author.Needs.{needs}
 use Rattle.tables.proofs.first_twice.Statement.{statement}
