@@ -14,7 +14,7 @@ use Rattle.graph.specs.Conditions.{Sound}
 use Rattle.graph.specs.Successors.{succsBelow, succsOf, succStart, succStarts, succWords, degreeList}
 use Rattle.graph.proofs.Parts.{length-part}
 use Rattle.graph.proofs.Reversed.{length-succsBelow, length-succs, length-succWords}
-use Rattle.successors.specs.Filling.{Rising, gaps, sumBelow, Summed, placedOf, placeAll, Room, Begun}
+use Rattle.successors.specs.Filling.{Starts, gaps, sumBelow, Summed, placedOf, placeAll, Room, Begun}
 use Rattle.successors.proofs.Places.{Filled, filled-same, filled-room, filled-all, filled-whole}
 
 module _ (g : Graph) where
@@ -94,8 +94,8 @@ module _ (g : Graph) (next₀ succs₀ : List ℕ) (b : Begun g next₀ succs₀
 
 -- what the filling's steps hand on, in a sound graph, from the counts of the predecessors
 module _ (g : Graph) (s : Sound g) where
-  pub sound-rising : Rising (g .tasks) (g .starts)
-  sound-rising = record { whole = s .sized .starts; rises = λ t h. s .good t h .rises }
+  pub sound-starts : Starts (g .tasks) (g .starts)
+  sound-starts = record { whole = s .sized .starts; rises = λ t h. s .good t h .rises }
 
   pub gaps-degrees : (degrees : List ℕ) → degrees ≡ gaps (g .tasks) (g .starts) → degrees ≡ degreeList g
   unfolding gaps degreeList

@@ -10,7 +10,7 @@ use Rattle.graph.specs.Conditions.{Sound}
 use Rattle.graph.specs.Successors.{succStart}
 
 -- N+1 starts that do not fall
-pub record Rising (n : ℕ) (starts : List ℕ) : Type 0 where
+pub record Starts (n : ℕ) (starts : List ℕ) : Type 0 where
   pub whole : length starts ≡ n + 1
   pub rises : (t : ℕ) → t < n → getD starts t 0 ≤ getD starts (t + 1) 0
 

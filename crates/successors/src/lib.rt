@@ -5,11 +5,11 @@ ghost use lib.ListN.{length, getD, set};
 ghost use Rattle.graph.specs.Graph.{graphOf};
 ghost use Rattle.graph.specs.Conditions.{Sound};
 ghost use Rattle.graph.specs.Successors.{succStarts, succWords, degreeList};
-ghost use Rattle.successors.specs.Filling.{Rising, gaps, sumBelow, Summed, placedOf, placeAll, Room, Begun};
+ghost use Rattle.successors.specs.Filling.{Starts, gaps, sumBelow, Summed, placedOf, placeAll, Room, Begun};
 
 // Each task's degree is the number of its predecessors.
 fn fill_degrees(n: usize, starts: &[u32], degrees: &mut [u32])
-    requires { ⌜ Rising n (now starts) × (length (now degrees) ≡ n) ⌝ }
+    requires { ⌜ Starts n (now starts) × (length (now degrees) ≡ n) ⌝ }
     ensures { λ r. ⌜ now (degrees .exit) ≡ gaps n (now (starts .entry)) ⌝ }
 {
     let mut t = 0;

@@ -1,5 +1,5 @@
 -- Counts to sums, sums to blocks that are full at the end, gaps to degrees.
-use Rattle.successors.proofs.Edges.{sums-fit, summed-begun, sound-rising, summed-starts, gaps-degrees}
+use Rattle.successors.proofs.Edges.{sums-fit, summed-begun, sound-starts, summed-starts, gaps-degrees}
 use Rattle.lists.proofs.Prefixes.{zeros}
 use Rattle.graph.proofs.Parts.{preds-small}
 use native.Mathlib.Omega.{arith}
@@ -26,7 +26,7 @@ fill-words-requires : tie.Need-fill-words-requires
 fill-words-requires c κs = summed-begun _ (c .before .before .before .before .before .before .before .before .before .before .before .before .before .before .before .before .pre .0) _ (c .before .before .before .before .before .before .before .before .before .count-words .ensures) _ _ (c .before .before .before .before .before .fill-starts .ensures) _ (omega (arith, c .before .before .before .before .before .before .before .before .before .before .before .before .before .before .before .before .pre .0 .sized .tasks)) (c .before .before .before .before .before .before .before .before .before .before .before .before .before .before .before .before .pre .1 .1 .0)
 
 fill-degrees-requires : tie.Need-fill-degrees-requires
-fill-degrees-requires c κs = (sound-rising _ (c .before .before .before .before .before .before .before .before .before .before .before .before .before .before .before .before .before .before .before .before .before .pre .0), c .before .before .before .before .before .before .before .before .before .before .before .before .before .before .before .before .before .before .before .before .before .pre .1 .1 .1)
+fill-degrees-requires c κs = (sound-starts _ (c .before .before .before .before .before .before .before .before .before .before .before .before .before .before .before .before .before .before .before .before .before .pre .0), c .before .before .before .before .before .before .before .before .before .before .before .before .before .before .before .before .before .before .before .before .before .pre .1 .1 .1)
 
 same-length : tie.Need-same-length
 same-length c = search needs
