@@ -1,0 +1,102 @@
+// The graph layer's calls for C and Rust: lists as pointer and length; each call answers the number and the detail, 0 and 0
+// where it accepts.
+ghost use mathlib.Core.Path.{_≡_};
+ghost use mathlib.Core.Bool.{true};
+ghost use Rattle.graph.specs.Check.{checkAnswer};
+ghost use Rattle.graph.specs.Successors.{linkedOf, linked};
+ghost use Rattle.graph.specs.Lookup.{lentOf, judgeAnswer};
+ghost use Rattle.graph_export.specs.Replies.{replyOf, limitsOf, sideOf, replied, repliedOf};
+use task::Answer;
+use task::Limits;
+use task::Side;
+use task::TaskId;
+
+#[repr(C)]
+pub struct Reply {
+    pub number: u32,
+    pub detail: u32,
+}
+
+fn reply_of(answer: Answer) -> Reply
+    ensures { λ r. ⌜ r ≡ replyOf answer ⌝ }
+{
+    match answer {
+        Answer::Refused(number, detail) => Reply { number, detail },
+        Answer::Accepted => Reply {
+            number: 0,
+            detail: 0,
+        },
+    }
+}
+
+// Limits on N and E; the others are the engine's.
+fn limits(tasks: usize, edges: usize) -> Limits
+    ensures { λ r. ⌜ r ≡ limitsOf tasks edges ⌝ }
+{
+    Limits {
+        tasks,
+        edges,
+        workers: 16,
+        slots: 64,
+    }
+}
+
+// The graph check alone.
+#[no_mangle]
+pub extern "C" fn yolluvek_check_graph(
+    tasks: usize,
+    edges: usize,
+    weights: &[u32],
+    starts: &[u32],
+    preds: &[u32],
+) -> Reply
+    ensures { λ r. ⌜ r ≡ replyOf (checkAnswer (limitsOf tasks edges) true true (now (weights .entry)) (now (starts .entry)) (now (preds .entry))) ⌝ }
+{
+    reply_of(graph_check::check_graph(limits(tasks, edges), true, true, weights, starts, preds))
+}
+
+// The check, and where it accepts successor starts, successors and degrees.
+#[no_mangle]
+pub extern "C" fn yolluvek_link_graph(
+    tasks: usize,
+    edges: usize,
+    weights: &[u32],
+    starts: &[u32],
+    preds: &[u32],
+    succ_starts: &mut [u32],
+    succs: &mut [u32],
+    degrees: &mut [u32],
+) -> Reply
+    ensures { λ r. ⌜ repliedOf r (now («succ_starts» .exit)) (now (succs .exit)) (now (degrees .exit)) ≡ replied (linked (limitsOf tasks edges) (now (weights .entry)) (now (starts .entry)) (now (preds .entry)) (now («succ_starts» .entry)) (now (succs .entry)) (now (degrees .entry))) ⌝ }
+{
+    let within = limits(tasks, edges);
+    reply_of(link::link_graph(within, weights, starts, preds, succ_starts, succs, degrees))
+}
+
+fn side_of(number: u32) -> Side
+    ensures { λ r. ⌜ r ≡ sideOf number ⌝ }
+{
+    if number == 0 {
+        Side::Predecessors
+    } else {
+        Side::Successors
+    }
+}
+
+// The judging call of the lookup. Side 0 is that of the predecessors, any other that of the successors.
+#[no_mangle]
+pub extern "C" fn yolluvek_judge_lookup(
+    weights: &[u32],
+    pred_starts: &[u32],
+    preds: &[u32],
+    succ_starts: &[u32],
+    succs: &[u32],
+    side: u32,
+    task: u32,
+) -> Reply
+    ensures { λ r. ⌜ r ≡ replyOf (judgeAnswer (sideOf side) (lentOf (now (weights .entry)) (now («pred_starts» .entry)) (now (preds .entry)) (now («succ_starts» .entry)) (now (succs .entry))) task) ⌝ }
+{
+    let on = side_of(side);
+    let named = TaskId::new(task);
+    reply_of(lookup::judge(weights, pred_starts, preds, succ_starts, succs, on, named))
+}

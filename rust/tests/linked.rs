@@ -1,0 +1,175 @@
+//! The proved code, called through its exports, against the model, on the stored trials and on further ones.
+
+use engine_model::model::{check, link, Answer, Graph, Lent, Limits, Lookup, Refusal, Side};
+use engine_model::text::{GraphTrial, LookupTrial, Trial};
+use engine_model::trials;
+
+#[repr(C)]
+struct Reply {
+    number: u32,
+    detail: u32,
+}
+
+extern "C" {
+    fn yolluvek_check_graph(
+        tasks: usize,
+        edges: usize,
+        weights: *const u32,
+        weights_len: usize,
+        starts: *const u32,
+        starts_len: usize,
+        preds: *const u32,
+        preds_len: usize,
+    ) -> Reply;
+
+    fn yolluvek_link_graph(
+        tasks: usize,
+        edges: usize,
+        weights: *const u32,
+        weights_len: usize,
+        starts: *const u32,
+        starts_len: usize,
+        preds: *const u32,
+        preds_len: usize,
+        succ_starts: *mut u32,
+        succ_starts_len: usize,
+        succs: *mut u32,
+        succs_len: usize,
+        degrees: *mut u32,
+        degrees_len: usize,
+    ) -> Reply;
+
+    fn yolluvek_judge_lookup(
+        weights: *const u32,
+        weights_len: usize,
+        pred_starts: *const u32,
+        pred_starts_len: usize,
+        preds: *const u32,
+        preds_len: usize,
+        succ_starts: *const u32,
+        succ_starts_len: usize,
+        succs: *const u32,
+        succs_len: usize,
+        side: u32,
+        task: u32,
+    ) -> Reply;
+}
+
+fn answer(reply: Reply) -> Answer {
+    let Reply { number, detail } = reply;
+    match number {
+        0 => Ok(()),
+        _ => Err(Refusal { number, detail }),
+    }
+}
+
+fn proved_check(limits: Limits, graph: &Graph) -> Answer {
+    let (weights, starts, preds) = (&graph.weights, &graph.preds.starts, &graph.preds.words);
+    // each pointer and length is that of a list that lives through the call
+    answer(unsafe {
+        yolluvek_check_graph(
+            limits.tasks as usize,
+            limits.edges as usize,
+            weights.as_ptr(),
+            weights.len(),
+            starts.as_ptr(),
+            starts.len(),
+            preds.as_ptr(),
+            preds.len(),
+        )
+    })
+}
+
+fn proved_link(limits: Limits, graph: &Graph, lent: &mut Lent) -> Answer {
+    let (weights, starts, preds) = (&graph.weights, &graph.preds.starts, &graph.preds.words);
+    // as above; the three lists that are written are lent alone
+    answer(unsafe {
+        yolluvek_link_graph(
+            limits.tasks as usize,
+            limits.edges as usize,
+            weights.as_ptr(),
+            weights.len(),
+            starts.as_ptr(),
+            starts.len(),
+            preds.as_ptr(),
+            preds.len(),
+            lent.starts.as_mut_ptr(),
+            lent.starts.len(),
+            lent.succs.as_mut_ptr(),
+            lent.succs.len(),
+            lent.degrees.as_mut_ptr(),
+            lent.degrees.len(),
+        )
+    })
+}
+
+fn proved_judge(lookup: &Lookup, side: Side, task: u32) -> Answer {
+    let (preds, succs) = (&lookup.preds, &lookup.succs);
+    // as above
+    answer(unsafe {
+        yolluvek_judge_lookup(
+            lookup.weights.as_ptr(),
+            lookup.weights.len(),
+            preds.starts.as_ptr(),
+            preds.starts.len(),
+            preds.words.as_ptr(),
+            preds.words.len(),
+            succs.starts.as_ptr(),
+            succs.starts.len(),
+            succs.words.as_ptr(),
+            succs.words.len(),
+            u32::from(side == Side::Successors),
+            task,
+        )
+    })
+}
+
+/// The graph's answers and what the lent lists hold then.
+fn compare_graph(trial: &GraphTrial) {
+    let GraphTrial { limits, graph, lent } = trial;
+    assert_eq!(proved_check(*limits, graph), check(*limits, graph), "{}", line(trial));
+    let words = |length: usize| vec![70_000; length];
+    let mut proved = Lent {
+        starts: words(lent[0]),
+        succs: words(lent[1]),
+        degrees: words(lent[2]),
+    };
+    let mut model = proved.clone();
+    let answers = (
+        proved_link(*limits, graph, &mut proved),
+        link(*limits, graph, &mut model),
+    );
+    assert_eq!(answers.0, answers.1, "{}", line(trial));
+    assert!(proved == model, "the lent lists differ: {}", line(trial));
+}
+
+fn line(trial: &GraphTrial) -> String {
+    Trial::Graph(trial.clone()).case()
+}
+
+fn compare_lookup(trial: &LookupTrial) {
+    for &(side, task) in &trial.questions {
+        let (proved, model) = (proved_judge(&trial.lookup, side, task), trial.lookup.judge(side, task));
+        assert_eq!(proved, model, "{side:?} {task} {:?}", trial.lookup);
+    }
+}
+
+fn compare(trials: &[Trial]) {
+    for trial in trials {
+        match trial {
+            Trial::Graph(graph) => compare_graph(graph),
+            Trial::Lookup(lookup) => compare_lookup(lookup),
+            Trial::Note(_) | Trial::Unreadable(_) => (),
+        }
+    }
+}
+
+#[test]
+fn the_stored_trials() {
+    compare(&trials::all());
+}
+
+#[test]
+fn further_trials() {
+    (100..110).for_each(|seed| compare(&trials::further(seed, 5_000)));
+}
