@@ -27,12 +27,12 @@ fn side_of(word: u32) -> Side {
 }
 
 // The judging call's answer, and what the lookup hands back.
-fn ask(
+fn ask<'a>(
     weights: &[u32],
     pred_starts: &[u32],
-    preds: &[u32],
+    preds: &'a [u32],
     succ_starts: &[u32],
-    succs: &[u32],
+    succs: &'a [u32],
     side: u32,
     task: u32,
 ) {
@@ -43,12 +43,12 @@ fn ask(
     show::list(lookup::neighbours(weights, pred_starts, preds, succ_starts, succs, on, named));
 }
 
-fn ask_all(
+fn ask_all<'a>(
     weights: &[u32],
     pred_starts: &[u32],
-    preds: &[u32],
+    preds: &'a [u32],
     succ_starts: &[u32],
-    succs: &[u32],
+    succs: &'a [u32],
     asked: &[u32],
 ) {
     let mut i = 0;
@@ -119,15 +119,7 @@ fn link_lent(
     show::put_marks(succ_starts);
     show::put_marks(succs);
     show::put_marks(degrees);
-    let answer = link::link_graph(
-        limits,
-        weights,
-        starts,
-        preds,
-        succ_starts,
-        succs,
-        degrees,
-    );
+    let answer = link::link_graph(limits, weights, starts, preds, succ_starts, succs, degrees);
     show::answer(answer);
     show::lent(succ_starts);
     show::lent(succs);
