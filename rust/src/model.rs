@@ -1,10 +1,10 @@
 //! The graph check, the successor table and the neighbour lookup in the words of document 01.
 
-use std::collections::HashSet;
-
 pub const MAX_TASKS: usize = 1_024;
 pub const MAX_EDGES: usize = 8_192;
-pub const MAX_WEIGHT: u32 = 65_535;
+
+/// "Weights 0..65,535."
+const MAX_WEIGHT: u32 = 65_535;
 
 /// "Answer: the number and a detail".
 #[derive(Clone, Copy, Debug, PartialEq, Eq)]
@@ -15,9 +15,14 @@ pub struct Refusal {
 
 pub type Answer = Result<(), Refusal>;
 
-fn refuse(number: u32, detail: usize) -> Answer {
-    let detail = detail as u32;
+/// "Answer: the number and a detail; all lent memory keeps its words."
+fn refused(number: u32, detail: u32) -> Answer {
     Err(Refusal { number, detail })
+}
+
+/// A length or a task number as a word. Nothing that passes "N at most 1,024. E edges, at most 8,192." comes near the cap.
+fn word(value: usize) -> u32 {
+    u32::try_from(value).unwrap_or(u32::MAX)
 }
 
 /// The caller's limits on N and E; above the engine's they count as the engine's.
@@ -33,12 +38,15 @@ impl Limits {
         edges: MAX_EDGES as u32,
     };
 
-    fn hold(&self, tasks: usize, edges: usize) -> bool {
-        tasks <= MAX_TASKS.min(self.tasks as usize) && edges <= MAX_EDGES.min(self.edges as usize)
+    /// "N tasks, numbered 0..N−1, N at most 1,024. E edges, at most 8,192."
+    fn hold(self, n: usize, e: usize) -> bool {
+        let tasks = (self.tasks as usize).min(MAX_TASKS);
+        let edges = (self.edges as usize).min(MAX_EDGES);
+        n <= tasks && e <= edges
     }
 }
 
-/// Starts and words of a table: task t's words run from start t up to but not including start t+1.
+/// Starts and words of a table of neighbours.
 #[derive(Clone, Debug, Default)]
 pub struct Table {
     pub starts: Vec<u32>,
@@ -47,28 +55,44 @@ pub struct Table {
 
 impl Table {
     /// The table of the given lists, one after the other.
+    ///
+    /// "Predecessor starts N+1 and predecessors E: task t's predecessors run from start t up to but not including start
+    /// t+1."
     pub fn of(lists: &[Vec<u32>]) -> Table {
-        let mut table = Table::default();
-        table.starts.push(0);
+        let mut table = Table {
+            starts: vec![0],
+            words: Vec::new(),
+        };
         for list in lists {
             table.words.extend(list);
-            table.starts.push(table.words.len() as u32);
+            table.starts.push(word(table.words.len()));
         }
         table
     }
 
-    /// Task t's words, if start t ≤ start t+1 ≤ E.
-    fn part(&self, t: usize) -> Option<&[u32]> {
-        self.words.get(self.starts[t] as usize..self.starts[t + 1] as usize)
+    /// The neighbours of one task; none unless "start t ≤ start t+1 ≤ E".
+    ///
+    /// "task t's predecessors run from start t up to but not including start t+1."
+    fn part(&self, task: usize) -> Option<&[u32]> {
+        let first = *self.starts.get(task)? as usize;
+        let end = *self.starts.get(task.checked_add(1)?)? as usize;
+        if first <= end && end <= self.words.len() {
+            Some(&self.words[first..end])
+        } else {
+            None
+        }
     }
 
-    /// Task t's words, if its range is good and each of them is below n.
-    fn good_part(&self, t: usize, n: usize) -> Option<&[u32]> {
-        self.part(t).filter(|part| part.iter().all(|&u| (u as usize) < n))
+    /// "start t ≤ start t+1 ≤ E fails, or a predecessor ≥ N": a task bad by itself, in either table.
+    fn is_bad(&self, task: usize, n: usize) -> bool {
+        match self.part(task) {
+            None => true,
+            Some(part) => part.iter().any(|&number| number as usize >= n),
+        }
     }
 }
 
-/// Weights and predecessor tables: N weights, E predecessors.
+/// Weights and predecessor tables.
 #[derive(Clone, Debug, Default)]
 pub struct Graph {
     pub weights: Vec<u32>,
@@ -77,15 +101,120 @@ pub struct Graph {
 
 impl Graph {
     /// The graph of each task's predecessors, every weight 0.
+    ///
+    /// "N and E are the lengths of weights and predecessors"
     pub fn of_lists(lists: &[Vec<u32>]) -> Graph {
         Graph {
             weights: vec![0; lists.len()],
             preds: Table::of(lists),
         }
     }
+
+    /// "N and E are the lengths of weights and predecessors": N.
+    fn n(&self) -> usize {
+        self.weights.len()
+    }
+
+    /// "N and E are the lengths of weights and predecessors": E.
+    fn e(&self) -> usize {
+        self.preds.words.len()
+    }
+
+    /// "task t's predecessors run from start t up to but not including start t+1", once 3 has passed.
+    fn predecessors(&self, task: usize) -> &[u32] {
+        self.preds.part(task).unwrap_or(&[])
+    }
+
+    /// "an edge leads from a predecessor to its task" and "each task's successors rising".
+    fn successors(&self, task: usize) -> Vec<u32> {
+        (0..self.n())
+            .filter(|&later| self.predecessors(later).contains(&word(task)))
+            .map(word)
+            .collect()
+    }
+
+    /// 2: "N, E, P, K or (begin) a weight beyond its limit", detail 0.
+    fn judge_limits(&self, limits: Limits) -> Answer {
+        let heavy = self.weights.iter().any(|&weight| weight > MAX_WEIGHT);
+        if heavy || !limits.hold(self.n(), self.e()) {
+            return refused(2, 0);
+        }
+        Ok(())
+    }
+
+    /// 1: "a lent length isn't the stated one", detail 0: "Predecessor starts N+1".
+    fn judge_lengths(&self) -> Answer {
+        if self.preds.starts.len() != self.n() + 1 {
+            return refused(1, 0);
+        }
+        Ok(())
+    }
+
+    /// 3: "start t ≤ start t+1 ≤ E fails, or a predecessor ≥ N; start 0 not 0 or start N not E", detail "smallest such
+    /// task, N for a wrong first or last start alone".
+    fn judge_table(&self) -> Answer {
+        if let Some(task) = (0..self.n()).find(|&task| self.preds.is_bad(task, self.n())) {
+            return refused(3, word(task));
+        }
+        let first_right = self.preds.starts.first() == Some(&0);
+        let last_right = self.preds.starts.last() == Some(&word(self.e()));
+        if !first_right || !last_right {
+            return refused(3, word(self.n()));
+        }
+        Ok(())
+    }
+
+    /// 4: "a predecessor twice in one task", detail "smallest such task".
+    fn judge_twice(&self) -> Answer {
+        match (0..self.n()).find(|&task| holds_twice(self.predecessors(task))) {
+            Some(task) => refused(4, word(task)),
+            None => Ok(()),
+        }
+    }
+
+    /// 5: "a cycle, a loop on one task included", detail "smallest task on any cycle".
+    fn judge_cycle(&self) -> Answer {
+        match (0..self.n()).find(|&task| self.on_cycle(task)) {
+            Some(task) => refused(5, word(task)),
+            None => Ok(()),
+        }
+    }
+
+    /// Whether a path of one edge or more leads from the task back to itself: all that can be reached from the task against
+    /// the edges is visited, each number once.
+    ///
+    /// "only tasks with a path of edges back to themselves count, not those behind or before a cycle" (docs/DECISIONS.md).
+    fn on_cycle(&self, task: usize) -> bool {
+        let mut reached = vec![false; self.n()];
+        let mut waiting = vec![task];
+        while let Some(next) = waiting.pop() {
+            for &pred in self.predecessors(next) {
+                let pred = pred as usize;
+                if !reached[pred] {
+                    reached[pred] = true;
+                    waiting.push(pred);
+                }
+            }
+        }
+        reached[task]
+    }
+
+    /// "Order in begin: 2, 1, 3, 4, 5, 6": what comes after 1, without 6.
+    fn judge_edges(&self) -> Answer {
+        self.judge_table()?;
+        self.judge_twice()?;
+        self.judge_cycle()
+    }
 }
 
-/// The lists that the linking call fills.
+/// "a predecessor twice in one task"
+fn holds_twice(list: &[u32]) -> bool {
+    let mut sorted = list.to_vec();
+    sorted.sort_unstable();
+    sorted.windows(2).any(|pair| pair[0] == pair[1])
+}
+
+/// The lists that the linking call fills: successor starts, successors, degrees.
 #[derive(Clone, Debug, PartialEq, Eq)]
 pub struct Lent {
     pub starts: Vec<u32>,
@@ -93,133 +222,48 @@ pub struct Lent {
     pub degrees: Vec<u32>,
 }
 
-/// The graph check: 2, 1, 3, 4, 5 in order.
+impl Lent {
+    /// 1: "a lent length isn't the stated one", detail 0: "Successor starts N+1 and successors E, same shape […]. Degrees N."
+    fn judge_lengths(&self, n: usize, e: usize) -> Answer {
+        if self.starts.len() != n + 1 || self.succs.len() != e || self.degrees.len() != n {
+            return refused(1, 0);
+        }
+        Ok(())
+    }
+
+    /// "Successors are filled, degrees are numbers of predecessors."
+    fn fill(&mut self, graph: &Graph) {
+        let lists: Vec<Vec<u32>> = (0..graph.n()).map(|task| graph.successors(task)).collect();
+        let table = Table::of(&lists);
+        self.starts = table.starts;
+        self.succs = table.words;
+        self.degrees = (0..graph.n())
+            .map(|task| word(graph.predecessors(task).len()))
+            .collect();
+    }
+}
+
+/// The graph check: of begin's refusals 2 (N, E and weights), 1 (the length of the starts), 3, 4 and 5, in begin's order.
+///
+/// "Order in begin: 2, 1, 3, 4, 5, 6."
 pub fn check(limits: Limits, graph: &Graph) -> Answer {
-    within_limits(limits, graph)?;
-    if graph.preds.starts.len() != graph.weights.len() + 1 {
-        return refuse(1, 0);
-    }
-    sound_graph(graph).map(|_| ())
+    graph.judge_limits(limits)?;
+    graph.judge_lengths()?;
+    graph.judge_edges()
 }
 
-/// The check, with the lengths of the lists that are lent; then successors and degrees.
+/// The same check, where 1 also judges the lengths of the lists that are lent; if accepted, begin's successors and degrees
+/// are filled; if refused, the lent lists keep their words.
+///
+/// "Order in begin: 2, 1, 3, 4, 5, 6." "Successors are filled, degrees are numbers of predecessors." Refused: "all lent
+/// memory keeps its words."
 pub fn link(limits: Limits, graph: &Graph, lent: &mut Lent) -> Answer {
-    within_limits(limits, graph)?;
-    let (n, e) = (graph.weights.len(), graph.preds.words.len());
-    let lengths = [
-        (graph.preds.starts.len(), n + 1),
-        (lent.starts.len(), n + 1),
-        (lent.succs.len(), e),
-        (lent.degrees.len(), n),
-    ];
-    if lengths.iter().any(|(lent, stated)| lent != stated) {
-        return refuse(1, 0);
-    }
-    let preds = sound_graph(graph)?;
-    *lent = linked(&preds);
+    graph.judge_limits(limits)?;
+    graph.judge_lengths()?;
+    lent.judge_lengths(graph.n(), graph.e())?;
+    graph.judge_edges()?;
+    lent.fill(graph);
     Ok(())
-}
-
-/// "2: N, E, .. or (begin) a weight beyond its limit".
-fn within_limits(limits: Limits, graph: &Graph) -> Answer {
-    let sizes = limits.hold(graph.weights.len(), graph.preds.words.len());
-    if !sizes || graph.weights.iter().any(|&w| w > MAX_WEIGHT) {
-        return refuse(2, 0);
-    }
-    Ok(())
-}
-
-/// 3, 4 and 5; each task's predecessors where none of them holds.
-fn sound_graph(graph: &Graph) -> Result<Vec<&[u32]>, Refusal> {
-    let preds = good_parts(graph)?;
-    if let Some(task) = preds.iter().position(|part| has_twice(part)) {
-        refuse(4, task)?;
-    }
-    if let Some(task) = smallest_on_cycle(&preds) {
-        refuse(5, task)?;
-    }
-    Ok(preds)
-}
-
-/// 3: the smallest task with a bad range or a bad predecessor, N for a wrong first or last start alone.
-fn good_parts(graph: &Graph) -> Result<Vec<&[u32]>, Refusal> {
-    let (n, table) = (graph.weights.len(), &graph.preds);
-    let mut parts = Vec::new();
-    for task in 0..n {
-        match table.good_part(task, n) {
-            Some(part) => parts.push(part),
-            None => refuse(3, task)?,
-        }
-    }
-    if table.starts[0] != 0 || table.starts[n] as usize != table.words.len() {
-        refuse(3, n)?;
-    }
-    Ok(parts)
-}
-
-/// "a predecessor twice in one task".
-fn has_twice(part: &[u32]) -> bool {
-    let mut met = HashSet::new();
-    !part.iter().all(|u| met.insert(u))
-}
-
-/// "smallest task on any cycle": the smallest one that reaches itself in the transitive closure of the edges.
-fn smallest_on_cycle(preds: &[&[u32]]) -> Option<usize> {
-    let mut before = Relation::new(preds.len());
-    for (task, part) in preds.iter().enumerate() {
-        part.iter().for_each(|&u| before.add(task, u as usize));
-    }
-    before.close();
-    (0..preds.len()).find(|&task| before.has(task, task))
-}
-
-/// A relation on numbers below n, a row of bits for each.
-struct Relation {
-    rows: Vec<Vec<u64>>,
-}
-
-impl Relation {
-    fn new(n: usize) -> Relation {
-        Relation {
-            rows: vec![vec![0; n.div_ceil(64)]; n],
-        }
-    }
-
-    fn add(&mut self, a: usize, b: usize) {
-        self.rows[a][b / 64] |= 1 << (b % 64);
-    }
-
-    fn has(&self, a: usize, b: usize) -> bool {
-        self.rows[a][b / 64] >> (b % 64) & 1 == 1
-    }
-
-    /// Warshall's closure: after round k, every path through numbers up to k counts.
-    fn close(&mut self) {
-        for k in 0..self.rows.len() {
-            let through = self.rows[k].clone();
-            for a in 0..self.rows.len() {
-                if self.has(a, k) {
-                    let row = self.rows[a].iter_mut();
-                    row.zip(&through).for_each(|(bits, more)| *bits |= more);
-                }
-            }
-        }
-    }
-}
-
-/// The edges in the order of their predecessors, each task's successors rising; degrees are numbers of predecessors.
-fn linked(preds: &[&[u32]]) -> Lent {
-    let mut edges = Vec::new();
-    for (task, part) in preds.iter().enumerate() {
-        edges.extend(part.iter().map(|&u| (u, task as u32)));
-    }
-    edges.sort();
-    let below = |u| edges.iter().filter(|edge| (edge.0 as usize) < u).count() as u32;
-    Lent {
-        starts: (0..=preds.len()).map(below).collect(),
-        succs: edges.iter().map(|edge| edge.1).collect(),
-        degrees: preds.iter().map(|part| part.len() as u32).collect(),
-    }
 }
 
 #[derive(Clone, Copy, Debug, PartialEq, Eq)]
@@ -237,6 +281,17 @@ pub struct Lookup {
 }
 
 impl Lookup {
+    /// "N and E are the lengths of weights and predecessors, in the lookup too": N.
+    fn n(&self) -> usize {
+        self.weights.len()
+    }
+
+    /// "N and E are the lengths of weights and predecessors, in the lookup too": E.
+    fn e(&self) -> usize {
+        self.preds.words.len()
+    }
+
+    /// "on the side named […] the predecessor or the successor table itself"
     fn table(&self, side: Side) -> &Table {
         match side {
             Side::Predecessors => &self.preds,
@@ -244,27 +299,53 @@ impl Lookup {
         }
     }
 
-    /// "In lookup: 2, 1, 3"; the detail of 3 is the task.
-    pub fn judge(&self, side: Side, task: u32) -> Answer {
-        let (n, e) = (self.weights.len(), self.preds.words.len());
-        if n > MAX_TASKS || e > MAX_EDGES {
-            return refuse(2, 0);
-        }
-        let starts = [&self.preds.starts, &self.succs.starts];
-        if starts.iter().any(|s| s.len() != n + 1) || self.succs.words.len() != e {
-            return refuse(1, 0);
-        }
-        let t = task as usize;
-        if t >= n || self.table(side).good_part(t, n).is_none() {
-            return refuse(3, t);
+    /// 2: "N, E, P, K or (begin) a weight beyond its limit", detail 0; no weight, for this isn't begin (docs/DECISIONS.md).
+    fn judge_limits(&self) -> Answer {
+        if !Limits::ENGINE.hold(self.n(), self.e()) {
+            return refused(2, 0);
         }
         Ok(())
     }
 
+    /// 1: "a lent length isn't the stated one", detail 0: "It is lent weights and both tables, judges all their lengths"
+    /// (docs/DECISIONS.md).
+    fn judge_lengths(&self) -> Answer {
+        let starts = self.n() + 1;
+        let starts_right = self.preds.starts.len() == starts && self.succs.starts.len() == starts;
+        if !starts_right || self.succs.words.len() != self.e() {
+            return refused(1, 0);
+        }
+        Ok(())
+    }
+
+    /// 3: "lookup: its range or a number in it is bad, or task ≥ N", detail "lookup: the task".
+    ///
+    /// "It judges that task's range and words only, on the side named." (docs/DECISIONS.md)
+    fn judge_task(&self, side: Side, task: u32) -> Answer {
+        let place = task as usize;
+        if place >= self.n() || self.table(side).is_bad(place, self.n()) {
+            return refused(3, task);
+        }
+        Ok(())
+    }
+
+    /// The judging call.
+    ///
+    /// "In lookup: 2, 1, 3." "Its number and detail come from a judging call on the same arguments, which answers 0 and 0
+    /// exactly if the lookup is accepted."
+    pub fn judge(&self, side: Side, task: u32) -> Answer {
+        self.judge_limits()?;
+        self.judge_lengths()?;
+        self.judge_task(side, task)
+    }
+
     /// The neighbours on the side named; of a refused lookup, none.
+    ///
+    /// "the neighbours of a task, on the side named, are handed back as that part of the predecessor or the successor table
+    /// itself. A refused lookup hands back an empty part."
     pub fn neighbours(&self, side: Side, task: u32) -> &[u32] {
         match self.judge(side, task) {
-            Ok(()) => self.table(side).part(task as usize).unwrap_or_default(),
+            Ok(()) => self.table(side).part(task as usize).unwrap_or(&[]),
             Err(_) => &[],
         }
     }
