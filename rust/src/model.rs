@@ -183,7 +183,7 @@ impl Graph {
     /// Whether a path of one edge or more leads from the task back to itself: all that can be reached from the task against
     /// the edges is visited, each number once.
     ///
-    /// "only tasks with a path of edges back to themselves count, not those behind or before a cycle" (docs/DECISIONS.md).
+    /// Tasks behind or before a cycle don't count (docs/DECISIONS.md).
     fn on_cycle(&self, task: usize) -> bool {
         let mut reached = vec![false; self.n()];
         let mut waiting = vec![task];
@@ -307,8 +307,7 @@ impl Lookup {
         Ok(())
     }
 
-    /// 1: "a lent length isn't the stated one", detail 0: "It is lent weights and both tables, judges all their lengths"
-    /// (docs/DECISIONS.md).
+    /// 1: "a lent length isn't the stated one", detail 0; all lengths of both tables are judged (docs/DECISIONS.md).
     fn judge_lengths(&self) -> Answer {
         let starts = self.n() + 1;
         let starts_right = self.preds.starts.len() == starts && self.succs.starts.len() == starts;
@@ -320,7 +319,7 @@ impl Lookup {
 
     /// 3: "lookup: its range or a number in it is bad, or task ≥ N", detail "lookup: the task".
     ///
-    /// "It judges that task's range and words only, on the side named." (docs/DECISIONS.md)
+    /// Of the tables it judges that task's range and words alone, on the side named (docs/DECISIONS.md).
     fn judge_task(&self, side: Side, task: u32) -> Answer {
         let place = task as usize;
         if place >= self.n() || self.table(side).is_bad(place, self.n()) {
