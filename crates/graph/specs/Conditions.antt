@@ -23,7 +23,7 @@ pub record Good (n : ℕ) (starts words : List ℕ) (t : ℕ) : Type 0 where
 abbrev pub Bad : Graph → ℕ → Type 0
 Bad g t = ¬ (Good (g .tasks) (g .starts) (g .preds) t)
 
--- not "start 0 not 0 or start N not E"
+-- "start 0 not 0 or start N not E", turned round
 pub record EndsFit (g : Graph) : Type 0 where
   pub first : _≡_ {A = ℕ} (getD (g .starts) 0 0) 0
   pub last : getD (g .starts) (g .tasks) 0 ≡ edgeCount g
@@ -53,7 +53,7 @@ pub record Sized (g : Graph) : Type 0 where
   pub edges : edgeCount g ≤ engine .edges
   pub starts : length (g .starts) ≡ g .tasks + 1
 
--- a graph that row 3 does not refuse
+-- a graph of the engine's size that row 3 does not refuse
 pub record Sound (g : Graph) : Type 0 where
   pub sized : Sized g
   pub good : (t : ℕ) → t < g .tasks → Good (g .tasks) (g .starts) (g .preds) t
