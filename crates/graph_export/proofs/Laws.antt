@@ -1,6 +1,6 @@
 -- A reply is its answer's number and detail, whatever the answer comes from.
 use Prim.Native.Nat.{ℕ}
-use mathlib.Core.Path.{_≡_, ap, _∙_}
+use mathlib.Core.Path.{_≡_, ap}
 use mathlib.Core.Bool.{true}
 use mathlib.Core.List.{List}
 use borrow.Author.Tests.{eq-eqb, ne-eqb}
@@ -10,10 +10,10 @@ use Rattle.task.specs.declared.Limits.{Limits}
 use Rattle.task.specs.declared.Side.{Side}
 use Rattle.task.specs.declared.Side.the-variants.{Predecessors, Successors}
 use Rattle.graph.specs.Check.{checkAnswer}
-use Rattle.graph.specs.Successors.{Linked, linkedOf, linked}
+use Rattle.graph.specs.Successors.{linkedOf, linked}
 use Rattle.graph.specs.Lookup.{Lent, judgeAnswer}
 use Rattle.graph_export.specs.declared.Reply.{Reply}
-use Rattle.graph_export.specs.Replies.{replyOf, limitsOf, sideOf, replied, repliedOf}
+use Rattle.graph_export.specs.Replies.{replyOf, sideOf, replied, repliedOf}
 
 pub reply-refused : (a : Answer) (n d : ℕ) → a ≡ Refused n d → record { number = n; detail = d } ≡ replyOf a
 reply-refused a n d e = rw e

@@ -3,7 +3,7 @@
 ghost use mathlib.Core.Path.{_≡_};
 ghost use mathlib.Core.Bool.{true};
 ghost use Rattle.graph.specs.Check.{checkAnswer};
-ghost use Rattle.graph.specs.Successors.{linkedOf, linked};
+ghost use Rattle.graph.specs.Successors.{linked};
 ghost use Rattle.graph.specs.Lookup.{lentOf, judgeAnswer};
 ghost use Rattle.graph_export.specs.Replies.{replyOf, limitsOf, sideOf, replied, repliedOf};
 use task::Answer;

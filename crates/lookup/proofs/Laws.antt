@@ -1,11 +1,11 @@
 -- The cases of the judging call and of the lookup, over plain lists.
 use Prim.Native.Nat.{ℕ, _+_, _≤_, _<_}
-use mathlib.Core.Path.{_≡_, refl, sym, ap, _∙_}
+use mathlib.Core.Path.{_≡_, sym, ap, _∙_}
 use mathlib.Core.Bool.{Bool, true, false, not, _&&_}
 use mathlib.Core.List.{List, []}
 use native.Mathlib.Omega.{arith}
 use lib.ListN.{length, getD}
-use lib.Dec.{eqb}
+use lib.Dec.{ltb, eqb}
 use borrow.Author.Tests.{lt-ltb, le-ltb, eqb-true, not-true, not-false}
 use Rattle.lists.specs.Decided.{holds}
 use Rattle.lists.proofs.Told.{and-true}
@@ -20,26 +20,19 @@ use Rattle.graph.specs.Decide.{good?}
 use Rattle.graph.specs.Check.{sizesFit}
 use Rattle.graph.specs.Lookup.{Lent, startsOn, wordsOn, lengthsFit, taskFits, judgeAnswer, neighboursOf, LookupFits}
 use Rattle.graph.proofs.Lookup.{judge-accepts, lookup-part}
-use Rattle.lookup.specs.Fits.{partFits, sideFits}
 use Rattle.task.specs.Refusals.{answerSays}
 
-module _ (n : ℕ) (starts words : List ℕ) (t : ℕ) where
-  pub fits-not : n ≤ t → false ≡ partFits n starts words t
-  fits-not h = rw (le-ltb t n h)
+module _ (n t : ℕ) where
+  pub fits-not : (b : Bool) → n ≤ t → false ≡ (ltb t n && b)
+  fits-not b h = rw (le-ltb t n h)
 
-  pub fits-part : (r : Bool) → t < n → r ≡ holds (good? n starts words t) → r ≡ partFits n starts words t
-  fits-part r h e = rw (lt-ltb t n h) e
+  pub fits-part : (r b : Bool) → t < n → r ≡ b → r ≡ (ltb t n && b)
+  fits-part r b h e = rw (lt-ltb t n h) e
 
-pub side-preds : (n : ℕ) (ps p ss s : List ℕ) (d : Side) (t : ℕ) (r : Bool) → d ≡ Predecessors → r ≡ partFits n ps p t → r ≡ sideFits n ps p ss s d t
-side-preds n ps p ss s d t r e h = rw e h
-
-pub side-succs : (n : ℕ) (ps p ss s : List ℕ) (d : Side) (t : ℕ) (r : Bool) → d ≡ Successors → r ≡ partFits n ss s t → r ≡ sideFits n ps p ss s d t
-side-succs n ps p ss s d t r e h = rw e h
-
-side-is : (d : Side) (l : Lent) (t : ℕ) → sideFits (length (l .weights)) (l .predStarts) (l .preds) (l .succStarts) (l .succs) d t ≡ taskFits d l t
+-- one side or the other
+pub side-is : (d side : Side) (l : Lent) (t : ℕ) (r : Bool) → side ≡ d → r ≡ (ltb t (length (l .weights)) && holds (good? (length (l .weights)) (startsOn d l) (wordsOn d l) t)) → r ≡ taskFits side l t
 unfolding taskFits
-side-is Predecessors l t = refl
-side-is Successors l t = refl
+side-is d side l t r e h = rw e h
 
 -- the three lengths, compared at once
 pub starts-fit : (l : Lent) → not (lengthsFit l) ≡ false → (length (l .predStarts) ≡ length (l .weights) + 1) × (length (l .succStarts) ≡ length (l .weights) + 1)
@@ -62,17 +55,14 @@ module _ (side : Side) (l : Lent) (t : ℕ) (limits : Limits) (is : limits ≡ e
     unfolding judgeAnswer
     judge-lengths g = simp (fit, not-false ok e, not-true (lengthsFit l) g)
 
-    module _ (g : not (lengthsFit l) ≡ false) (f : Bool) (p : f ≡ sideFits (length (l .weights)) (l .predStarts) (l .preds) (l .succStarts) (l .succs) side t) where
-      task : taskFits side l t ≡ f
-      task = sym (p ∙ side-is side l t)
-
+    module _ (g : not (lengthsFit l) ≡ false) (f : Bool) (p : f ≡ taskFits side l t) where
       pub judge-task : not f ≡ true → Refused 3 t ≡ judgeAnswer side l t
       unfolding judgeAnswer
-      judge-task q = simp (fit, not-false ok e, not-false (lengthsFit l) g, task, not-true f q)
+      judge-task q = simp (fit, not-false ok e, not-false (lengthsFit l) g, sym p, not-true f q)
 
       pub judge-accepted : not f ≡ false → Accepted ≡ judgeAnswer side l t
       unfolding judgeAnswer
-      judge-accepted q = simp (fit, not-false ok e, not-false (lengthsFit l) g, task, not-false f q)
+      judge-accepted q = simp (fit, not-false ok e, not-false (lengthsFit l) g, sym p, not-false f q)
 
 -- where the judging call accepts
 module _ (side : Side) (l : Lent) (t : ℕ) (r : Answer) (h : r ≡ judgeAnswer side l t) where

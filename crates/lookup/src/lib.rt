@@ -1,10 +1,13 @@
 // The neighbours of a task, handed back as a part of the table itself, and the judging call on the same arguments.
 ghost use mathlib.Core.Path.{_≡_};
-ghost use Prim.Native.Nat.{ℕ, _+_, _≤_, _<_};
+ghost use mathlib.Core.Bool.{_&&_};
+ghost use Prim.Native.Nat.{_+_, _≤_, _<_};
 ghost use lib.ListN.{length, getD};
+ghost use lib.Dec.{ltb};
+ghost use Rattle.lists.specs.Decided.{holds};
 ghost use Rattle.graph.specs.Graph.{part};
-ghost use Rattle.graph.specs.Lookup.{lentOf, judgeAnswer, neighboursOf};
-ghost use Rattle.lookup.specs.Fits.{partFits, sideFits};
+ghost use Rattle.graph.specs.Decide.{good?};
+ghost use Rattle.graph.specs.Lookup.{lentOf, taskFits, judgeAnswer, neighboursOf};
 use task::Answer;
 use task::Limits;
 use task::Side;
@@ -14,7 +17,7 @@ use task::refusal;
 // Whether t is one of the n tasks and its part of the table is good.
 fn task_fits(n: usize, starts: &[u32], words: &[u32], t: usize) -> bool
     requires { ⌜ length (now starts) ≡ n + 1 ⌝ }
-    ensures { λ r. ⌜ r ≡ partFits n (now (starts .entry)) (now (words .entry)) t ⌝ }
+    ensures { λ r. ⌜ r ≡ (ltb t n && holds (good? n (now (starts .entry)) (now (words .entry)) t)) ⌝ }
 {
     if n <= t {
         return false;
@@ -24,7 +27,7 @@ fn task_fits(n: usize, starts: &[u32], words: &[u32], t: usize) -> bool
 
 // The same on the side named.
 fn side_fits(
-    n: usize,
+    weights: &[u32],
     pred_starts: &[u32],
     preds: &[u32],
     succ_starts: &[u32],
@@ -32,9 +35,10 @@ fn side_fits(
     side: Side,
     t: usize,
 ) -> bool
-    requires { ⌜ (length (now «pred_starts») ≡ n + 1) × (length (now «succ_starts») ≡ n + 1) ⌝ }
-    ensures { λ r. ⌜ r ≡ sideFits n (now («pred_starts» .entry)) (now (preds .entry)) (now («succ_starts» .entry)) (now (succs .entry)) side t ⌝ }
+    requires { ⌜ (length (now «pred_starts») ≡ length (now weights) + 1) × (length (now «succ_starts») ≡ length (now weights) + 1) ⌝ }
+    ensures { λ r. ⌜ r ≡ taskFits side (lentOf (now (weights .entry)) (now («pred_starts» .entry)) (now (preds .entry)) (now («succ_starts» .entry)) (now (succs .entry))) t ⌝ }
 {
+    let n = weights.len();
     match side {
         Side::Predecessors => task_fits(n, pred_starts, preds, t),
         Side::Successors => task_fits(n, succ_starts, succs, t),
@@ -62,7 +66,7 @@ pub fn judge(
         return Answer::Refused(refusal::WRONG_LENGTH, 0);
     }
     let t = task.0;
-    if !side_fits(n, pred_starts, preds, succ_starts, succs, side, t as usize) {
+    if !side_fits(weights, pred_starts, preds, succ_starts, succs, side, t as usize) {
         return Answer::Refused(refusal::BAD_TABLE, t);
     }
     Answer::Accepted

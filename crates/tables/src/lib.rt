@@ -7,7 +7,7 @@ ghost use lib.ListN.{length, getD};
 ghost use Rattle.lists.specs.Decided.{holds};
 ghost use Rattle.lists.specs.Lists.{occ};
 ghost use Rattle.graph.specs.Graph.{Among, graphOf};
-ghost use Rattle.graph.specs.Conditions.{Sized, Sound};
+ghost use Rattle.graph.specs.Conditions.{Sound};
 ghost use Rattle.graph.specs.Decide.{light?, among?, good?, endsFit?, twiceIn?};
 ghost use Rattle.graph.specs.Check.{sizesFit, firstBad, firstTwice};
 use task::Limits;
@@ -35,7 +35,7 @@ pub fn weights_fit(weights: &[u32]) -> bool
 }
 
 // Every word is below n.
-pub fn all_below(words: &[u32], n: usize) -> bool
+fn all_below(words: &[u32], n: usize) -> bool
     ensures { λ r. ⌜ r ≡ holds (among? (λ u. decLt u n) (now (words .entry))) ⌝ }
 {
     let mut i = 0;
@@ -90,7 +90,7 @@ pub fn ends_fit(n: usize, starts: &[u32], preds: &[u32]) -> bool
 }
 
 // Whether a word stands there twice. A word that was met carries the stamp in its mark; no mark carries it yet.
-pub fn has_twice(words: &[u32], marks: &mut [u32], stamp: u32) -> bool
+fn has_twice(words: &[u32], marks: &mut [u32], stamp: u32) -> bool
     requires { ⌜ (length (now marks) ≡ 1024) × (((u : ℕ) → Among u (now words) → u < 1024) × ((u : ℕ) → getD (now marks) u 0 < stamp)) ⌝ }
     ensures { λ r. ⌜ (r ≡ holds (twiceIn? (now (words .entry)))) × ((u : ℕ) → getD (now (marks .exit)) u 0 ≤ stamp) ⌝ }
 {
@@ -106,6 +106,7 @@ pub fn has_twice(words: &[u32], marks: &mut [u32], stamp: u32) -> bool
     false
 }
 
+// The scan, with marks that start at 0.
 fn scan_twice(n: usize, starts: &[u32], preds: &[u32], marks: &mut [u32]) -> usize
     requires { ⌜ Sound (graphOf n (now starts) (now preds)) × ((length (now marks) ≡ 1024) × ((u : ℕ) → getD (now marks) u 0 ≡ 0)) ⌝ }
     ensures { λ r. ⌜ r ≡ firstTwice (graphOf n (now (starts .entry)) (now (preds .entry))) ⌝ }
@@ -131,7 +132,7 @@ pub fn first_twice(n: usize, starts: &[u32], preds: &[u32]) -> usize
     scan_twice(n, starts, preds, &mut marks)
 }
 
-// Adds to each number's count how often it stands in the list.
+// How often each number stands in the list; the counts start at 0.
 pub fn count_words(words: &[u32], counts: &mut [u32])
     requires { ⌜ ((u : ℕ) → Among u (now words) → u < length (now counts)) × ((length (now words) ≤ 8192) × ((u : ℕ) → getD (now counts) u 0 ≡ 0)) ⌝ }
     ensures { λ r. ⌜ ((u : ℕ) → getD (now (counts .exit)) u 0 ≡ occ u (now (words .entry))) ⌝ }

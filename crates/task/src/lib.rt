@@ -3,7 +3,7 @@
 pub mod refusal;
 
 ghost use mathlib.Core.Path.{_≡_};
-ghost use Prim.Native.Nat.{ℕ, _<_, _≤_, min};
+ghost use Prim.Native.Nat.{_<_, min};
 ghost use Rattle.task.specs.Types.{nil, idle, engine, capped};
 ghost use Rattle.task.specs.Phases.{stepNumber, nextPhase};
 

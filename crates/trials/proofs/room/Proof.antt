@@ -1,5 +1,5 @@
 -- Zeros are as many as were asked for.
-use mathlib.Core.Path.{_≡_, sym}
+use mathlib.Core.Path.{sym}
 use Prim.Native.Nat.{ℕ}
 use lib.ListN.{length-replicate}
 use Rattle.trials.proofs.room.Statement.{statement}
