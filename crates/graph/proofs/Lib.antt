@@ -4,3 +4,4 @@ pub mod Parts
 pub mod Accepted
 pub mod Reversed
 pub mod Lookup
+pub mod Linked

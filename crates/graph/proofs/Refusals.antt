@@ -1,16 +1,17 @@
 -- PROMISE: the calls on a graph are refused under the table's conditions and no others.
 use Prim.Native.Nat.{ℕ, _+_, _≤_, _<_}
 use mathlib.Core.Path.{_≡_, refl}
-use mathlib.Core.Bool.{Bool, true, not, _&&_}
+use mathlib.Core.Bool.{Bool, true, false, not, _&&_}
 use mathlib.Core.Logic.{_⊎_, inl, inr}
 use mathlib.Core.List.{List}
 use native.Mathlib.Omega.{arith}
 use native.Mathlib.Decide.{ℕ-discrete, decLe, decLt}
 use lib.ListN.{length, getD}
 use lib.Dec.{ltb, leb, eqb}
+use borrow.Author.Tests.{not-false}
 use Rattle.lists.specs.Decided.{holds, firstBelow}
 use Rattle.lists.proofs.Decided.{holds-yes, holds-no, first-smallest, first-least}
-use Rattle.lists.proofs.Told.{Told, told-true, told, le-told, lt-told, eq-told, dec-told, and-told, not-told}
+use Rattle.lists.proofs.Told.{Told, told-true, told, le-told, lt-told, eq-told, dec-told, and-told, not-told, and-true}
 use Rattle.task.specs.Types.{capped, engine}
 use Rattle.task.specs.Refusals.{answerSays, wrongLength, beyondLimit, badTable, duplicate, cycle}
 use Rattle.task.specs.Rows.{Follows}
@@ -73,21 +74,25 @@ sizes-told : (l : Limits) (n e : ℕ) → Told (sizesFit l n e) (¬ (Beyond l n 
 unfolding sizesFit
 sizes-told l n e = and-told (leb n (capped l .tasks)) (leb e (capped l .edges)) (le-told n (capped l .tasks)) (le-told e (capped l .edges))
 
--- the whole check, with what a call adds to it
-pub check-follows : (limits : Limits) (within others : Bool) {Far Odd : Type 0} → Told within (¬ Far) Far → Told others (¬ Odd) Odd → (weights starts preds : List ℕ)
+-- the whole check, with what a call adds to it; its other lengths matter only where its other numbers are within their limits
+pub check-follows : (limits : Limits) (within others : Bool) {Far Odd : Type 0} → Told within (¬ Far) Far → (within ≡ true → Told others (¬ Odd) Odd) → (weights starts preds : List ℕ)
     → Follows (checkRows limits Far Odd weights starts preds) (answerSays (checkAnswer limits within others weights starts preds))
 unfolding checkAnswer
 check-follows limits within others f o weights starts preds =
-    test-row _ beyondLimit 0 _ _ (not-told _ (and-told (within && sizesFit limits (length weights) (length preds)) (holds (light? weights)) (and-told within (sizesFit limits (length weights) (length preds)) f (sizes-told limits (length weights) (length preds))) (weights-told weights))) (λ _.
-    test-row _ wrongLength 0 _ _ (not-told _ (and-told (eqb (length starts) (length weights + 1)) others (eq-told (length starts) (length weights + 1)) o)) (λ _.
+    test-row _ beyondLimit 0 _ _ (not-told _ (and-told (within && sizesFit limits (length weights) (length preds)) (holds (light? weights)) (and-told within (sizesFit limits (length weights) (length preds)) f (sizes-told limits (length weights) (length preds))) (weights-told weights))) (λ e.
+    test-row _ wrongLength 0 _ _ (not-told _ (and-told (eqb (length starts) (length weights + 1)) others (eq-told (length starts) (length weights + 1)) (o (passed e)))) (λ _.
     tables-follow (graphOf (length weights) starts preds)))
+  where
+    -- where 2 was passed, the call's own numbers are within their limits
+    passed : not ((within && sizesFit limits (length weights) (length preds)) && holds (light? weights)) ≡ false → within ≡ true
+    passed e = and-true within (sizesFit limits (length weights) (length preds)) (and-true (within && sizesFit limits (length weights) (length preds)) (holds (light? weights)) (not-false _ e) .0) .0
 
 nothing-more : Told true (¬ ⊥) ⊥
 nothing-more = told-true refl (λ x. x)
 
 -- the check alone
 pub graph-follows : (limits : Limits) (weights starts preds : List ℕ) → Follows (checkRows limits ⊥ ⊥ weights starts preds) (answerSays (checkAnswer limits true true weights starts preds))
-graph-follows limits weights starts preds = check-follows limits true true nothing-more nothing-more weights starts preds
+graph-follows limits weights starts preds = check-follows limits true true nothing-more (λ _. nothing-more) weights starts preds
 
 -- the filling call
 pub link-follows : (limits : Limits) (weights starts preds s w d : List ℕ)
@@ -95,7 +100,7 @@ pub link-follows : (limits : Limits) (weights starts preds s w d : List ℕ)
 unfolding linkAnswer lentFit
 link-follows limits weights starts preds s w d =
     check-follows limits true (lentFit weights preds s w d) nothing-more
-    (and-told (eqb (length s) (length weights + 1)) _ (eq-told (length s) (length weights + 1))
+    (λ _. and-told (eqb (length s) (length weights + 1)) _ (eq-told (length s) (length weights + 1))
     (and-told (eqb (length w) (length preds)) (eqb (length d) (length weights)) (eq-told (length w) (length preds)) (eq-told (length d) (length weights))))
     weights starts preds
 

@@ -1,20 +1,20 @@
 -- PROMISES: the successor table is the predecessor table read the other way round, each task's successors rising.
-use Prim.Native.Nat.{ℕ, zero, suc, _+_, _-_, _≤_, _<_}
+use Prim.Native.Nat.{ℕ, _+_, _-_, _≤_, _<_}
 use mathlib.Core.Path.{_≡_, refl, sym, ap, _∙_}
 use mathlib.Core.List.{List, [], _∷_}
 use mathlib.Core.Bool.{cond}
 use mathlib.Core.Logic.{_↔_}
 use native.Mathlib.Omega.{arith}
 use Rattle.lists.specs.Decided.{holds}
-use Rattle.lists.proofs.Decided.{yes-holds}
+use Rattle.lists.proofs.Decided.{stable}
 use native.Mathlib.Numerals.{add-one}
 use native.Mathlib.Decide.{ℕ-discrete, decLt}
-use lib.ListN.{length, getD, take, drop, replicate, length-replicate, getD-replicate}
-use Rattle.lists.specs.Lists.{occ, joined, Rising}
+use lib.ListN.{length, getD, take, drop, replicate, length-replicate}
+use Rattle.lists.specs.Lists.{occ, Rising}
 use Rattle.lists.specs.Sums.{sumTo}
-use Rattle.lists.proofs.Occurrences.{occ-nil, occ-hit, occ-miss, occ-joined, occ-replicate, occ-replicate-other, at-occ}
+use Rattle.lists.proofs.Occurrences.{occ-nil, occ-hit, occ-miss, occ-joined, occ-replicate, occ-replicate-other}
 use Rattle.lists.proofs.Sums.{sum-find, sum-same, sum-zero, sum-only, sum-suc, sum-prefix, length-joined, length-occ}
-use Rattle.lists.proofs.Blocks.{length-tabulate, getD-tabulate, block-at, rising-append}
+use Rattle.lists.proofs.Blocks.{length-tabulate, getD-tabulate, block-at, joined-rises}
 use Rattle.graph.specs.Graph.{Among, part, Graph, graphOf, edgeCount, predsOf}
 use Rattle.graph.specs.Conditions.{Good, Acceptable, Sound}
 use Rattle.graph.specs.Successors.{succsBelow, succsOf, succStart, succStarts, succWords, degreeList, roots}
@@ -114,62 +114,53 @@ module _ (g : Graph) where
 
   -- "each task's successors rising"
   module _ (a : Acceptable g) where
-    block-rises : (k t : ℕ) → k ≤ 1 → Rising (replicate k t)
-    block-rises k t h i j l m = absurd (omega (arith, length-replicate k t))
-
-    rises-below : (n u : ℕ) → n ≤ g .tasks → Rising (succsBelow g n u)
-    unfolding succsBelow joined
-    rises-below zero u h = λ i j l m. absurd (omega arith)
-    rises-below (suc n) u h =
-        rising-append (joined n (λ t. replicate (occ u (predsOf g t)) t)) (replicate (occ u (predsOf g n)) n) (rises-below n u (omega arith))
-        (block-rises (occ u (predsOf g n)) n (a .once n u (omega arith)))
-        (λ i j l m. omega (arith, low i l, getD-replicate (occ u (predsOf g n)) j n 0 (omega (arith, length-replicate (occ u (predsOf g n)) n))))
-      where
-        low : (i : ℕ) → i < length (succsBelow g n u) → getD (succsBelow g n u) i 0 < n
-        low i l = go (decLt (getD (succsBelow g n u) i 0) n)
-          where
-            go : Dec (getD (succsBelow g n u) i 0 < n) → getD (succsBelow g n u) i 0 < n
-            go (yes q) = q
-            go (no m) = absurd (omega (arith, at-occ ℕ-discrete 0 (succsBelow g n u) i l, occ-above n u (getD (succsBelow g n u) i 0) (omega arith)))
-
     pub succs-rise : (u : ℕ) → Rising (succsOf g u)
-    succs-rise u = rises-below (g .tasks) u (omega arith)
+    unfolding succsBelow
+    succs-rise u =
+        joined-rises (g .tasks) (λ t. replicate (occ u (predsOf g t)) t) (λ t h. omega (arith, a .once t u h, length-replicate (occ u (predsOf g t)) t))
+        (λ t v h k. stable (ℕ-discrete v t) (λ n. omega (arith, occ-replicate-other ℕ-discrete v t (occ u (predsOf g t)) n)))
 
--- a root is a task without predecessors
-pub roots-are : (g : Graph) (t : ℕ) → Among t (roots g) ↔ ((t < g .tasks) × (length (predsOf g t) ≡ 0))
-unfolding roots
-roots-are g t = (to, from)
-  where
-    kept : ℕ → List ℕ
-    kept k = cond (holds (ℕ-discrete (length (predsOf g k)) 0)) (k ∷ []) []
+-- a number that is kept or not
+module _ {A : Type 0} (k : ℕ) where
+  kept-own : (d : Dec A) (u : ℕ) → Among u (cond (holds d) (k ∷ []) []) → (u ≡ k) × A
+  kept-own (yes a) u h = (stable (ℕ-discrete u k) (λ n. omega (arith, occ-miss ℕ-discrete u k [] n, occ-nil ℕ-discrete u)), a)
+  kept-own (no n) u h = absurd (omega (arith, occ-nil ℕ-discrete u))
 
-    total : occ t (roots g) ≡ sumTo (g .tasks) (λ k. occ t (kept k))
-    total = occ-joined ℕ-discrete t (g .tasks) kept
+  kept-one : (d : Dec A) → length (cond (holds d) (k ∷ []) []) ≤ 1
+  kept-one (yes a) = omega arith
+  kept-one (no n) = omega arith
 
-    at : (k : ℕ) → 0 < occ t (kept k) → (t ≡ k) × (length (predsOf g k) ≡ 0)
-    at k h = go (ℕ-discrete (length (predsOf g k)) 0) (ℕ-discrete t k) refl
-      where
-        go : (d : Dec (length (predsOf g k) ≡ 0)) → Dec (t ≡ k) → ℕ-discrete (length (predsOf g k)) 0 ≡ d → (t ≡ k) × (length (predsOf g k) ≡ 0)
-        go (yes z) (yes e) q = (e, z)
-        go (yes z) (no n) q = absurd (omega (arith, rw q at h, occ-miss ℕ-discrete t k [] n, occ-nil ℕ-discrete t))
-        go (no n) e q = absurd (omega (arith, rw q at h, occ-nil ℕ-discrete t))
+  kept-has : (d : Dec A) → A → Among k (cond (holds d) (k ∷ []) [])
+  kept-has (yes a) b = omega (arith, occ-hit ℕ-discrete k k [] refl)
+  kept-has (no n) b = absurd (n b)
 
-    to : Among t (roots g) → (t < g .tasks) × (length (predsOf g t) ≡ 0)
-    to h = go (sum-find (g .tasks) (λ k. occ t (kept k)) (omega (arith, total)))
-      where
-        go : (k : ℕ) × (k < g .tasks) × (0 < occ t (kept k)) → (t < g .tasks) × (length (predsOf g t) ≡ 0)
-        go w = let p = at (w .0) (w .2) in rw (p .0) (w .1, p .1)
+module _ (g : Graph) where
+  root? : (t : ℕ) → Dec (length (predsOf g t) ≡ 0)
+  root? t = ℕ-discrete (length (predsOf g t)) 0
 
-    from : (t < g .tasks) × (length (predsOf g t) ≡ 0) → Among t (roots g)
-    from p = omega (arith, total, sum-prefix (g .tasks) (λ k. occ t (kept k)) t (p .0), here)
-      where
-        here : occ t (kept t) ≡ 1
-        here = rw (yes-holds (ℕ-discrete (length (predsOf g t)) 0) (p .1)) (omega (arith, occ-hit ℕ-discrete t t [] refl, occ-nil ℕ-discrete t))
+  -- "The roots (degree 0) are taken rising"
+  pub roots-rise : Rising (roots g)
+  unfolding roots root?
+  roots-rise = joined-rises (g .tasks) (λ t. cond (holds (root? t)) (t ∷ []) []) (λ t h. kept-one t (root? t)) (λ t u h k. kept-own t (root? t) u k .0)
 
--- where a graph's successor table was filled, every task's neighbours can be looked up on both sides
-pub linked-lookup : (weights starts preds : List ℕ) → Sound (graphOf (length weights) starts preds) → (side : Side) (t : ℕ) → t < length weights
+  -- and they are the tasks without predecessors
+  pub roots-are : (t : ℕ) → Among t (roots g) ↔ ((t < g .tasks) × (length (predsOf g t) ≡ 0))
+  unfolding roots root?
+  roots-are t = (λ h. to (sum-find (g .tasks) kept (omega (arith, total))), λ p. omega (arith, total, sum-prefix (g .tasks) kept t (p .0), kept-has t (root? t) (p .1)))
+    where
+      kept : ℕ → ℕ
+      kept k = occ t (cond (holds (root? k)) (k ∷ []) [])
+
+      total : occ t (roots g) ≡ sumTo (g .tasks) kept
+      total = occ-joined ℕ-discrete t (g .tasks) (λ k. cond (holds (root? k)) (k ∷ []) [])
+
+      to : (k : ℕ) × (k < g .tasks) × (0 < kept k) → (t < g .tasks) × (length (predsOf g t) ≡ 0)
+      to w = let p = kept-own (w .0) (root? (w .0)) t (w .2) in rw (p .0) (w .1, p .1)
+
+-- beside a sound graph's successor table every task's neighbours can be looked up on both sides
+pub table-lookup : (weights starts preds : List ℕ) → Sound (graphOf (length weights) starts preds) → (side : Side) (t : ℕ) → t < length weights
     → LookupFits side (lentOf weights starts preds (succStarts (graphOf (length weights) starts preds)) (succWords (graphOf (length weights) starts preds))) t
-linked-lookup weights starts preds s side t h =
+table-lookup weights starts preds s side t h =
     record {
       tasks = s .sized .tasks;
       edges = s .sized .edges;

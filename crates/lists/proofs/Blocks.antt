@@ -6,9 +6,10 @@ use native.Mathlib.Omega.{arith}
 use native.Mathlib.Decide.{ℕ-discrete, decLt}
 use lib.ListN.{length, getD, take, drop, length-append, length-drop, List·getD-append}
 use lib.Seq.{ext-getD, take-add, take-length, drop-append-le, take-append-le, drop-append-seam, getD-append-add}
-use Rattle.lists.specs.Lists.{joined, tabulate, Rising}
+use Rattle.lists.specs.Lists.{occ, joined, tabulate, Rising}
+use Rattle.lists.proofs.Occurrences.{occ-joined, at-occ}
 use Rattle.lists.specs.Sums.{sumTo}
-use Rattle.lists.proofs.Sums.{sum-prefix, length-joined}
+use Rattle.lists.proofs.Sums.{sum-find, sum-prefix, length-joined}
 
 module _ {A : Type 0} where
   pub length-tabulate : (n : ℕ) (f : ℕ → A) → length (tabulate n f) ≡ n
@@ -73,3 +74,18 @@ rising-append k l p q c i j h m = go (decLt j (length k)) (decLt i (length k))
     go (yes a) b = omega (arith, p i j h a, List·getD-append k l 0 i (omega arith), List·getD-append k l 0 j a)
     go (no a) (yes b) = omega (arith, c i (j - length k) b (omega (arith, length-append k l)), List·getD-append k l 0 i b, right j (omega arith))
     go (no a) (no b) = omega (arith, q (i - length k) (j - length k) (omega arith) (omega (arith, length-append k l)), right i (omega arith), right j (omega arith))
+
+-- lists of at most one member each, joined: list k holds no number but k
+pub joined-rises : (n : ℕ) (f : ℕ → List ℕ) → ((k : ℕ) → k < n → length (f k) ≤ 1) → ((k u : ℕ) → k < n → 0 < occ u (f k) → u ≡ k) → Rising (joined n f)
+unfolding joined
+joined-rises zero f one own = λ i j l m. absurd (omega arith)
+joined-rises (suc n) f one own =
+    rising-append (joined n f) (f n) (joined-rises n f (λ k h. one k (omega arith)) (λ k u h. own k u (omega arith)))
+    (λ i j l m. absurd (omega (arith, one n (omega arith))))
+    (λ i j l m. omega (arith, low i l, own n (getD (f n) j 0) (omega arith) (at-occ ℕ-discrete 0 (f n) j m)))
+  where
+    low : (i : ℕ) → i < length (joined n f) → getD (joined n f) i 0 < n
+    low i l = go (sum-find n (λ k. occ (getD (joined n f) i 0) (f k)) (omega (arith, at-occ ℕ-discrete 0 (joined n f) i l, occ-joined ℕ-discrete (getD (joined n f) i 0) n f)))
+      where
+        go : (k : ℕ) × (k < n) × (0 < occ (getD (joined n f) i 0) (f k)) → getD (joined n f) i 0 < n
+        go w = omega (arith, own (w .0) (getD (joined n f) i 0) (omega (arith, w .1)) (w .2), w .1)

@@ -66,7 +66,15 @@ pub fn judge(
         return Answer::Refused(refusal::WRONG_LENGTH, 0);
     }
     let t = task.0;
-    if !side_fits(weights, pred_starts, preds, succ_starts, succs, side, t as usize) {
+    if !side_fits(
+        weights,
+        pred_starts,
+        preds,
+        succ_starts,
+        succs,
+        side,
+        t as usize,
+    ) {
         return Answer::Refused(refusal::BAD_TABLE, t);
     }
     Answer::Accepted
