@@ -1,7 +1,9 @@
-//! With the feature `linked`, links the archive that `rt staticlib graph_export` writes.
+//! With the feature `linked`, links the archives that `rt staticlib graph_export` and `rt staticlib stg_export` write.
 
 use std::env;
 use std::path::Path;
+
+const ARCHIVES: [&str; 2] = ["graph_export", "stg_export"];
 
 fn main() {
     if env::var_os("CARGO_FEATURE_LINKED").is_none() {
@@ -9,7 +11,12 @@ fn main() {
     }
     let root = env::var("CARGO_MANIFEST_DIR").expect("cargo names the package's folder");
     let folder = Path::new(&root).join("../target/staticlib");
-    println!("cargo::rerun-if-changed={}", folder.join("libgraph_export.a").display());
     println!("cargo::rustc-link-search=native={}", folder.display());
-    println!("cargo::rustc-link-lib=static=graph_export");
+    for archive in ARCHIVES {
+        println!(
+            "cargo::rerun-if-changed={}",
+            folder.join(format!("lib{archive}.a")).display()
+        );
+        println!("cargo::rustc-link-lib=static={archive}");
+    }
 }

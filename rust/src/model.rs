@@ -16,12 +16,12 @@ pub struct Refusal {
 pub type Answer = Result<(), Refusal>;
 
 /// "Answer: the number and a detail; all lent memory keeps its words."
-fn refused(number: u32, detail: u32) -> Answer {
+pub(crate) fn refused<T>(number: u32, detail: u32) -> Result<T, Refusal> {
     Err(Refusal { number, detail })
 }
 
 /// A length or a task number as a word. Nothing that passes "N at most 1,024. E edges, at most 8,192." comes near the cap.
-fn word(value: usize) -> u32 {
+pub(crate) fn word(value: usize) -> u32 {
     u32::try_from(value).unwrap_or(u32::MAX)
 }
 

@@ -153,17 +153,17 @@ fn lookup_answer(trial: &LookupTrial) -> String {
     answers.collect::<Vec<_>>().join(" | ")
 }
 
-fn shown_answer(answer: Answer) -> String {
+pub(crate) fn shown_answer(answer: Answer) -> String {
     let Refusal { number, detail } = answer.err().unwrap_or(Refusal { number: 0, detail: 0 });
     format!("{number} {detail}")
 }
 
 /// What a lent list holds before the call.
-fn pattern(length: usize) -> Vec<u32> {
+pub(crate) fn pattern(length: usize) -> Vec<u32> {
     (0..length as u32).map(|i| PATTERN + i).collect()
 }
 
-fn shown_lent(list: &[u32]) -> String {
+pub(crate) fn shown_lent(list: &[u32]) -> String {
     if !list.is_empty() && list == pattern(list.len()) {
         return String::from("kept");
     }

@@ -6,6 +6,7 @@ use native.Mathlib.Omega.{arith}
 use native.Mathlib.Nat.{le-antisymm}
 use native.Mathlib.Decide.{decLe}
 use Rattle.lists.specs.Decided.{holds, tally, Smallest, stop, firstBelow}
+use Rattle.lists.proofs.Apart.{unequal}
 
 module _ {A : Type 0} where
   pub stable : Dec A → ¬ (¬ A) → A
@@ -22,10 +23,10 @@ module _ {A : Type 0} where
 
   pub holds-yes : (d : Dec A) → holds d ≡ true → A
   holds-yes (yes a) e = a
-  holds-yes (no n) e = absurd (let z : _≡_ {A = ℕ} 0 1 = cc in omega arith)
+  holds-yes (no n) e = unequal cc
 
   pub holds-no : (d : Dec A) → holds d ≡ false → ¬ A
-  holds-no (yes a) e = absurd (let z : _≡_ {A = ℕ} 0 1 = cc in omega arith)
+  holds-no (yes a) e = unequal cc
   holds-no (no n) e = n
 
   pub tally-yes : (d : Dec A) → A → tally d ≡ 1

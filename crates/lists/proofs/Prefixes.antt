@@ -4,9 +4,10 @@ use mathlib.Core.Path.{_≡_, refl, sym, ap, _∙_}
 use mathlib.Core.List.{List, [], _∷_, _++_}
 use native.Mathlib.Omega.{arith}
 use native.Mathlib.Numerals.{add-one}
+use native.Mathlib.Nat.{zero-add}
 use native.Mathlib.Decide.{ℕ-discrete, decLt}
-use lib.ListN.{length, getD, set, take, replicate, List·getD-eq-default}
-use lib.Seq.{length-take-le, getD-take, take-suc, take-suc-set, take-take}
+use lib.ListN.{length, getD, set, take, drop, replicate, List·getD-eq-default}
+use lib.Seq.{length-take-le, getD-take, take-suc, take-suc-set, take-take, paste-suc, length-paste}
 use Rattle.lists.specs.Decided.{tally}
 use Rattle.lists.specs.Lists.{occ}
 use Rattle.lists.proofs.Decided.{stable, tally-yes, tally-no}
@@ -40,6 +41,14 @@ module _ (l : List ℕ) (i x : ℕ) (h : i < length l) where
 
   pub occ-store : (u : ℕ) → occ u (take (i + 1) (set l i x)) ≡ occ u (take i l) + tally (ℕ-discrete u x)
   occ-store u = ap (occ u) take-store ∙ occ-snoc u x (take i l)
+
+-- the first i members of one list over those of another, and one more
+module _ (from to : List ℕ) (i : ℕ) where
+  pub copy-more : i < length from → i < length to → set (take i from ++ drop i to) i (getD from i 0) ≡ take (i + 1) from ++ drop (i + 1) to
+  copy-more h k = rw (zero-add i, zero-add (suc i), ← add-one i) at (paste-suc to 0 from i 0 (omega arith) h)
+
+  pub length-copy : i ≤ length from → i ≤ length to → length (take i from ++ drop i to) ≡ length to
+  length-copy h k = rw (zero-add i) at (length-paste to 0 from i (omega arith) h)
 
 -- no more among the first i than among the first k
 pub occ-take-le : (l : List ℕ) (i k u : ℕ) → i ≤ k → occ u (take i l) ≤ occ u (take k l)

@@ -1,12 +1,13 @@
 -- Tests with their reasons: what a test's value says, for one test and for several that must all pass.
 use Prim.Native.Nat.{ℕ, _≤_, _<_}
 use mathlib.Core.Path.{_≡_, refl}
-use mathlib.Core.Bool.{Bool, true, false, not, _&&_}
+use mathlib.Core.Bool.{Bool, true, false, not, _&&_, _||_}
 use mathlib.Core.Logic.{_⊎_, inl, inr}
 use native.Mathlib.Omega.{arith}
 use lib.Dec.{ltb, leb, eqb}
 use borrow.Author.Tests.{ltb-true, ltb-false, leb-true, leb-false, eqb-true, eqb-false}
 use Rattle.lists.specs.Decided.{holds}
+use Rattle.lists.proofs.Apart.{unequal}
 use Rattle.lists.proofs.Decided.{holds-yes, holds-no}
 
 pub neither : {A B : Type 0} → ¬ A → ¬ B → ¬ (A ⊎ B)
@@ -48,4 +49,36 @@ not-told b (told-false e n) = told-true (rw e) n
 -- both tests passed
 pub and-true : (a b : Bool) → (a && b) ≡ true → (a ≡ true) × (b ≡ true)
 and-true true b h = (refl, h)
-and-true false b h = absurd (let z : _≡_ {A = ℕ} 0 1 = cc in omega arith)
+and-true false b h = unequal cc
+
+-- one of them failed
+pub and-false : (a b : Bool) → (a ≡ true → b ≡ false) → (a && b) ≡ false
+and-false true b f = f refl
+and-false false b f = refl
+
+-- two tests of which one must pass
+pub or-left : (a b : Bool) → a ≡ true → (a || b) ≡ true
+or-left a b e = rw e
+
+pub or-right : (a b : Bool) → b ≡ true → (a || b) ≡ true
+or-right true b e = refl
+or-right false b e = e
+
+pub or-true : (a b : Bool) → (a || b) ≡ true → (a ≡ true) ⊎ (b ≡ true)
+or-true true b e = inl refl
+or-true false b e = inr e
+
+pub or-false : (a b : Bool) → (a || b) ≡ false → (a ≡ false) × (b ≡ false)
+or-false true b e = unequal cc
+or-false false b e = (refl, e)
+
+-- a test that must pass where another one does
+pub or-not : (a b : Bool) → (a || not b) ≡ true → b ≡ true → a ≡ true
+or-not true b h e = refl
+or-not false true h e = h
+or-not false false h e = e
+
+pub not-or : (a b : Bool) → (b ≡ true → a ≡ true) → (a || not b) ≡ true
+not-or true b f = refl
+not-or false true f = f refl
+not-or false false f = refl

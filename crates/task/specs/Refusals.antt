@@ -94,6 +94,23 @@ detailOf (taskFetched t) = 0
 detailOf (degreeLeft d) = 0
 detailOf (taskPlaced t w) = 0
 
+-- N and E of a graph read, 0 and 0 elsewhere
+abbrev pub tasksRead : Said → ℕ
+tasksRead (refused n d) = 0
+tasksRead accepted = 0
+tasksRead (graphRead n e) = n
+tasksRead (taskFetched t) = 0
+tasksRead (degreeLeft d) = 0
+tasksRead (taskPlaced t w) = 0
+
+abbrev pub edgesRead : Said → ℕ
+edgesRead (refused n d) = 0
+edgesRead accepted = 0
+edgesRead (graphRead n e) = e
+edgesRead (taskFetched t) = 0
+edgesRead (degreeLeft d) = 0
+edgesRead (taskPlaced t w) = 0
+
 abbrev pub answerSays : Answer → Said
 answerSays (answer.Refused n d) = refused n d
 answerSays answer.Accepted = accepted

@@ -8,8 +8,6 @@
 //              questions, each a side (0 predecessors, else successors) and a task
 //
 // Numbers are decimal, up to 32 bits, each behind one blank. A line that is none of these is printed as unreadable.
-mod read;
-mod show;
 
 ghost use mathlib.Core.Path.{_≡_};
 ghost use Prim.Native.Nat.{_≤_, _<_};
@@ -38,9 +36,17 @@ fn ask<'a>(
 ) {
     let on = side_of(side);
     let named = TaskId::new(task);
-    show::answer(lookup::judge(weights, pred_starts, preds, succ_starts, succs, on, named));
-    show::say(b" : ");
-    show::list(lookup::neighbours(weights, pred_starts, preds, succ_starts, succs, on, named));
+    cases::show::answer(lookup::judge(weights, pred_starts, preds, succ_starts, succs, on, named));
+    cases::show::say(b" : ");
+    cases::show::list(lookup::neighbours(
+        weights,
+        pred_starts,
+        preds,
+        succ_starts,
+        succs,
+        on,
+        named,
+    ));
 }
 
 fn ask_all<'a>(
@@ -64,36 +70,28 @@ fn ask_all<'a>(
         );
         i += 2;
         if i < asked.len() {
-            show::say(b" | ");
+            cases::show::say(b" | ");
         }
     }
-    show::say(b"\n");
-}
-
-// A word of a case that is a length or a limit.
-fn length_at(case: &[u32], place: usize) -> usize
-    requires { ⌜ place < length (now case) ⌝ }
-    ensures { λ r. ⌜ r ≤ 4294967295 ⌝ }
-{
-    case[place] as usize
+    cases::show::say(b"\n");
 }
 
 fn lookup_case(case: &[u32]) {
     if case.len() < 5 {
-        show::unreadable();
+        cases::show::unreadable();
         return;
     }
-    let a = 5 + length_at(case, 0);
-    let b = a + length_at(case, 1);
-    let c = b + length_at(case, 2);
-    let d = c + length_at(case, 3);
-    let e = d + length_at(case, 4);
+    let a = 5 + cases::read::length_at(case, 0);
+    let b = a + cases::read::length_at(case, 1);
+    let c = b + cases::read::length_at(case, 2);
+    let d = c + cases::read::length_at(case, 3);
+    let e = d + cases::read::length_at(case, 4);
     if case.len() < e {
-        show::unreadable();
+        cases::show::unreadable();
         return;
     }
     if (case.len() - e) % 2 != 0 {
-        show::unreadable();
+        cases::show::unreadable();
         return;
     }
     ask_all(
@@ -116,20 +114,14 @@ fn link_lent(
     succs: &mut [u32],
     degrees: &mut [u32],
 ) {
-    show::put_marks(succ_starts);
-    show::put_marks(succs);
-    show::put_marks(degrees);
+    cases::show::put_marks(succ_starts);
+    cases::show::put_marks(succs);
+    cases::show::put_marks(degrees);
     let answer = link::link_graph(limits, weights, starts, preds, succ_starts, succs, degrees);
-    show::answer(answer);
-    show::lent(succ_starts);
-    show::lent(succs);
-    show::lent(degrees);
-}
-
-fn larger(a: usize, b: usize) -> usize
-    ensures { λ r. ⌜ (a ≤ r) × (b ≤ r) ⌝ }
-{
-    if a < b { b } else { a }
+    cases::show::answer(answer);
+    cases::show::lent(succ_starts);
+    cases::show::lent(succs);
+    cases::show::lent(degrees);
 }
 
 // Lends lists of the lengths named.
@@ -168,15 +160,15 @@ fn run_graph(
     b: usize,
     c: usize,
 ) {
-    if 8200 < larger(a, larger(b, c)) {
-        show::unreadable();
+    if 8200 < cases::read::larger(a, cases::read::larger(b, c)) {
+        cases::show::unreadable();
         return;
     }
-    show::say(b"check ");
-    show::answer(graph_check::check_graph(limits, true, true, weights, starts, preds));
-    show::say(b" | link ");
+    cases::show::say(b"check ");
+    cases::show::answer(graph_check::check_graph(limits, true, true, weights, starts, preds));
+    cases::show::say(b" | link ");
     lend(limits, weights, starts, preds, a, b, c);
-    show::say(b"\n");
+    cases::show::say(b"\n");
 }
 
 // The limits that a case names; the others are the engine's.
@@ -184,8 +176,8 @@ fn limits_of(case: &[u32]) -> Limits
     requires { ⌜ 2 ≤ length (now case) ⌝ }
 {
     Limits {
-        tasks: length_at(case, 0),
-        edges: length_at(case, 1),
+        tasks: cases::read::length_at(case, 0),
+        edges: cases::read::length_at(case, 1),
         workers: 16,
         slots: 64,
     }
@@ -193,20 +185,20 @@ fn limits_of(case: &[u32]) -> Limits
 
 fn graph_case(case: &[u32]) {
     if case.len() < 8 {
-        show::unreadable();
+        cases::show::unreadable();
         return;
     }
-    let a = 8 + length_at(case, 2);
-    let b = a + length_at(case, 3);
-    let c = b + length_at(case, 4);
+    let a = 8 + cases::read::length_at(case, 2);
+    let b = a + cases::read::length_at(case, 3);
+    let c = b + cases::read::length_at(case, 4);
     if case.len() != c {
-        show::unreadable();
+        cases::show::unreadable();
         return;
     }
     let limits = limits_of(case);
-    let succ_starts = length_at(case, 5);
-    let succs = length_at(case, 6);
-    let degrees = length_at(case, 7);
+    let succ_starts = cases::read::length_at(case, 5);
+    let succs = cases::read::length_at(case, 6);
+    let degrees = cases::read::length_at(case, 7);
     run_graph(
         limits,
         &case[8..a],
@@ -219,13 +211,13 @@ fn graph_case(case: &[u32]) {
 }
 
 fn note(line: &[u8]) {
-    show::say(line);
-    show::say(b"\n");
+    cases::show::say(line);
+    cases::show::say(b"\n");
 }
 
 fn run_line(line: &[u8], words: &mut [u32]) {
     if line.len() == 0 {
-        show::unreadable();
+        cases::show::unreadable();
         return;
     }
     let kind = line[0];
@@ -233,16 +225,16 @@ fn run_line(line: &[u8], words: &mut [u32]) {
         note(line);
         return;
     }
-    let numbers = read::numbers(line, words);
+    let numbers = cases::read::numbers(line, words);
     let count = numbers.count;
     if !numbers.good {
-        show::unreadable();
+        cases::show::unreadable();
     } else if kind == b'g' {
         graph_case(&words[..count]);
     } else if kind == b'n' {
         lookup_case(&words[..count]);
     } else {
-        show::unreadable();
+        cases::show::unreadable();
     }
 }
 
@@ -250,24 +242,17 @@ fn run(text: &[u8]) {
     let mut words = [0u32; 24576];
     let mut at = 0;
     while at < text.len() {
-        let end = read::line_end(text, at);
+        let end = cases::read::line_end(text, at);
         run_line(&text[at..end], &mut words);
         at = end + 1;
     }
 }
 
-// Room for the whole input.
-fn room() -> [u8; 786432]
-    ensures { λ r. ⌜ 786432 ≡ length r ⌝ }
-{
-    [0; 786432]
-}
-
 fn main() {
-    let mut space = room();
+    let mut space = cases::read::room();
     let count = io::read_full(libc::STDIN_FILENO, &mut space);
     if count == 786432 {
-        show::say(b"the input is too long\n");
+        cases::show::say(b"the input is too long\n");
         return;
     }
     run(&space[..count]);

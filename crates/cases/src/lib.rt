@@ -1,0 +1,3 @@
+// What the programs that run stored cases share: reading lines of numbers, printing answers and lists.
+pub mod read;
+pub mod show;

@@ -1,0 +1,55 @@
+//! The proved reader, called through its export.
+
+use crate::model::Refusal;
+
+#[repr(C)]
+struct ReadReply {
+    number: u32,
+    detail: u32,
+    tasks: u32,
+    edges: u32,
+}
+
+extern "C" {
+    fn yolluvek_read_text(
+        text: *const u8,
+        text_len: usize,
+        weights: *mut u32,
+        weights_len: usize,
+        starts: *mut u32,
+        starts_len: usize,
+        preds: *mut u32,
+        preds_len: usize,
+    ) -> ReadReply;
+}
+
+/// The export's answer as the model gives it; refused, N and E have to be 0.
+///
+/// Inlined, so that a program that calls other exports alone needs no archive of this one.
+#[inline]
+pub fn read(text: &[u8], weights: &mut [u32], starts: &mut [u32], preds: &mut [u32]) -> Result<(u32, u32), Refusal> {
+    // each pointer and length is that of a list that lives through the call; the three that are written are lent alone
+    let reply = unsafe {
+        yolluvek_read_text(
+            text.as_ptr(),
+            text.len(),
+            weights.as_mut_ptr(),
+            weights.len(),
+            starts.as_mut_ptr(),
+            starts.len(),
+            preds.as_mut_ptr(),
+            preds.len(),
+        )
+    };
+    match reply.number {
+        0 => {
+            assert_eq!(reply.detail, 0, "an accepted text has detail 0");
+            Ok((reply.tasks, reply.edges))
+        }
+        number => {
+            assert_eq!((reply.tasks, reply.edges), (0, 0), "a refused text has no N and E");
+            let detail = reply.detail;
+            Err(Refusal { number, detail })
+        }
+    }
+}
