@@ -1,11 +1,15 @@
 -- The diamond, and texts that break the layout, computed.
 use Prim.Native.Nat.{ℕ}
 use mathlib.Core.Path.{_≡_, refl}
+use mathlib.Core.Logic.{inl, inr}
 use mathlib.Core.List.{List, [], _∷_}
+use native.Mathlib.Omega.{arith}
+use Rattle.lists.specs.Sums.{sumOf}
 use Rattle.layout.specs.Marks.{Each}
 use Rattle.layout.specs.Tasks.{weightsOf, startsFrom, predsOf}
 use Rattle.layout.specs.Layout.{Spells}
 use Rattle.layout.specs.Reader.{lines, trim, skipped, fields, digits, valueOf, rowOf, taskOf, contents, tasksFrom, Verdict, spelled, broken, over, verdict}
+use Rattle.layout.specs.Promises.{Beyond}
 use Rattle.layout.proofs.Tables.{task, tables}
 use Rattle.layout.proofs.Accepted.{spells-verdict}
 
@@ -79,6 +83,23 @@ table =
     ∷ is (160 ∷ 48 ∷ 10 ∷ []) (broken 1)
     -- a predecessor twice is begin's to refuse
     ∷ is (49 ∷ 10 ∷ 48 ∷ 32 ∷ 48 ∷ 32 ∷ 48 ∷ 10 ∷ 49 ∷ 32 ∷ 52 ∷ 48 ∷ 48 ∷ 48 ∷ 48 ∷ 32 ∷ 50 ∷ 32 ∷ 48 ∷ 32 ∷ 48 ∷ 10 ∷ 50 ∷ 32 ∷ 48 ∷ 32 ∷ 48 ∷ 10 ∷ []) (spelled (task 0 [] ∷ task 40000 (0 ∷ 0 ∷ []) ∷ task 0 [] ∷ []))
+    -- a last line without its end counts, a blank one and a comment too
+    ∷ is (32 ∷ []) (broken 2)
+    ∷ is (35 ∷ []) (broken 2)
+    -- CR CR LF is no line end, a form feed none either
+    ∷ is (48 ∷ 13 ∷ 13 ∷ 10 ∷ []) (broken 1)
+    ∷ is (48 ∷ 12 ∷ 10 ∷ []) (broken 1)
+    -- any byte in a comment, and # alone starts one
+    ∷ is (48 ∷ 10 ∷ 35 ∷ 0 ∷ 255 ∷ 59 ∷ 13 ∷ 35 ∷ 10 ∷ 48 ∷ 32 ∷ 48 ∷ 32 ∷ 48 ∷ 10 ∷ 49 ∷ 32 ∷ 48 ∷ 32 ∷ 48 ∷ 10 ∷ []) (spelled (task 0 [] ∷ task 0 [] ∷ []))
+    ∷ is (59 ∷ 10 ∷ []) (broken 1)
+    -- the last dummy where n is 1, and the first
+    ∷ is (49 ∷ 10 ∷ 48 ∷ 32 ∷ 48 ∷ 32 ∷ 48 ∷ 10 ∷ 49 ∷ 32 ∷ 53 ∷ 32 ∷ 48 ∷ 10 ∷ 50 ∷ 32 ∷ 57 ∷ 32 ∷ 48 ∷ 10 ∷ []) (broken 4)
+    ∷ is (49 ∷ 10 ∷ 48 ∷ 32 ∷ 51 ∷ 32 ∷ 48 ∷ 10 ∷ 49 ∷ 32 ∷ 53 ∷ 32 ∷ 48 ∷ 10 ∷ 50 ∷ 32 ∷ 48 ∷ 32 ∷ 48 ∷ 10 ∷ []) (broken 2)
+    -- 13 before 2 in one line
+    ∷ is (49 ∷ 48 ∷ 50 ∷ 51 ∷ 32 ∷ 49 ∷ 10 ∷ []) (broken 1)
+    ∷ is (49 ∷ 10 ∷ 48 ∷ 32 ∷ 48 ∷ 32 ∷ 48 ∷ 10 ∷ 49 ∷ 32 ∷ 53 ∷ 32 ∷ 57 ∷ 48 ∷ 48 ∷ 48 ∷ 32 ∷ 48 ∷ 10 ∷ []) (broken 3)
+    -- the largest n
+    ∷ is (49 ∷ 48 ∷ 50 ∷ 50 ∷ 10 ∷ []) (broken 2)
     -- n over 1,022, whatever follows
     ∷ is (49 ∷ 48 ∷ 50 ∷ 51 ∷ 10 ∷ 120 ∷ []) over
     ∷ is (54 ∷ 53 ∷ 53 ∷ 51 ∷ 53 ∷ []) over
@@ -87,4 +108,14 @@ table =
 pub examples : Each (λ x. verdict (x .text) ≡ x .judgement) table
 unfolding lines trim skipped fields digits valueOf rowOf taskOf contents tasksFrom verdict weightsOf startsFrom predsOf
 examples =
-    (refl, (refl, (refl, (refl, (refl, (refl, (refl, (refl, (refl, (refl, (refl, (refl, (refl, (refl, (refl, (refl, (refl, (refl, (refl, (refl, (refl, (refl, tt))))))))))))))))))))))
+    (refl, (refl, (refl, (refl, (refl, (refl, (refl, (refl, (refl, (refl, (refl, (refl, (refl, (refl, (refl, (refl, (refl, (refl, (refl, (refl, (refl, (refl, (refl, (refl, (refl, (refl, (refl, (refl, (refl, (refl, (refl, (refl, (refl, tt)))))))))))))))))))))))))))))))))
+
+-- 8,192 edges are within the limit, 8,193 are not
+pub edges-within : ¬ (Beyond ((0 ∷ []) ∷ (0 ∷ 0 ∷ 0 ∷ []) ∷ (1 ∷ 0 ∷ 8192 ∷ []) ∷ []))
+unfolding sumOf
+edges-within (inl h) = omega (arith, h)
+edges-within (inr h) = omega (arith, h)
+
+pub edges-beyond : Beyond ((0 ∷ []) ∷ (0 ∷ 0 ∷ 0 ∷ []) ∷ (1 ∷ 0 ∷ 8193 ∷ []) ∷ [])
+unfolding sumOf
+edges-beyond = inr (omega arith)

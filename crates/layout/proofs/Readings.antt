@@ -1,5 +1,5 @@
 -- The text is accepted with a graph exactly if it spells that graph within the limits; a refused one leaves the lists.
-use Prim.Native.Nat.{ℕ, suc, _+_, _-_, _≤_}
+use Prim.Native.Nat.{ℕ, suc, _+_, _-_, _≤_, _<_}
 use mathlib.Core.Path.{_≡_, refl, sym, ap, subst, _∙_}
 use mathlib.Core.Logic.{_↔_}
 use mathlib.Core.List.{List}
@@ -13,9 +13,10 @@ use Rattle.task.specs.declared.ReadAnswer.{ReadAnswer}
 use Rattle.task.specs.declared.ReadAnswer.the-variants.{Refused, Accepted}
 use Rattle.layout.specs.Tasks.{Tables}
 use Rattle.layout.specs.Layout.{Spells}
-use Rattle.layout.specs.Reader.{Read, readAs, onto, readText}
-use Rattle.layout.specs.Promises.{Lent, Within, Written, Accepts, Leaves}
+use Rattle.layout.specs.Reader.{Verdict, broken, over, verdict, Read, readAs, onto, laid, readText}
+use Rattle.layout.specs.Promises.{LentWrong, Lent, Within, Written, Accepts, Leaves}
 use Rattle.layout.proofs.Tables.{tables, weights-length, starts-length}
+use Rattle.layout.proofs.Answers.{Answered, wrong-length, too-long, as-judged, answered, lent-right, laid-broken, laid-over}
 use Rattle.layout.proofs.Accepted.{ReadAs, read-spelled, read-accepted}
 use Rattle.layout.proofs.Refusals.{refused-same}
 
@@ -114,3 +115,36 @@ pub refused-leaves : (text w s p : List ℕ) (n d : ℕ) → readSays (readText 
 refused-leaves text w s p n d e =
     let q : readText text w s p ≡ readAs (Refused n d) w s p = refused-same text w s p n d (said-refused (readText text w s p .answer) n d e) in
     record { weights = ap (λ (x : Read). x .weights) q; starts = ap (λ (x : Read). x .starts) q; preds = ap (λ (x : Read). x .preds) q }
+
+-- What the reader says, by its tests and the verdict.
+
+module _ (text w s p : List ℕ) where
+  pub says-wrong : LentWrong w s p → readSays (readText text w s p .answer) ≡ refused 1 0
+  says-wrong h = go (answered text w s p)
+    where
+      go : Answered text w s p → readSays (readText text w s p .answer) ≡ refused 1 0
+      go (wrong-length n e) = ap (λ (x : Read). readSays (x .answer)) e
+      go (too-long n l e) = absurd (n h)
+      go (as-judged l e) = absurd (lent-right text w s p l h)
+
+  pub says-long : ¬ (LentWrong w s p) → 65536 < length text → readSays (readText text w s p .answer) ≡ refused 2 0
+  says-long n l = go (answered text w s p)
+    where
+      go : Answered text w s p → readSays (readText text w s p .answer) ≡ refused 2 0
+      go (wrong-length h e) = absurd (n h)
+      go (too-long m k e) = ap (λ (x : Read). readSays (x .answer)) e
+      go (as-judged k e) = absurd (omega (arith, l, k .short))
+
+  judged-so : {v : Verdict} → Lent text w s p → verdict text ≡ v → readText text w s p ≡ laid v w s p
+  judged-so {v} l q = go (answered text w s p)
+    where
+      go : Answered text w s p → readText text w s p ≡ laid v w s p
+      go (wrong-length h e) = absurd (lent-right text w s p l h)
+      go (too-long m k e) = absurd (omega (arith, k, l .short))
+      go (as-judged k e) = e ∙ ap (λ (u : Verdict). laid u w s p) q
+
+  pub says-broken : (l : ℕ) → Lent text w s p → verdict text ≡ broken l → readSays (readText text w s p .answer) ≡ refused 13 l
+  says-broken l k q = ap (λ (x : Read). readSays (x .answer)) (judged-so k q ∙ laid-broken w s p l)
+
+  pub says-over : Lent text w s p → verdict text ≡ over → readSays (readText text w s p .answer) ≡ refused 2 0
+  says-over k q = ap (λ (x : Read). readSays (x .answer)) (judged-so k q ∙ laid-over w s p)
