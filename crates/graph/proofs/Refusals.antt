@@ -13,9 +13,9 @@ use Rattle.lists.specs.Decided.{holds, firstBelow}
 use Rattle.lists.proofs.Decided.{holds-yes, holds-no, first-smallest, first-least}
 use Rattle.lists.proofs.Told.{Told, told-true, told, le-told, lt-told, eq-told, dec-told, and-told, not-told, and-true}
 use Rattle.task.specs.Types.{capped, engine}
-use Rattle.task.specs.Refusals.{answerSays, wrongLength, beyondLimit, badTable, duplicate, cycle}
+use Rattle.task.specs.Refusals.{accepted, answerSays, wrongLength, beyondLimit, badTable, duplicate, cycle}
 use Rattle.task.specs.Rows.{Follows}
-use Rattle.task.proofs.Rows.{follows-accepted, test-row, smallest-row}
+use Rattle.task.proofs.Rows.{follows-none, test-row, smallest-row}
 use Rattle.task.specs.declared.Limits.{Limits}
 use Rattle.task.specs.declared.Side.{Side}
 use Rattle.graph.specs.Graph.{Graph, graphOf, edgeCount, Edge, Leads, edge, via}
@@ -50,7 +50,7 @@ tables-follow g =
     test-row (not (holds (endsFit? g))) badTable (g .tasks) _ _ (not-told (holds (endsFit? g)) (ends-told g)) (λ _.
     smallest-row (g .tasks) (twice? g) (λ t. (t < g .tasks) × Twice g t) (λ t p. p) (λ t p. p) duplicate _ _ (λ _.
     smallest-row (g .tasks) (onCycle? g) (OnCycle g) (λ t p. p .1) (λ t q. (leads-task g t t q, q)) cycle _ _ (λ _.
-    follows-accepted))))
+    (follows-none accepted tt)))))
 
 -- a number below n that lacks a property, where not all have it
 find-other : (n : ℕ) {P : ℕ → Type 0} → ((t : ℕ) → Dec (P t)) → ¬ ((t : ℕ) → t < n → P t) → (t : ℕ) × ((t < n) × ¬ (P t))
@@ -114,4 +114,4 @@ judge-follows side l t =
     (and-told (eqb (length (l .succStarts)) (length (l .weights) + 1)) (eqb (length (l .succs)) (length (l .preds))) (eq-told (length (l .succStarts)) (length (l .weights) + 1)) (eq-told (length (l .succs)) (length (l .preds))))))
     (λ _. test-row _ badTable t _ _
     (not-told _ (and-told (ltb t (length (l .weights))) (holds (good? (length (l .weights)) (startsOn side l) (wordsOn side l) t)) (lt-told t (length (l .weights))) (dec-told (good? (length (l .weights)) (startsOn side l) (wordsOn side l) t))))
-    (λ _. follows-accepted)))
+    (λ _. follows-none accepted tt)))

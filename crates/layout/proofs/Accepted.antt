@@ -20,7 +20,7 @@ use Rattle.layout.proofs.Begun.{rows-within}
 use Rattle.layout.proofs.Reached.{at-last, pre-within}
 use Rattle.layout.proofs.Judged.{Judged, as-spelled, as-broken, as-over, judged}
 use Rattle.layout.proofs.Begins.{keeps-fits}
-use Rattle.layout.proofs.Answers.{Answered, wrong-length, too-long, as-judged, answered, lent-right, laid-spelled, laid-broken, laid-over}
+use Rattle.layout.proofs.Answers.{Answered, wrong-length, too-long, as-judged, answered, lent-judged, laid-spelled, laid-broken, laid-over}
 
 -- lines that keep the layout with tasks within the limits pass none
 pub keeps-within : (ls : List Line) (xs : List Task) → Keeps ls xs → length xs ≤ 1024 → edgesOf xs ≤ 8192 → (l : ℕ) → ¬ (Exceeds ls l)
@@ -46,14 +46,10 @@ verdict-spelled text xs k few edges = go (judged text)
 
 read-tasks : (text w s p : List ℕ) (xs : List Task) → Lent text w s p → Keeps (lines text) xs → length xs ≤ 1024 → edgesOf xs ≤ 8192
     → ReadAs text w s p (tablesOf xs)
-read-tasks text w s p xs lent k few edges = go (answered text w s p)
-  where
-    go : Answered text w s p → ReadAs text w s p (tablesOf xs)
-    go (wrong-length h e) = absurd (lent-right text w s p lent h)
-    go (too-long h l e) = absurd (omega (arith, lent .short))
-    go (as-judged l e) = e ∙ rw (verdict-spelled text xs k few edges, laid-spelled w s p xs, weights-length xs) refl
+read-tasks text w s p xs lent k few edges =
+    lent-judged text w s p lent (verdict-spelled text xs k few edges) ∙ rw (laid-spelled w s p xs, weights-length xs) refl
 
--- accepted with g exactly if the text spells g within the limits
+-- a text that spells g within the limits is read as g
 pub read-spelled : (text w s p : List ℕ) (g : Tables) → Lent text w s p → Spells text g → Within g → ReadAs text w s p g
 read-spelled text w s p g lent spells within =
     subst (ReadAs text w s p) (sym (spells .tables))
@@ -78,6 +74,7 @@ spells-verdict text xs q = go (judged text)
     go (as-broken k v f h m) = unequal cc
     go (as-over m v h) = unequal cc
 
+-- and every accepted text is such a one
 pub read-accepted : (text w s p : List ℕ) (n e : ℕ) → readText text w s p .answer ≡ Accepted n e
     → (g : Tables) × Lent text w s p × Spells text g × Within g × ReadAs text w s p g
 read-accepted text w s p n e a = go (answered text w s p)

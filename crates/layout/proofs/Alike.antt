@@ -53,9 +53,9 @@ module _ (h : List ℕ) (each : Each Digit h) (filled : ¬ (h ≡ [])) where
     padded-idle : skippable f ≡ false
     padded-idle = digits-idle f digits-of some-of
 
-same-number : (f g : List ℕ) → SameField f g → valueOf f ≡ valueOf g
-same-number f g (inl e) = ap valueOf e
-same-number f g (inr s) = padded-number (s .digits) (s .each) (s .some) f (s .left) ∙ sym (padded-number (s .digits) (s .each) (s .some) g (s .right))
+same-value : (f g : List ℕ) → SameField f g → valueOf f ≡ valueOf g
+same-value f g (inl e) = ap valueOf e
+same-value f g (inr s) = padded-number (s .digits) (s .each) (s .some) f (s .left) ∙ sym (padded-number (s .digits) (s .each) (s .some) g (s .right))
 
 same-idle : (f g : List ℕ) → SameField f g → skippable f ≡ skippable g
 same-idle f g (inl e) = ap skippable e
@@ -65,7 +65,7 @@ same-numbers : (fs gs : List (List ℕ)) → SameFields fs gs → numbersOf fs �
 same-numbers [] [] s = refl
 same-numbers [] (g ∷ gs) s = absurd s
 same-numbers (f ∷ fs) [] s = absurd s
-same-numbers (f ∷ fs) (g ∷ gs) (s, t) = rw (same-number f g s, same-numbers fs gs t) refl
+same-numbers (f ∷ fs) (g ∷ gs) (s, t) = rw (same-value f g s, same-numbers fs gs t) refl
 
 -- Lines.
 

@@ -1,6 +1,6 @@
 -- What the reader answers and writes, by its tests.
 use Prim.Native.Nat.{ℕ, _<_}
-use mathlib.Core.Path.{_≡_, refl}
+use mathlib.Core.Path.{_≡_, refl, ap, _∙_}
 use mathlib.Core.Bool.{true, false, _&&_}
 use mathlib.Core.Logic.{inl, inr}
 use mathlib.Core.List.{List}
@@ -12,7 +12,7 @@ use Rattle.lists.proofs.Told.{Told, told-true, told-false, eq-told, le-told, an
 use Rattle.task.specs.Refusals.{wrongLength, beyondLimit, brokenLayout}
 use Rattle.task.specs.declared.ReadAnswer.the-variants.{Refused, Accepted}
 use Rattle.layout.specs.Tasks.{Task, weightsOf, startsOf, predsOf, edgesOf}
-use Rattle.layout.specs.Reader.{spelled, broken, over, verdict, readAs, onto, laid, lentFit, readText}
+use Rattle.layout.specs.Reader.{Verdict, spelled, broken, over, verdict, readAs, onto, laid, lentFit, readText}
 use Rattle.layout.specs.Promises.{LentWrong, Lent}
 
 module _ (w s p : List ℕ) where
@@ -75,3 +75,12 @@ module _ (text w s p : List ℕ) where
         preds = lent-room w s p e .2;
         short = omega (arith, n);
       }) (read-judged e f)
+
+  -- the verdict decides where what is lent is as stated
+  pub lent-judged : {v : Verdict} → Lent text w s p → verdict text ≡ v → readText text w s p ≡ laid v w s p
+  lent-judged {v} l q = go answered
+    where
+      go : Answered text w s p → readText text w s p ≡ laid v w s p
+      go (wrong-length h e) = absurd (lent-right text w s p l h)
+      go (too-long m k e) = absurd (omega (arith, k, l .short))
+      go (as-judged k e) = e ∙ ap (λ (u : Verdict). laid u w s p) q

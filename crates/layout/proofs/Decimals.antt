@@ -1,10 +1,11 @@
 -- Fields with the same number differ only in the zeros in front.
 use Prim.Native.Nat.{ℕ, zero, suc, _+_, _*_, _-_, _≤_}
-use mathlib.Core.Path.{_≡_, refl, sym, ap, _∙_}
+use mathlib.Core.Path.{_≡_, refl, sym, _∙_}
 use mathlib.Core.List.{List, [], _∷_, _++_}
 use native.Mathlib.Omega.{arith}
 use native.Mathlib.Decide.{decLe}
 use lib.ListN.{length, replicate}
+use Rattle.lists.proofs.Appends.{some-members}
 use Rattle.layout.specs.Marks.{digit0, Digit, Each}
 use Rattle.layout.specs.Layout.{decimalFrom, decimal, Decimal}
 use Rattle.layout.specs.Alike.{Padded, SameNumber}
@@ -34,9 +35,6 @@ zeros-before f h (suc z) (b ∷ g) v (k, ks) l e =
 pub same-number : (f g : List ℕ) (v : ℕ) → Decimal f v → Decimal g v → SameNumber f g
 same-number f g v x y = go (decLe (length f) (length g))
   where
-    not-nil : (h : List ℕ) → Decimal h v → ¬ (h ≡ [])
-    not-nil h d e = omega (arith, d .one, ap (λ (l : List ℕ). length l) e)
-
     alone : (h : List ℕ) → Decimal h v → Padded h h
     alone h d = record { zeros = 0; whole = refl; five = d .five }
 
@@ -48,5 +46,5 @@ same-number f g v x y = go (decLe (length f) (length g))
     }
 
     go : Dec (length f ≤ length g) → SameNumber f g
-    go (yes l) = record { digits = f; each = x .digits; some = not-nil f x; left = alone f x; right = longer f g x y l }
-    go (no n) = record { digits = g; each = y .digits; some = not-nil g y; left = longer g f y x (omega (arith, n)); right = alone g y }
+    go (yes l) = record { digits = f; each = x .digits; some = some-members f (x .one); left = alone f x; right = longer f g x y l }
+    go (no n) = record { digits = g; each = y .digits; some = some-members g (y .one); left = longer g f y x (omega (arith, n)); right = alone g y }

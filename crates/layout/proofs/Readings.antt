@@ -13,10 +13,10 @@ use Rattle.task.specs.declared.ReadAnswer.{ReadAnswer}
 use Rattle.task.specs.declared.ReadAnswer.the-variants.{Refused, Accepted}
 use Rattle.layout.specs.Tasks.{Tables}
 use Rattle.layout.specs.Layout.{Spells}
-use Rattle.layout.specs.Reader.{Verdict, broken, over, verdict, Read, readAs, onto, laid, readText}
+use Rattle.layout.specs.Reader.{broken, over, verdict, Read, readAs, onto, readText}
 use Rattle.layout.specs.Promises.{LentWrong, Lent, Within, Written, Accepts, Leaves}
 use Rattle.layout.proofs.Tables.{tables, weights-length, starts-length}
-use Rattle.layout.proofs.Answers.{Answered, wrong-length, too-long, as-judged, answered, lent-right, laid-broken, laid-over}
+use Rattle.layout.proofs.Answers.{Answered, wrong-length, too-long, as-judged, answered, lent-right, lent-judged, laid-broken, laid-over}
 use Rattle.layout.proofs.Accepted.{ReadAs, read-spelled, read-accepted}
 use Rattle.layout.proofs.Refusals.{refused-same}
 
@@ -135,16 +135,8 @@ module _ (text w s p : List ℕ) where
       go (too-long m k e) = ap (λ (x : Read). readSays (x .answer)) e
       go (as-judged k e) = absurd (omega (arith, l, k .short))
 
-  judged-so : {v : Verdict} → Lent text w s p → verdict text ≡ v → readText text w s p ≡ laid v w s p
-  judged-so {v} l q = go (answered text w s p)
-    where
-      go : Answered text w s p → readText text w s p ≡ laid v w s p
-      go (wrong-length h e) = absurd (lent-right text w s p l h)
-      go (too-long m k e) = absurd (omega (arith, k, l .short))
-      go (as-judged k e) = e ∙ ap (λ (u : Verdict). laid u w s p) q
-
   pub says-broken : (l : ℕ) → Lent text w s p → verdict text ≡ broken l → readSays (readText text w s p .answer) ≡ refused 13 l
-  says-broken l k q = ap (λ (x : Read). readSays (x .answer)) (judged-so k q ∙ laid-broken w s p l)
+  says-broken l k q = ap (λ (x : Read). readSays (x .answer)) (lent-judged text w s p k q ∙ laid-broken w s p l)
 
   pub says-over : Lent text w s p → verdict text ≡ over → readSays (readText text w s p .answer) ≡ refused 2 0
-  says-over k q = ap (λ (x : Read). readSays (x .answer)) (judged-so k q ∙ laid-over w s p)
+  says-over k q = ap (λ (x : Read). readSays (x .answer)) (lent-judged text w s p k q ∙ laid-over w s p)

@@ -12,7 +12,7 @@ use Rattle.task.specs.Refusals.{Said, refused, graphRead, wrongLength, beyondLi
 use Rattle.task.specs.Rows.{Refusal, row, only, Follows}
 use Rattle.task.specs.declared.ReadAnswer.{ReadAnswer}
 use Rattle.task.specs.declared.ReadAnswer.the-variants.{Refused}
-use Rattle.task.proofs.Rows.{follows-given, follows-passed}
+use Rattle.task.proofs.Rows.{follows-none, follows-given, follows-passed}
 use Rattle.layout.specs.Marks.{Line, Numbers}
 use Rattle.layout.specs.Tasks.{Task, Tables, edgesOf, tablesOf}
 use Rattle.layout.specs.Layout.{NoLf, Lines, Keeps, Spells}
@@ -25,13 +25,6 @@ use Rattle.layout.proofs.Judged.{Judged, as-spelled, as-broken, as-over
 use Rattle.layout.proofs.Begins.{fits-take, begins-take, keeps-fits, begins-fits, fits-begins}
 use Rattle.layout.proofs.Answers.{Answered, wrong-length, too-long, as-judged, answered, lent-right, laid-spelled, laid-broken, laid-over}
 use Rattle.layout.proofs.Accepted.{keeps-within}
-
--- no rows are left, and the graph is read
-follows-read : (n e : ℕ) → Follows [] (graphRead n e)
-follows-read n e = record {
-  refuses = λ m d. (λ q. unequal cc, λ a. absurd a);
-  accepts = (λ u. tt, λ u. tt);
-}
 
 -- n is small where no limit is passed
 within-small : (rows : List Numbers) → ¬ (Beyond rows) → getD (getD rows 0 []) 0 0 < 65535
@@ -131,7 +124,7 @@ module _ (text : List ℕ) (ls : List Line) (parted : Lines text ls) where
       let said : Said = graphRead (length xs) (edgesOf xs) in
       rw (e, laid-spelled w s p xs)
       (follows-passed breaking (passing ∷ []) said (kept-unbroken xs k)
-      (follows-passed passing [] said (λ d c. keeps-within ls xs k few edges (c .1 .0) (c .1 .1)) (follows-read (length xs) (edgesOf xs))))
+      (follows-passed passing [] said (λ d c. keeps-within ls xs k few edges (c .1 .0) (c .1 .1)) (follows-none said tt)))
   verdict-follows w s p v (as-broken k e f h m) =
       rw (e, laid-broken w s p (suc k)) (follows-given breaking (passing ∷ []) (suc k) (breaks-there k f h m) (breaks-only k f h m))
   verdict-follows w s p v (as-over m e h) =

@@ -16,10 +16,10 @@ use Rattle.task.specs.declared.ReadAnswer.{ReadAnswer}
 use Rattle.task.specs.declared.ReadAnswer.the-variants.{Refused, Accepted}
 use Rattle.layout.specs.Tasks.{Task, weightsOf, startsFrom, startsOf, predsOf, edgesOf}
 use Rattle.layout.specs.Reader.{lines, rowOf, taskOf, numbered, contents, Verdict}
-use Rattle.layout.specs.Reader.{broken, over, more, tasksFrom, headed, verdict}
+use Rattle.layout.specs.Reader.{broken, over, more, headed, verdict}
 use Rattle.layout.specs.Reader.{readAs, onto, laid, lentFit, readText}
 use Rattle.layout.specs.Scan.{rowAt, restAt, NextLine, NextContent, content, no-content, FirstFound}
-use Rattle.layout.specs.Scan.{first, not-first, Outcome, tasks-read, line-broken, limit-passed, weightCount, startCount, predCount}
+use Rattle.layout.specs.Scan.{first, not-first, Outcome, tasks-read, line-broken, limit-passed, weightCount, startCount, predCount, dueFrom}
 use Rattle.layout.proofs.Clauses.{all-read, line-after, ends-early, one-more, not-headed, verdict-is}
 use Rattle.layout.proofs.Tables.{weights-snoc, preds-snoc, edges-snoc, starts-snoc}
 use Rattle.layout.proofs.Answers.{lent-room, laid-spelled, laid-broken, laid-over, read-wrong, read-long, read-judged}
@@ -39,10 +39,6 @@ module _ {text : List ℕ} {at line place number : ℕ} where
   line-counted {next} k a m = omega (arith, place-of k a, next-later text place next (place-of k a .0) m)
 
 -- Tasks that are read.
-
--- the verdict over what is left of the text, from line l on, where m tasks are due after those that are done
-abbrev pub dueFrom : List ℕ → (l m : ℕ) → List Task → Verdict
-dueFrom rest l m done = tasksFrom (l + length (lines rest)) m done (contents l (lines rest))
 
 -- v is the verdict, t tasks with e edges are done, and a line that starts at a place is next
 pub record SoFar (v : Verdict) (text : List ℕ) (n : ℕ) (w s p : List ℕ) (at line t e : ℕ) : Type 0 where

@@ -22,7 +22,7 @@ use Rattle.layout.specs.Layout.{taskRow}
 use Rattle.layout.specs.Reader.{lines, skippable, skipped, rowOf, dummyFits, taskOf, contents}
 use Rattle.layout.specs.Scan.{lineAt, rowAt, restAt, prepend, NoField, Trimmed, NextLine}
 use Rattle.layout.specs.Scan.{NumbersAt, Found, found, missing, Closes, closes, stays-open}
-use Rattle.layout.specs.Scan.{NextContent, content, no-content, Filled, filled, too-few, HeadFound, head, no-head, FirstFound, first, not-first}
+use Rattle.layout.specs.Scan.{NextContent, content, no-content, Filling, Filled, filled, too-few, Head, HeadFound, head, no-head, FirstFound, first, not-first}
 use Rattle.layout.proofs.Pieces.{lines-nil, row-trim, skipped-is}
 use Rattle.layout.proofs.Clauses.{Fitting, task-some, task-none, contents-nil, contents-skip, contents-line}
 use Rattle.layout.proofs.Tables.{task}
@@ -138,14 +138,6 @@ module _ {text : List ℕ} {at line p l : ℕ} (s : Skimmed text at line p l) wh
 
 -- Count numbers of a line, one after another.
 
--- the first of them, found from a place on, stand in the words from e up to k, as far as there is room
-pub record Filling (text : List ℕ) (at e : ℕ) (words : List ℕ) (p k : ℕ) (new : List ℕ) : Type 0 where
-  pub values : List ℕ
-  pub counted : e + length values ≡ k
-  pub numbers : NumbersAt text at values p
-  pub room : length new ≡ 8193
-  pub taken : k ≤ 8192 → take k new ≡ take e words ++ values
-
 pub fill-none : {text : List ℕ} {at e : ℕ} {words : List ℕ} → at ≤ length text → length words ≡ 8193 → Filling text at e words at e words
 fill-none {text} {at} {e} {words} h k =
     record { values = []; counted = add-zero e; numbers = numbers-none h; room = k; taken = λ _. sym (append-nil (take e words)) }
@@ -181,7 +173,7 @@ module _ {text : List ℕ} {at e : ℕ} {words : List ℕ} {p k : ℕ} {new : Li
           stop (u, l, q) = n u l (g ∙ ap some q)
 
   pub fill-whole : {count : ℕ} → k ≡ e + count → Filled text at count e true p words new
-  fill-whole h = filled refl (f .values) (omega (arith, f .counted)) (f .numbers) (f .room) (λ l. rw (sym h) (f .taken (omega arith)))
+  fill-whole h = filled refl (rw (sym h) f)
 
 -- A task's row.
 
@@ -248,32 +240,30 @@ module _ {text : List ℕ} {at t : ℕ} where
 
     pub count-right : {count q : ℕ} → Found text next count q → wrong count (eqb t 0) ≡ false → HeadFound text at t last true time count q
     count-right {count} g k =
-        head refl (small count (eqb t 0) k) both (numbers-more time-right (found-numbers g (small count (eqb t 0) k)))
+        head refl (record {
+          few = small count (eqb t 0) k;
+          fits = both;
+          numbers = numbers-more time-right (found-numbers g (small count (eqb t 0) k));
+        })
       where
         both : dummyFits t last time count ≡ true
         both = rw (passes (ltb 65535 time) (eqb time 0) (eqb t 0 || last) e .1, passes (ltb 65535 count) (eqb count 0) (eqb t 0) k .1) refl
 
 -- A task's line.
 
--- the first three numbers, with what makes them fit
-pub record Head (text : List ℕ) (at t : ℕ) (last : Bool) (time count next : ℕ) : Type 0 where
-  pub few : count ≤ 65535
-  pub fits : dummyFits t last time count ≡ true
-  pub numbers : NumbersAt text at (t ∷ time ∷ count ∷ []) next
-
 pub head-is : {text : List ℕ} {at t : ℕ} {last fits : Bool} {time count next : ℕ} → HeadFound text at t last fits time count next → fits ≡ true
     → Head text at t last time count next
-head-is (head e k d n) f = record { few = k; fits = d; numbers = n }
+head-is (head e h) f = h
 head-is (no-head e n) f = true-and-false f e
 
 pub head-not : {text : List ℕ} {at t : ℕ} {last fits : Bool} {time count next : ℕ} → HeadFound text at t last fits time count next → fits ≡ false
     → taskOf t last (rowAt text at) ≡ none
-head-not (head e k d n) f = true-and-false e f
+head-not (head e h) f = true-and-false e f
 head-not (no-head e n) f = n
 
 pub filled-is : {text : List ℕ} {at count e next : ℕ} {full : Bool} {words new : List ℕ} → Filled text at count e full next words new → full ≡ true
     → Filling text at e words next (e + count) new
-filled-is (filled o vs k n r f) q = record { values = vs; counted = omega (arith, k); numbers = n; room = r; taken = f }
+filled-is (filled o f) q = f
 filled-is (too-few o n) q = true-and-false q o
 
 pub closes-is : {text : List ℕ} {at next : ℕ} {closed : Bool} → Closes text at closed next → closed ≡ true
@@ -296,7 +286,7 @@ module _ {text : List ℕ} {at t : ℕ} {last : Bool} {time count p : ℕ} (h : 
 
   pub line-short : {e next : ℕ} {full : Bool} {words new : List ℕ} → Filled text p count e full next words new → full ≡ false
       → taskOf t last (rowAt text at) ≡ none
-  line-short (filled o vs k n r f) q = true-and-false o q
+  line-short (filled o f) q = true-and-false o q
   line-short (too-few o n) q =
       task-none t last (rowAt text at)
       (λ x e g. n (x .preds) [] (preds-behind x e .0) (preds-behind x e .1))

@@ -12,7 +12,7 @@ use Rattle.task.specs.declared.ReadAnswer.{ReadAnswer}
 use Rattle.task.specs.declared.ReadAnswer.the-variants.{Refused, Accepted}
 use Rattle.layout.specs.Marks.{lf, cr, Line, Numbers}
 use Rattle.layout.specs.Tasks.{Task, weightsOf, startsOf, predsOf, edgesOf}
-use Rattle.layout.specs.Reader.{startsLf, lines, blank, trim, rowOf, dummyFits, taskOf, numbered, contents, Verdict, spelled, broken, over}
+use Rattle.layout.specs.Reader.{startsLf, lines, blank, trim, rowOf, dummyFits, taskOf, numbered, contents, Verdict, spelled, broken, over, tasksFrom}
 
 -- the text's first line, and the text after its end
 unfoldable pub lineOf : List ℕ → List ℕ
@@ -90,23 +90,39 @@ pub data NextContent (text : List ℕ) (at line : ℕ) (place number : ℕ) : Ty
   no-content : place ≡ length text → number ≤ suc place → contents line (lines (drop at text)) ≡ []
       → line + length (lines (drop at text)) ≡ number → NextContent text at line place number
 
--- count numbers of the line go into the words from e on, as far as there is room; or the line has fewer
+-- numbers of the line, from one place to another, stand in the words from e up to k, as far as there is room
+pub record Filling (text : List ℕ) (at e : ℕ) (words : List ℕ) (next k : ℕ) (new : List ℕ) : Type 0 where
+  pub values : List ℕ
+  pub counted : e + length values ≡ k
+  pub numbers : NumbersAt text at values next
+  pub room : length new ≡ 8193
+  pub taken : k ≤ 8192 → take k new ≡ take e words ++ values
+
+-- count numbers of the line stand there; or the line has fewer
 pub data Filled (text : List ℕ) (at count e : ℕ) (full : Bool) (next : ℕ) (words new : List ℕ) : Type 0 where
-  filled : full ≡ true → (vs : List ℕ) → length vs ≡ count → NumbersAt text at vs next → length new ≡ 8193
-      → (e + count ≤ 8192 → take (e + count) new ≡ take e words ++ vs) → Filled text at count e full next words new
+  filled : full ≡ true → Filling text at e words next (e + count) new → Filled text at count e full next words new
   too-few : full ≡ false → ((us : List ℕ) (row : Numbers) → length us ≡ count → ¬ (rowAt text at ≡ some (us ++ row)))
       → Filled text at count e full next words new
 
--- the first three numbers of task t's line; or the line gives no such task
+-- the first three numbers of task t's line, with what makes them fit
+pub record Head (text : List ℕ) (at t : ℕ) (last : Bool) (time count next : ℕ) : Type 0 where
+  pub few : count ≤ 65535
+  pub fits : dummyFits t last time count ≡ true
+  pub numbers : NumbersAt text at (t ∷ time ∷ count ∷ []) next
+
+-- they are found; or the line gives no such task
 pub data HeadFound (text : List ℕ) (at t : ℕ) (last fits : Bool) (time count next : ℕ) : Type 0 where
-  head : fits ≡ true → count ≤ 65535 → dummyFits t last time count ≡ true → NumbersAt text at (t ∷ time ∷ count ∷ []) next
-      → HeadFound text at t last fits time count next
+  head : fits ≡ true → Head text at t last time count next → HeadFound text at t last fits time count next
   no-head : fits ≡ false → taskOf t last (rowAt text at) ≡ none → HeadFound text at t last fits time count next
 
 -- the first line that is not skipped: n + 2 tasks and the place of the next line, or 0 tasks where the line isn't n alone
 pub data FirstFound (text : List ℕ) (at tasks next : ℕ) : Type 0 where
   first : (n : ℕ) → tasks ≡ n + 2 → n ≤ 65535 → rowAt text at ≡ some (n ∷ []) → NextLine text at next → FirstFound text at tasks next
   not-first : tasks ≡ 0 → ((n : ℕ) → ¬ (rowAt text at ≡ some (n ∷ []))) → FirstFound text at tasks next
+
+-- the verdict over what is left of the text, from line l on, where m tasks are due after those that are done
+abbrev pub dueFrom : List ℕ → (l m : ℕ) → List Task → Verdict
+dueFrom rest l m done = tasksFrom (l + length (lines rest)) m done (contents l (lines rest))
 
 -- an answer and three lists as a verdict has them: the lists start with the tables
 pub record TablesIn (xs : List Task) (w s p : List ℕ) : Type 0 where

@@ -1,14 +1,13 @@
--- What the reader's own functions ask of their lists, and what is left of a text after its first line.
-use Prim.Native.Nat.{ℕ, suc, _+_, _≤_}
+-- What the reader's own functions ask of their lists.
+use Prim.Native.Nat.{ℕ, suc, _≤_}
 use mathlib.Core.Path.{_≡_}
-use mathlib.Core.List.{List, []}
-use lib.ListN.{length, getD, drop}
+use mathlib.Core.List.{List}
+use lib.ListN.{length, getD}
 use Rattle.task.specs.Refusals.{beyondLimit, brokenLayout}
 use Rattle.task.specs.declared.ReadAnswer.{ReadAnswer}
 use Rattle.task.specs.declared.ReadAnswer.the-variants.{Refused}
 use Rattle.text_lines.specs.declared.TaskLine.{TaskLine}
 use Rattle.text_lines.specs.declared.TaskLine.the-variants.{Broken, Over, Read}
-use Rattle.layout.specs.Reader.{lines, contents, Verdict, tasksFrom}
 
 -- scratch lists, the first start already there
 pub record Room (w s p : List ℕ) : Type 0 where
@@ -24,9 +23,6 @@ pub record Reading (text : List ℕ) (at line n : ℕ) (w s p : List ℕ) : Type
   pub counted : line ≤ suc at
   pub few : n ≤ 1024
   pub room : Room w s p
-
-unfoldable pub tasksRest : List ℕ → (at line n : ℕ) → Verdict
-tasksRest text at line n = tasksFrom (line + length (lines (drop at text))) n [] (contents line (lines (drop at text)))
 
 -- the refusal of a task's line that was not read
 abbrev pub refusedLine : TaskLine → ℕ → ReadAnswer

@@ -1,13 +1,13 @@
 // The reader of task texts. The text is judged line by line into scratch lists; only an accepted text reaches the lent ones.
 ghost use mathlib.Core.Path.{_≡_};
-ghost use mathlib.Core.List.{_++_};
+ghost use mathlib.Core.List.{[], _++_};
 ghost use Prim.Native.Nat.{_≤_, _<_, _^_};
 ghost use lib.ListN.{length, take, drop};
 ghost use Rattle.task.specs.Refusals.{beyondLimit, brokenLayout};
 ghost use Rattle.task.specs.declared.ReadAnswer.the-variants.{Refused};
 ghost use Rattle.layout.specs.Reader.{verdict, readAs, readText};
-ghost use Rattle.layout.specs.Scan.{Outcome, weightCount, startCount, predCount};
-ghost use Rattle.stg.specs.Reading.{Room, Reading, tasksRest, refusedLine};
+ghost use Rattle.layout.specs.Scan.{dueFrom, Outcome, weightCount, startCount, predCount};
+ghost use Rattle.stg.specs.Reading.{Room, Reading, refusedLine};
 use task::ReadAnswer;
 use task::refusal;
 use text_lines::TaskLine;
@@ -36,7 +36,7 @@ fn read_tasks(
     preds: &mut [u32],
 ) -> ReadAnswer
     requires { ⌜ Reading (now text) «at_first» «line_first» n (now weights) (now starts) (now preds) ⌝ }
-    ensures { λ r. ⌜ Outcome (tasksRest (now (text .entry)) «at_first» «line_first» n) r (now (weights .exit)) (now (starts .exit)) (now (preds .exit)) ⌝ }
+    ensures { λ r. ⌜ Outcome (dueFrom (drop «at_first» (now (text .entry))) «line_first» n []) r (now (weights .exit)) (now (starts .exit)) (now (preds .exit)) ⌝ }
 {
     let mut at = at_first;
     let mut line = line_first;

@@ -10,12 +10,13 @@ use borrow.Author.Tests.{ltb-true, ltb-false}
 use Rattle.lists.specs.Decided.{firstBelow, Smallest}
 use Rattle.lists.proofs.Decided.{first-smallest, first-least, smallest-unique}
 use Rattle.lists.proofs.Told.{Told, told-true, told-false, told}
-use Rattle.task.specs.Refusals.{Said, refused, accepted, answerSays, refusedIf}
-use Rattle.task.specs.Rows.{Refusal, row, only, Passed, Given, Follows}
+use Rattle.task.specs.Refusals.{Said, refused, answerSays, refusedIf}
+use Rattle.task.specs.Rows.{Refusal, row, only, Passed, Given, Acceptance, Follows}
 use Rattle.task.specs.declared.Answer.{Answer}
 
-pub follows-accepted : Follows [] accepted
-follows-accepted = record { refuses = λ n d. (λ e. absurd (let z : _≡_ {A = ℕ} 0 1 = cc in omega arith), λ a. absurd a); accepts = (λ u. tt, λ u. tt) }
+-- no row is left, and the call is accepted
+pub follows-none : (said : Said) → Acceptance said → Follows [] said
+follows-none said a = record { refuses = λ n d. (λ e. subst Acceptance e a, λ g. absurd g); accepts = (λ _. tt, λ _. a) }
 
 -- the first row holds, and its detail is the only one
 pub follows-given : (r : Refusal) (rs : List Refusal) (d : ℕ) → r .condition d → ((e : ℕ) → r .condition e → e ≡ d) → Follows (r ∷ rs) (refused (r .number) d)

@@ -1,8 +1,7 @@
 //! Texts at the limits on n, edges and bytes, and lent lists of other lengths.
 
-use super::spell::{plain, Tasks};
+use super::spell::{filled, largest, plain};
 use super::{lines_of, noted, noted_trials, DIAMOND};
-use crate::draw::Draw;
 use crate::frames::{Frame, TextTrial, LENT};
 use crate::model::{MAX_EDGES, MAX_TASKS};
 
@@ -111,28 +110,15 @@ pub fn edges() -> Vec<Frame> {
     .concat()
 }
 
-/// 1,024 tasks and 8,192 edges, a graph without a cycle, and a comment behind them up to this length.
-fn largest(length: usize) -> Vec<u8> {
-    let mut draw = Draw::new(20);
-    let mut tasks: Tasks = (0..MAX_TASKS)
-        .map(|_| (draw.between(1, 65_535) as u32, Vec::new()))
-        .collect();
-    tasks[0].0 = 0;
-    tasks[MAX_TASKS - 1].0 = 0;
-    for _ in 0..MAX_EDGES {
-        let t = draw.between(1, MAX_TASKS - 1);
-        tasks[t].1.push(draw.below(t) as u32);
-    }
-    let mut text = plain(&tasks);
-    text.push(b'#');
-    text.resize(length, b'.');
-    text
+/// 1,024 tasks and 8,192 edges, and a comment behind them up to this length.
+fn longest(length: usize) -> Vec<u8> {
+    filled(plain(&largest(20, MAX_EDGES)), length)
 }
 
 pub fn bytes() -> Vec<Frame> {
     [
-        noted("65,536 bytes, 1,024 tasks and 8,192 edges", [largest(MAX_TEXT)]),
-        noted("65,537 bytes", [largest(MAX_TEXT + 1)]),
+        noted("65,536 bytes, 1,024 tasks and 8,192 edges", [longest(MAX_TEXT)]),
+        noted("65,537 bytes", [longest(MAX_TEXT + 1)]),
         noted("65,536 empty lines", [vec![b'\n'; MAX_TEXT]]),
     ]
     .concat()

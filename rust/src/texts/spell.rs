@@ -1,6 +1,7 @@
 //! Tasks spelled as a text, with white space of every kind.
 
 use crate::draw::Draw;
+use crate::model::MAX_TASKS;
 
 /// Each task's time and predecessors, the dummies included.
 pub type Tasks = Vec<(u32, Vec<u32>)>;
@@ -25,6 +26,28 @@ pub fn plain(tasks: &Tasks) -> Vec<u8> {
 pub fn columns(tasks: &Tasks) -> Vec<u8> {
     let line = |fields: Vec<u32>| fields.iter().map(|field| format!("{field:>11}")).collect::<String>() + "\n";
     lines(tasks).into_iter().map(line).collect::<String>().into_bytes()
+}
+
+/// 1,024 tasks and this many edges, each from an earlier task, so without a cycle.
+pub fn largest(seed: u64, edges: usize) -> Tasks {
+    let mut draw = Draw::new(seed);
+    let mut tasks: Tasks = (0..MAX_TASKS)
+        .map(|_| (draw.between(1, 65_535) as u32, Vec::new()))
+        .collect();
+    tasks[0].0 = 0;
+    tasks[MAX_TASKS - 1].0 = 0;
+    for _ in 0..edges {
+        let t = draw.between(1, MAX_TASKS - 1);
+        tasks[t].1.push(draw.below(t) as u32);
+    }
+    tasks
+}
+
+/// The text with a comment behind it up to this length.
+pub fn filled(mut text: Vec<u8>, length: usize) -> Vec<u8> {
+    text.push(b'#');
+    text.resize(length, b'.');
+    text
 }
 
 #[derive(Clone, Copy, Debug)]

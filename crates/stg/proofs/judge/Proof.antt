@@ -1,13 +1,13 @@
 -- The cases of the first line.
 use Prim.Native.Nat.{ℕ, _+_, _≤_}
 use mathlib.Core.Path.{_≡_}
-use mathlib.Core.List.{List}
+use mathlib.Core.List.{List, []}
 use native.Mathlib.Omega.{arith}
-use lib.ListN.{length}
+use lib.ListN.{length, drop}
 use Rattle.layout.specs.Reader.{verdict}
-use Rattle.layout.specs.Scan.{NextContent, FirstFound, line-broken, limit-passed}
+use Rattle.layout.specs.Scan.{NextContent, FirstFound, dueFrom, line-broken, limit-passed}
 use Rattle.layout.proofs.TableLaws.{place-of, number-small, no-first, bad-first, over-first, after-first, line-counted}
-use Rattle.stg.specs.Reading.{Room, Reading, tasksRest}
+use Rattle.stg.specs.Reading.{Room, Reading}
 use borrow.Author.Needs.{needs}
 use Rattle.stg.proofs.judge.Statement.{statement}
 use Rattle.stg.proofs.judge.Tie as tie
@@ -21,8 +21,7 @@ module _ {text : List ℕ} {place number tasks next : ℕ} (k : NextContent text
       let m = after-first k there h some few .0 in
       record { inside = m .inside; short = short; counted = line-counted k there m; few = few; room = room }
 
-  whole : verdict text ≡ tasksRest text next (number + 1) tasks
-  unfolding tasksRest
+  whole : verdict text ≡ dueFrom (drop next text) (number + 1) tasks []
   whole = after-first k there h some few .1
 
 next-content-requires : tie.Need-next-content-requires

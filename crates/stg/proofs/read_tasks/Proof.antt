@@ -3,20 +3,20 @@ use Prim.Native.Nat.{ℕ, _+_, _-_, _<_}
 use mathlib.Core.Path.{_≡_, refl, ap}
 use mathlib.Core.Logic.{_⊎_, ⊎-elim}
 use mathlib.Core.Bool.{Bool}
-use mathlib.Core.List.{List}
+use mathlib.Core.List.{List, []}
 use native.Mathlib.Omega.{arith}
 use borrow.Author.Needs.{needs}
 use denote.Enum.Declared.{tagOf}
-use lib.ListN.{length}
+use lib.ListN.{length, drop}
 use lib.Dec.{eqb}
 use Rattle.lists.proofs.Apart.{unequal}
 use Rattle.task.specs.declared.ReadAnswer.{ReadAnswer}
 use Rattle.layout.specs.Reader.{Verdict}
-use Rattle.layout.specs.Scan.{NextContent, Outcome, line-broken, limit-passed}
+use Rattle.layout.specs.Scan.{NextContent, dueFrom, Outcome, line-broken, limit-passed}
 use Rattle.layout.proofs.TableLaws.{place-of, number-small, SoFar, so-far-none, early, late, all-done, no-task, too-many, one-done}
 use Rattle.text_lines.specs.declared.TaskLine.{TaskLine}
 use Rattle.text_lines.specs.declared.TaskLine.the-variants.{Read}
-use Rattle.stg.specs.Reading.{tasksRest, refusedLine}
+use Rattle.stg.specs.Reading.{refusedLine}
 use Rattle.text_lines.specs.TaskLines.{TaskFound, task-broken, task-over, task-read}
 use Rattle.text_lines.proofs.TaskLine.{the-type}
 use Rattle.stg.proofs.read_tasks.Statement.{statement}
@@ -45,13 +45,12 @@ module _ {v : Verdict} {text : List ℕ} {n : ℕ} {w s p w′ s′ p′ : List 
 
 abbrev Inv-loop : tie.InvT-loop
 Inv-loop text at-first line-first n weights₀ starts₀ preds₀ at₀ line₀ t₀ e₀ weights starts preds at line t e =
-    SoFar (tasksRest text at-first line-first n) text n weights starts preds at line t e
+    SoFar (dueFrom (drop at-first text) line-first n []) text n weights starts preds at line t e
 
 abbrev μ-loop : tie.MeasureT-loop
 μ-loop text at-first line-first n weights₀ starts₀ preds₀ at₀ line₀ t₀ e₀ weights starts preds at line t e = n - t
 
 loop-holds : tie.Need-loop-holds Inv-loop μ-loop
-unfolding tasksRest
 loop-holds c =
     let a = c .before .before .before .before .args in
     let r = c .before .before .before .before .pre in

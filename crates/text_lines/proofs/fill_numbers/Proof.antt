@@ -3,8 +3,8 @@ use Prim.Native.Nat.{_-_, _≤_}
 use mathlib.Core.Path.{refl}
 use native.Mathlib.Omega.{arith}
 use borrow.Author.Needs.{needs}
-use Rattle.layout.specs.Scan.{too-few}
-use Rattle.layout.proofs.TaskLaws.{found-numbers, found-not, Filling, fill-none, fill-more, fill-short, fill-whole}
+use Rattle.layout.specs.Scan.{Filling, too-few}
+use Rattle.layout.proofs.TaskLaws.{found-numbers, found-not, fill-none, fill-more, fill-short, fill-whole}
 use Rattle.text_lines.proofs.fill_numbers.Statement.{statement}
 use Rattle.text_lines.proofs.fill_numbers.Tie as tie
 

@@ -7,8 +7,8 @@ use mathlib.Core.List.{List, []}
 use native.Mathlib.Omega.{arith}
 use lib.ListN.{set}
 use borrow.Author.Tests.{not-true, not-false}
-use Rattle.layout.specs.Scan.{rowAt, NextLine}
-use Rattle.layout.proofs.TaskLaws.{Head, head-is, head-not, Filling, filled-is, closes-is, closes-not, line-short, line-open, line-task, line-next}
+use Rattle.layout.specs.Scan.{rowAt, NextLine, Filling, Head}
+use Rattle.layout.proofs.TaskLaws.{head-is, head-not, filled-is, closes-is, closes-not, line-short, line-open, line-task, line-next}
 use Rattle.text_lines.specs.declared.TaskLine.the-variants as line
 use Rattle.text_lines.specs.TaskLines.{TaskFound, task-broken, task-over, task-read}
 use borrow.Author.Needs.{needs}
