@@ -100,7 +100,7 @@ module _ (g : Graph) where
 
 -- the whole check accepts exactly what fits, whatever a call adds to it
 module _ (limits : Limits) {Far Odd : Type 0} (weights starts preds : List ℕ) where
-  clear-fits : Clear (checkRows limits Far Odd weights starts preds) → (¬ Far) × ((¬ Odd) × GraphFits limits weights starts preds)
+  pub clear-fits : Clear (checkRows limits Far Odd weights starts preds) → (¬ Far) × ((¬ Odd) × GraphFits limits weights starts preds)
   clear-fits c = (
     λ f. c .0 0 (refl, inl (inl f)),
     (
@@ -115,7 +115,7 @@ module _ (limits : Limits) {Far Odd : Type 0} (weights starts preds : List ℕ) 
     ),
   )
 
-  fits-clear : (¬ Far) × ((¬ Odd) × GraphFits limits weights starts preds) → Clear (checkRows limits Far Odd weights starts preds)
+  pub fits-clear : (¬ Far) × ((¬ Odd) × GraphFits limits weights starts preds) → Clear (checkRows limits Far Odd weights starts preds)
   fits-clear (f, (o, a)) = (λ d p. far (p .1), (λ d p. odd (p .1), clear-iff (graphOf (length weights) starts preds) .1 (a .graph)))
     where
       far : (Far ⊎ Beyond limits (length weights) (length preds)) ⊎ Heavy weights → ⊥

@@ -64,13 +64,13 @@ find-other n {P} d f = go (decLt (firstBelow n (λ t. not? (d t))) n)
     go (yes h) = (firstBelow n (λ t. not? (d t)), (h, first-smallest n (λ t. not? (d t)) h .such .1))
     go (no m) = absurd (f (λ t l. has t (d t) (first-least n (λ k. not? (d k)) t (omega arith))))
 
-weights-told : (w : List ℕ) → Told (holds (light? w)) (¬ (Heavy w)) (Heavy w)
+pub weights-told : (w : List ℕ) → Told (holds (light? w)) (¬ (Heavy w)) (Heavy w)
 weights-told w = told (holds (light? w)) (λ e h. omega (arith, holds-yes (light? w) e (h .0) (h .1 .0), h .1 .1)) (λ e. heavy (find-other (length w) (λ t. decLe (getD w t 0) 65535) (holds-no (light? w) e)))
   where
     heavy : (t : ℕ) × ((t < length w) × ¬ (getD w t 0 ≤ 65535)) → Heavy w
     heavy h = (h .0, (h .1 .0, omega (arith, h .1 .1)))
 
-sizes-told : (l : Limits) (n e : ℕ) → Told (sizesFit l n e) (¬ (Beyond l n e)) (Beyond l n e)
+pub sizes-told : (l : Limits) (n e : ℕ) → Told (sizesFit l n e) (¬ (Beyond l n e)) (Beyond l n e)
 unfolding sizesFit
 sizes-told l n e = and-told (leb n (capped l .tasks)) (leb e (capped l .edges)) (le-told n (capped l .tasks)) (le-told e (capped l .edges))
 

@@ -5,7 +5,7 @@ use mathlib.Core.List.{List, [], _∷_}
 use mathlib.Core.Bool.{cond}
 use mathlib.Core.Logic.{_↔_}
 use native.Mathlib.Omega.{arith}
-use Rattle.lists.specs.Decided.{holds}
+use Rattle.lists.specs.Decided.{holds, tally}
 use Rattle.lists.proofs.Decided.{stable}
 use native.Mathlib.Numerals.{add-one}
 use native.Mathlib.Decide.{ℕ-discrete, decLt}
@@ -130,6 +130,10 @@ module _ {A : Type 0} (k : ℕ) where
   kept-one (yes a) = omega arith
   kept-one (no n) = omega arith
 
+  kept-tally : (d : Dec A) → length (cond (holds d) (k ∷ []) []) ≡ tally d
+  kept-tally (yes a) = refl
+  kept-tally (no n) = refl
+
   kept-has : (d : Dec A) → A → Among k (cond (holds d) (k ∷ []) [])
   kept-has (yes a) b = omega (arith, occ-hit ℕ-discrete k k [] refl)
   kept-has (no n) b = absurd (n b)
@@ -156,6 +160,14 @@ module _ (g : Graph) where
 
       to : (k : ℕ) × (k < g .tasks) × (0 < kept k) → (t < g .tasks) × (length (predsOf g t) ≡ 0)
       to w = let p = kept-own (w .0) (root? (w .0)) t (w .2) in rw (p .0) (w .1, p .1)
+
+  -- each of them once
+  pub length-roots : length (roots g) ≡ sumTo (g .tasks) (λ t. tally (ℕ-discrete (length (predsOf g t)) 0))
+  unfolding roots
+  length-roots =
+      length-joined (g .tasks) (λ t. cond (holds (ℕ-discrete (length (predsOf g t)) 0)) (t ∷ []) [])
+      ∙ sum-same (g .tasks) (λ t. tally (ℕ-discrete (length (predsOf g t)) 0)) (λ t. length (cond (holds (ℕ-discrete (length (predsOf g t)) 0)) (t ∷ []) []))
+      (λ t h. kept-tally t (ℕ-discrete (length (predsOf g t)) 0))
 
 -- beside a sound graph's successor table every task's neighbours can be looked up on both sides
 pub table-lookup : (weights starts preds : List ℕ) → Sound (graphOf (length weights) starts preds) → (side : Side) (t : ℕ) → t < length weights

@@ -1,9 +1,9 @@
 -- Laws of two lists joined, told from the whole; and of lists without members.
-use Prim.Native.Nat.{ℕ, _+_, _-_, _≤_, _<_}
+use Prim.Native.Nat.{ℕ, zero, suc, _+_, _-_, _≤_, _<_}
 use mathlib.Core.Path.{_≡_, refl, sym, ap, _∙_}
 use mathlib.Core.List.{List, [], _∷_, _++_}
 use native.Mathlib.Omega.{arith}
-use lib.ListN.{length, take, drop, take-append-drop}
+use lib.ListN.{length, getD, take, drop, take-append-drop}
 use lib.Seq.{take-take, drop-append-add}
 
 module _ {A : Type 0} where
@@ -44,3 +44,10 @@ module _ {A : Type 0} where
     where
       go : (vs ≡ us) × (rest ≡ row) → ((v ∷ vs) ≡ (u ∷ us)) × (rest ≡ row)
       go (f, g) = (cc, g)
+
+  -- what stands elsewhere than at the seam, where one member is added
+  pub getD-snoc-other : (l : List A) (a : A) (x : ℕ) (d : A) → ¬ (x ≡ length l) → getD (l ++ (a ∷ [])) x d ≡ getD l x d
+  getD-snoc-other [] a zero d n = absurd (n refl)
+  getD-snoc-other [] a (suc x) d n = refl
+  getD-snoc-other (y ∷ l) a zero d n = refl
+  getD-snoc-other (y ∷ l) a (suc x) d n = getD-snoc-other l a x d (λ e. n (ap suc e))

@@ -1,7 +1,7 @@
 -- Laws of tabulated lists and of lists joined from blocks: where an element stands, and how a list is cut into blocks.
 use Prim.Native.Nat.{ℕ, zero, suc, _+_, _-_, _≤_, _<_}
 use mathlib.Core.Path.{_≡_, refl, sym, ap, _∙_}
-use mathlib.Core.List.{List, _++_}
+use mathlib.Core.List.{List, [], _∷_, _++_}
 use native.Mathlib.Omega.{arith}
 use native.Mathlib.Decide.{ℕ-discrete, decLt}
 use lib.ListN.{length, getD, take, drop, length-append, length-drop, List·getD-append}
@@ -27,6 +27,11 @@ module _ {A : Type 0} where
   unfolding tabulate
   tabulate-same zero f g h = refl
   tabulate-same (suc n) f g h = rw (h 0 (omega arith), tabulate-same n (λ k. f (suc k)) (λ k. g (suc k)) (λ k m. h (suc k) (omega arith)))
+
+  pub tabulate-snoc : (n : ℕ) (f : ℕ → A) → tabulate (suc n) f ≡ tabulate n f ++ (f n ∷ [])
+  unfolding tabulate
+  tabulate-snoc zero f = refl
+  tabulate-snoc (suc n) f = ap (λ (l : List A). f 0 ∷ l) (tabulate-snoc n (λ k. f (suc k)))
 
   -- a list is tabulated by what stands at each of its places
   pub is-tabulate : (n : ℕ) (f : ℕ → A) (d : A) (l : List A) → length l ≡ n → ((i : ℕ) → i < n → getD l i d ≡ f i) → l ≡ tabulate n f

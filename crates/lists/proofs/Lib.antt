@@ -6,3 +6,6 @@ pub mod Appends
 pub mod Prefixes
 pub mod Blocks
 pub mod Told
+pub mod Circles
+pub mod Integers
+pub mod Places

@@ -1,13 +1,13 @@
 -- Tests with their reasons: what a test's value says, for one test and for several that must all pass.
 use Prim.Native.Nat.{ℕ, _≤_, _<_}
-use mathlib.Core.Path.{_≡_, refl}
+use mathlib.Core.Path.{_≡_, refl, subst}
 use mathlib.Core.Bool.{Bool, true, false, not, _&&_, _||_}
 use mathlib.Core.Logic.{_⊎_, inl, inr}
 use native.Mathlib.Omega.{arith}
 use lib.Dec.{ltb, leb, eqb}
 use borrow.Author.Tests.{ltb-true, ltb-false, leb-true, leb-false, eqb-true, eqb-false}
 use Rattle.lists.specs.Decided.{holds}
-use Rattle.lists.proofs.Apart.{unequal}
+use Rattle.lists.proofs.Apart.{unequal, true-and-false}
 use Rattle.lists.proofs.Decided.{holds-yes, holds-no}
 
 pub neither : {A B : Type 0} → ¬ A → ¬ B → ¬ (A ⊎ B)
@@ -28,6 +28,9 @@ le-told a b = told (leb a b) (λ e h. omega (arith, leb-true a b e)) (leb-false 
 
 pub lt-told : (a b : ℕ) → Told (ltb a b) (¬ (b ≤ a)) (b ≤ a)
 lt-told a b = told (ltb a b) (λ e h. omega (arith, ltb-true a b e)) (ltb-false a b)
+
+pub same-told : (a b : ℕ) → Told (eqb a b) (a ≡ b) (¬ (a ≡ b))
+same-told a b = told (eqb a b) (eqb-true a b) (eqb-false a b)
 
 pub eq-told : (a b : ℕ) → Told (eqb a b) (¬ (¬ (a ≡ b))) (¬ (a ≡ b))
 eq-told a b = told (eqb a b) (λ e n. n (eqb-true a b e)) (λ e q. eqb-false a b e q)
@@ -82,3 +85,31 @@ pub not-or : (a b : Bool) → (b ≡ true → a ≡ true) → (a || not b) ≡ t
 not-or true b f = refl
 not-or false true f = f refl
 not-or false false f = refl
+
+-- a test on the only one that has the property N, told of whichever has it
+pub only-told : (b : Bool) {A : Type 0} {N C : A → Type 0} (x : A) → N x → ((y : A) → N y → y ≡ x) → Told b (¬ (C x)) (C x)
+    → Told b (¬ ((y : A) × N y × C y)) ((y : A) × N y × C y)
+only-told b {C = C} x n one (told-true e f) = told-true e (λ q. f (subst C (one (q .0) (q .1)) (q .2)))
+only-told b x n one (told-false e c) = told-false e (x, n, c)
+
+-- a test that decides a condition under another one, which holds
+pub under-told : (b : Bool) {R C : Type 0} → R → Told b (¬ C) C → Told b (¬ (R × C)) (R × C)
+under-told b r (told-true e f) = told-true e (λ c. f (c .1))
+under-told b r (told-false e c) = told-false e (r, c)
+
+-- the reason for a test's value, and the value from what excludes the other reason
+pub told-yes : {b : Bool} {Yes No : Type 0} → Told b Yes No → b ≡ true → Yes
+told-yes (told-true e y) h = y
+told-yes (told-false e n) h = true-and-false h e
+
+pub told-no : {b : Bool} {Yes No : Type 0} → Told b Yes No → b ≡ false → No
+told-no (told-true e y) h = true-and-false e h
+told-no (told-false e n) h = n
+
+pub told-pass : {b : Bool} {Yes No : Type 0} → Told b Yes No → ¬ No → b ≡ true
+told-pass (told-true e y) f = e
+told-pass (told-false e n) f = absurd (f n)
+
+pub told-fail : {b : Bool} {Yes No : Type 0} → Told b Yes No → ¬ Yes → b ≡ false
+told-fail (told-true e y) f = absurd (f y)
+told-fail (told-false e n) f = e

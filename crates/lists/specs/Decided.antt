@@ -11,7 +11,7 @@ abbrev pub tally : {A : Type 0} → Dec A → ℕ
 tally (yes a) = 1
 tally (no n) = 0
 
--- "the smallest such task": d has the property and no smaller number has it
+-- "smallest such task": d has the property and no smaller number has it
 pub record Smallest (P : ℕ → Type 0) (d : ℕ) : Type 0 where
   pub such : P d
   pub least : (k : ℕ) → k < d → ¬ (P k)

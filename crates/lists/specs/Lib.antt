@@ -1,3 +1,4 @@
 pub mod Decided
 pub mod Lists
 pub mod Sums
+pub mod Circles

@@ -135,3 +135,8 @@ stepSays (step-answer.Accepted o) = outcomeSays o
 -- a test that refuses, and what is answered where it doesn't
 abbrev pub refusedIf : Bool → ℕ → ℕ → Answer → Answer
 refusedIf test n d rest = cond test (answer.Refused n d) rest
+
+-- the second answer where the first accepts
+abbrev pub andThen : Answer → Answer → Answer
+andThen (answer.Refused n d) b = answer.Refused n d
+andThen answer.Accepted b = b

@@ -1,0 +1,22 @@
+-- Blocks of n places each, one after the other: place j of block i is number i · n + j.
+use Prim.Native.Nat.{ℕ, suc, _+_, _*_, _≤_, _<_}
+use mathlib.Core.Path.{_≡_, ap}
+use native.Mathlib.Omega.{arith}
+use native.Mathlib.Decide.{decLt}
+use native.Mathlib.Nat.{mul-le-mul-right, suc-mul}
+
+-- block i of m blocks ends within them
+pub place-end : (n m i : ℕ) → i < m → i * n + n ≤ m * n
+place-end n m i h = omega (arith, mul-le-mul-right {m = suc i} {n = m} n h, suc-mul i n)
+
+pub place-lt : (n m i j : ℕ) → i < m → j < n → i * n + j < m * n
+place-lt n m i j h l = omega (arith, l, place-end n m i h)
+
+-- a place's number tells the block and the place in it
+pub place-same : (n i j o h : ℕ) → j < n → h < n → i * n + j ≡ o * n + h → (i ≡ o) × (j ≡ h)
+place-same n i j o h lj lh e = go (decLt i o) (decLt o i)
+  where
+    go : Dec (i < o) → Dec (o < i) → (i ≡ o) × (j ≡ h)
+    go (yes l) d = absurd (omega (arith, e, lj, place-end n o i l))
+    go (no m) (yes l) = absurd (omega (arith, e, lh, place-end n i o l))
+    go (no m) (no l) = let s : i ≡ o = omega (arith, m, l) in (s, omega (arith, e, ap (λ (x : ℕ). x * n) s))

@@ -1,0 +1,114 @@
+-- "A ring's head and tail form one record .. Head is the next slot to take, tail the next free slot .. Empty: head equals tail.
+-- Full: the slot after tail, modulo K, is head. So a ring holds K−1."
+use Prim.Native.Nat.{ℕ, _+_, _-_, _*_, _%_, _≤_, _<_}
+use mathlib.Core.Path.{_≡_}
+use mathlib.Core.Bool.{Bool, cond, _&&_}
+use mathlib.Core.List.{List}
+use lib.ListN.{length, getD, set}
+use lib.Dec.{ltb, eqb}
+use Rattle.lists.specs.Lists.{tabulate}
+use Rattle.lists.specs.Circles.{after}
+use Rattle.task.specs.Types.{engine}
+use Rattle.task.specs.declared.Ends.{Ends}
+
+-- how many items a ring of k slots holds
+unfoldable pub capacity : ℕ → ℕ
+capacity k = k - 1
+
+-- how many words of the rings a ring takes, and how many its ends take
+abbrev pub ringWords : ℕ → ℕ
+ringWords k = k
+
+abbrev pub endWords : ℕ
+endWords = 2
+
+-- slot x of ring q: "the ring .. begins at (i·P + j)·K"
+unfoldable pub slotAt : ℕ → ℕ → ℕ → ℕ
+slotAt k q x = q * ringWords k + x
+
+-- the ends of ring q: "Heads and tails, P·P pairs", head first
+unfoldable pub endsAt : List ℕ → ℕ → Ends
+endsAt words q = record { head = getD words (q * endWords) 0; tail = getD words (q * endWords + 1) 0 }
+
+unfoldable pub storeEnds : List ℕ → ℕ → Ends → List ℕ
+storeEnds words q e = set (set words (q * endWords) (e .head)) (q * endWords + 1) (e .tail)
+
+-- both ends are slots, and the tests of the paper
+abbrev pub Sound : ℕ → Ends → Type 0
+Sound k e = (e .head < k) × (e .tail < k)
+
+abbrev pub Empty : Ends → Type 0
+Empty e = e .head ≡ e .tail
+
+abbrev pub Full : ℕ → Ends → Type 0
+Full k e = after k (e .tail) ≡ e .head
+
+unfoldable pub sound : ℕ → Ends → Bool
+sound k e = ltb (e .head) k && ltb (e .tail) k
+
+unfoldable pub empty : Ends → Bool
+empty e = eqb (e .head) (e .tail)
+
+unfoldable pub full : ℕ → Ends → Bool
+full k e = eqb (after k (e .tail)) (e .head)
+
+-- the ends after a take and after an append
+unfoldable pub headOn : ℕ → Ends → Ends
+headOn k e = record { head = after k (e .head); tail = e .tail }
+
+unfoldable pub tailOn : ℕ → Ends → Ends
+tailOn k e = record { head = e .head; tail = after k (e .tail) }
+
+-- all rings: their slots, over items of any type, and the words of their ends
+pub record Rings (A : Type 0) : Type 0 where
+  pub slots : List A
+  pub ends : List ℕ
+
+abbrev pub ringsOf : {A : Type 0} → List A → List ℕ → Rings A
+ringsOf s e = record { slots = s; ends = e }
+
+-- how many items stand from head up to tail, modulo K; none where an end is damaged
+unfoldable pub count : ℕ → Ends → ℕ
+count k e = cond (sound k e) ((e .tail + k - e .head) % k) 0
+
+-- the list that ring q holds, the oldest first: the items of the slots from head up to tail, modulo K
+unfoldable pub queue : {A : Type 0} → A → ℕ → Rings A → ℕ → List A
+queue default k r q = tabulate (count k (endsAt (r .ends) q)) (λ n. getD (r .slots) (slotAt k q ((endsAt (r .ends) q .head + n) % k)) default)
+
+-- an append to ring q: the item goes to the next free slot, and the tail moves on
+unfoldable pub appendedAt : {A : Type 0} → ℕ → ℕ → A → Rings A → Rings A
+appendedAt k q a r =
+    ringsOf (set (r .slots) (slotAt k q (endsAt (r .ends) q .tail)) a) (storeEnds (r .ends) q (tailOn k (endsAt (r .ends) q)))
+
+-- a take's item and the ends after it
+pub record Taken (A E : Type 0) : Type 0 where
+  pub item : A
+  pub ends : E
+
+abbrev pub takenOf : {A E : Type 0} → A → E → Taken A E
+takenOf a e = record { item = a; ends = e }
+
+-- a take from ring q: the item of the next slot to take, and the head moves on; "the slot's word stays"
+unfoldable pub takenAt : {A : Type 0} → A → ℕ → ℕ → Rings A → Taken A (List ℕ)
+takenAt default k q r =
+    takenOf (getD (r .slots) (slotAt k q (endsAt (r .ends) q .head)) default) (storeEnds (r .ends) q (headOn k (endsAt (r .ends) q)))
+
+-- one ring by itself: its slots and its ends
+pub record Ring (A : Type 0) : Type 0 where
+  pub slots : List A
+  pub ends : Ends
+
+abbrev pub ringOf : {A : Type 0} → List A → Ends → Ring A
+ringOf s e = record { slots = s; ends = e }
+
+unfoldable pub appended : {A : Type 0} → A → Ring A → Ring A
+appended a r = ringOf (set (r .slots) (r .ends .tail) a) (tailOn (length (r .slots)) (r .ends))
+
+unfoldable pub taken : {A : Type 0} → A → Ring A → Taken A Ends
+taken default r = takenOf (getD (r .slots) (r .ends .head) default) (headOn (length (r .slots)) (r .ends))
+
+-- ring q and its ends lie within the lists, and its slots are at most the engine's
+pub record Inside {A : Type 0} (k q : ℕ) (r : Rings A) : Type 0 where
+  pub few : k ≤ engine .slots
+  pub slots : slotAt k q k ≤ length (r .slots)
+  pub ends : q * endWords + endWords ≤ length (r .ends)

@@ -1,0 +1,30 @@
+-- PROMISE: a step is refused under the table's conditions and no others.
+use Prim.Native.Nat.{ℕ, _<_}
+use native.Mathlib.Omega.{arith}
+use Rattle.task.specs.Refusals.{stepSays}
+use Rattle.task.specs.Rows.{Follows}
+use Rattle.task.specs.declared.Limits.{Limits}
+use Rattle.task.specs.declared.Step.{Step}
+use Rattle.task.specs.declared.Step.the-variants.{Fetch, Start, Complete, Release}
+use Rattle.rules.specs.Memory.{Mem}
+use Rattle.rules.specs.Sizes.{Fits}
+use Rattle.rules.specs.Steps.{ruleOf, stepPlan, step}
+use Rattle.rules.specs.Tables.{ownRows, stepRows}
+use Rattle.rules.proofs.Plans.{PlanFollows, answer-planned}
+use Rattle.rules.proofs.Headers.{steps-follow}
+use Rattle.rules.proofs.Complete.{start-follows, complete-follows}
+use Rattle.rules.proofs.Fetch.{fetch-follows}
+use Rattle.rules.proofs.Release.{release-follows}
+
+-- a step's own rule, where it is reached
+rule-follows : (limits : Limits) (p k i : ℕ) (s : Step) (m : Mem) → Fits limits p k m → i < p → PlanFollows (ownRows s p k i m) (ruleOf s p k i m)
+unfolding ruleOf
+rule-follows limits p k i Fetch m f h = fetch-follows p k i m
+rule-follows limits p k i Start m f h = start-follows i m
+rule-follows limits p k i Complete m f h = complete-follows i m
+rule-follows limits p k i Release m f h = release-follows p k i m (omega (arith, f .oneWorker)) (f .lengths .others .counters)
+
+pub step-follows : (limits : Limits) (p k i : ℕ) (s : Step) (m : Mem) → Follows (stepRows limits p k i s m) (stepSays (step limits p k i s m .answer))
+unfolding step
+step-follows limits p k i s m =
+    rw (answer-planned (stepPlan limits p k i s m) m) (steps-follow limits p k i s m (rule-follows limits p k i s m))

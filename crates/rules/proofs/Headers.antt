@@ -1,0 +1,143 @@
+-- What every step is refused for before its own rule: 2, 1, 7, the phase word, 9.
+use Prim.Native.Nat.{ℕ, _+_, _<_}
+use mathlib.Core.Path.{_≡_}
+use mathlib.Core.Bool.{true, _&&_}
+use mathlib.Core.Logic.{_⊎_, inl, inr}
+use mathlib.Core.List.{List, _∷_}
+use native.Mathlib.Omega.{arith}
+use native.Mathlib.Decide.{decLe}
+use lib.ListN.{length}
+use lib.Dec.{eqb}
+use borrow.Author.Tests.{ltb-true, eqb-true, eq-eqb}
+use Rattle.lists.proofs.Apart.{true-and-false}
+use Rattle.lists.proofs.Decided.{stable}
+use Rattle.lists.proofs.Told.{Told, told-true, told-false, told, le-told, lt-told, eq-told, and-told, and-true, told-yes}
+use Rattle.task.specs.Types.{capped}
+use Rattle.task.specs.Phases.{suits, nextPhase}
+use Rattle.task.specs.Refusals.{beyondLimit, wrongLength, noSuchWorker, wrongPhase}
+use Rattle.task.specs.Rows.{Refusal, row, only}
+use Rattle.task.specs.declared.Limits.{Limits}
+use Rattle.task.specs.declared.Step.{Step}
+use Rattle.graph.specs.Check.{sizesFit}
+use Rattle.graph.specs.Tables.{Beyond}
+use Rattle.graph.proofs.Refusals.{sizes-told}
+use Rattle.rules.specs.Memory.{Mem, tasks, edges, rowIn}
+use Rattle.rules.specs.Sizes.{Others, Lengths, Fits, numbersFit, othersFit, lengthsFit}
+use Rattle.rules.specs.Plans.{Plan, suited}
+use Rattle.rules.specs.Steps.{ruleOf, stepPlan}
+use Rattle.rules.specs.Tables.{BeyondPK, ownRows, stepRows}
+use Rattle.rules.proofs.Plans.{PlanFollows, given-row, passed-row, require-row, checked-row}
+
+pub numbers-told : (limits : Limits) (p k : ℕ) → Told (numbersFit limits p k) (¬ (BeyondPK limits p k)) (BeyondPK limits p k)
+unfolding numbersFit
+numbers-told limits p k =
+    and-told _ _ (and-told _ _ (le-told 1 p) (le-told p (capped limits .workers))) (and-told _ _ (le-told 2 k) (le-told k (capped limits .slots)))
+
+module _ (p k : ℕ) (m : Mem) where
+  others-are : othersFit p k m ≡ true → Others p k m
+  unfolding othersFit
+  others-are e1 =
+      let (a1, e2) = and-true _ _ e1 in
+      let (a2, e3) = and-true _ _ e2 in
+      let (a3, e4) = and-true _ _ e3 in
+      let (a4, e5) = and-true _ _ e4 in
+      let (a5, e6) = and-true _ _ e5 in
+      let (a6, e7) = and-true _ _ e6 in
+      let (a7, e8) = and-true _ _ e7 in
+      let (a8, e9) = and-true _ _ e8 in
+      let (a9, a10) = and-true _ _ e9 in
+      record {
+        succStarts = eqb-true _ _ a1;
+        succs = eqb-true _ _ a2;
+        degrees = eqb-true _ _ a3;
+        rings = eqb-true _ _ a4;
+        ends = eqb-true _ _ a5;
+        counters = eqb-true _ _ a6;
+        buffers = eqb-true _ _ a7;
+        executed = eqb-true _ _ a8;
+        run = eqb-true _ _ a9;
+        rows = eqb-true _ _ a10;
+      }
+
+  others-fit : Others p k m → othersFit p k m ≡ true
+  unfolding othersFit
+  others-fit o =
+      rw (
+        eq-eqb _ _ (o .succStarts),
+        eq-eqb _ _ (o .succs),
+        eq-eqb _ _ (o .degrees),
+        eq-eqb _ _ (o .rings),
+        eq-eqb _ _ (o .ends),
+        eq-eqb _ _ (o .counters),
+        eq-eqb _ _ (o .buffers),
+        eq-eqb _ _ (o .executed),
+        eq-eqb _ _ (o .run),
+        eq-eqb _ _ (o .rows),
+      )
+
+  pub others-told : Told (othersFit p k m) (¬ (¬ (Others p k m))) (¬ (Others p k m))
+  others-told = told (othersFit p k m) (λ e n. n (others-are e)) (λ e o. true-and-false (others-fit o) e)
+
+  pub lengths-are : lengthsFit p k m ≡ true → Lengths p k m
+  unfolding lengthsFit
+  lengths-are e =
+      let (a, o) = and-true (eqb (length (m .predStarts)) (tasks m + 1)) (othersFit p k m) e in
+      record { predStarts = eqb-true _ _ a; others = others-are o }
+
+  lengths-fit : Lengths p k m → lengthsFit p k m ≡ true
+  unfolding lengthsFit
+  lengths-fit l = rw (eq-eqb _ _ (l .predStarts), others-fit (l .others))
+
+  pub lengths-told : Told (lengthsFit p k m) (¬ (¬ (Lengths p k m))) (¬ (Lengths p k m))
+  lengths-told = told _ (λ e n. n (lengths-are e)) (λ e l. true-and-false (lengths-fit l) e)
+
+-- what 2 and 1 leave to a step
+module _ (limits : Limits) (p k : ℕ) (m : Mem) where
+  pub limits-told : Told (numbersFit limits p k && sizesFit limits (tasks m) (edges m)) (¬ (BeyondPK limits p k ⊎ Beyond limits (tasks m) (edges m)))
+      (BeyondPK limits p k ⊎ Beyond limits (tasks m) (edges m))
+  limits-told = and-told _ _ (numbers-told limits p k) (sizes-told limits (tasks m) (edges m))
+
+  pub within-fits : ¬ (BeyondPK limits p k ⊎ Beyond limits (tasks m) (edges m)) → Lengths p k m → Fits limits p k m
+  within-fits n l =
+      record {
+        fewTasks = stable (decLe (tasks m) (capped limits .tasks)) (λ h. n (inr (inl (omega arith))));
+        fewEdges = stable (decLe (edges m) (capped limits .edges)) (λ h. n (inr (inr (omega arith))));
+        oneWorker = stable (decLe 1 p) (λ h. n (inl (inl (inl (omega arith)))));
+        fewWorkers = stable (decLe p (capped limits .workers)) (λ h. n (inl (inl (inr (omega arith)))));
+        twoSlots = stable (decLe 2 k) (λ h. n (inl (inr (inl (omega arith)))));
+        fewSlots = stable (decLe k (capped limits .slots)) (λ h. n (inl (inr (inr (omega arith)))));
+        lengths = l;
+      }
+
+  pub fits-within : Fits limits p k m → ¬ (BeyondPK limits p k ⊎ Beyond limits (tasks m) (edges m))
+  fits-within f (inl (inl (inl h))) = omega (arith, f .oneWorker)
+  fits-within f (inl (inl (inr h))) = omega (arith, f .fewWorkers)
+  fits-within f (inl (inr (inl h))) = omega (arith, f .twoSlots)
+  fits-within f (inl (inr (inr h))) = omega (arith, f .fewSlots)
+  fits-within f (inr (inl h)) = omega (arith, f .fewTasks)
+  fits-within f (inr (inr h)) = omega (arith, f .fewEdges)
+
+  pub fits-are : numbersFit limits p k && sizesFit limits (tasks m) (edges m) ≡ true → lengthsFit p k m ≡ true → Fits limits p k m
+  fits-are e q = within-fits (told-yes limits-told e) (lengths-are p k m q)
+
+-- 9: "step doesn't suit the phase"
+suited-row : (phase : ℕ) (s : Step) (rest : List Refusal) (plan : Plan) → PlanFollows rest plan
+    → PlanFollows (row wrongPhase (only phase (¬ (phase ≡ suits s))) ∷ rest) (suited (nextPhase phase s) phase plan)
+unfolding nextPhase
+suited-row phase s rest plan f = go (eq-told phase (suits s))
+  where
+    go : Told (eqb phase (suits s)) (¬ (¬ (phase ≡ suits s))) (¬ (phase ≡ suits s))
+        → PlanFollows (row wrongPhase (only phase (¬ (phase ≡ suits s))) ∷ rest) (suited (nextPhase phase s) phase plan)
+    go (told-true e c) = rw e (passed-row wrongPhase phase rest plan c f)
+    go (told-false e c) = rw e (given-row wrongPhase phase rest c)
+
+-- a step follows its rows if its own rule does where it is reached
+pub steps-follow : (limits : Limits) (p k i : ℕ) (s : Step) (m : Mem) → (Fits limits p k m → i < p → PlanFollows (ownRows s p k i m) (ruleOf s p k i m))
+    → PlanFollows (stepRows limits p k i s m) (stepPlan limits p k i s m)
+unfolding stepPlan
+steps-follow limits p k i s m f =
+    require-row _ beyondLimit 0 _ _ (limits-told limits p k m) (λ e.
+    require-row _ wrongLength 0 _ _ (lengths-told p k m) (λ q.
+    require-row _ noSuchWorker i _ _ (lt-told i p) (λ h.
+    checked-row _ _ _ (le-told (rowIn m i .phase) 2) (λ _.
+    suited-row (rowIn m i .phase) s _ _ (f (fits-are limits p k m e q) (ltb-true i p h))))))

@@ -1,0 +1,103 @@
+-- What the words of the rings are after a task has joined one of them, where each ring was filled from its first slot on.
+use Prim.Native.Nat.{ℕ, suc, _+_, _*_, _≤_, _<_}
+use mathlib.Core.Path.{_≡_, refl, sym, ap, _∙_}
+use mathlib.Core.List.{List, [], _∷_, _++_}
+use native.Mathlib.Omega.{arith}
+use native.Mathlib.Decide.{ℕ-discrete}
+use lib.IntN.{pos}
+use lib.ListN.{length, getD, length-append}
+use lib.Seq.{getD-set-same, getD-set-other, getD-append-seam}
+use Rattle.lists.specs.Circles.{after}
+use Rattle.lists.specs.Sums.{sumOf}
+use Rattle.lists.proofs.Sums.{sumOf-single, sumOf-append}
+use Rattle.lists.proofs.Appends.{getD-snoc-other}
+use Rattle.lists.proofs.Places.{place-end, place-same}
+use Rattle.lists.proofs.Circles.{after-up}
+use Rattle.task.specs.declared.Ends.{Ends}
+use Rattle.ring.specs.Ring.{slotAt, tailOn, Sound, Full, queue, appendedAt}
+use Rattle.ring.proofs.Ends.{ends-stored, ends-other}
+use Rattle.ring.proofs.Queues.{queue-append, queue-append-other}
+use Rattle.rules.specs.Memory.{Mem, ringNumber, ringsIn, endsIn, counterIn, weightIn}
+use Rattle.rules.specs.Sizes.{Lengths}
+use Rattle.rules.specs.Updates.{updated, written}
+use Rattle.rules.specs.Steps.{join}
+use Rattle.rules.proofs.Kept.{written-keeps}
+
+-- a ring whose first n slots are taken
+abbrev pub filledEnds : ℕ → Ends
+filledEnds n = record { head = 0; tail = n }
+
+-- ring q holds the list from its first slot on, its other slots are 0, and its counter is the list's weight
+pub record Holds (k : ℕ) (weight : ℕ → ℕ) (m : Mem) (q : ℕ) (l : List ℕ) : Type 0 where
+  pub ends : endsIn m q ≡ filledEnds (length l)
+  pub slot : (x : ℕ) → x < k → getD (m .rings) (slotAt k q x) 0 ≡ getD l x 0
+  pub items : queue 0 k (ringsIn m) q ≡ l
+  pub counter : counterIn m q ≡ pos (sumOf weight l)
+
+-- a task joins the ring of owner o filled by worker i
+module _ (p k o i t : ℕ) (m : Mem) where
+  abbrev q : ℕ
+  q = ringNumber p o i
+
+  abbrev next : Mem
+  next = written (join p k o i t m) m
+
+  -- it is appended to that ring
+  pub join-appends : ringsIn next ≡ appendedAt k q t (ringsIn m)
+  unfolding written updated appendedAt
+  join-appends = refl
+
+  pub join-lengths : Lengths p k m → Lengths p k next
+  join-lengths = written-keeps (join p k o i t m) m .lengths p k
+
+  -- the ring that it joins
+  pub join-own : (weight : ℕ → ℕ) (l : List ℕ) → Lengths p k m → q < p * p → weightIn m t ≡ weight t → suc (length l) < k
+      → Holds k weight m q l → Holds k weight next q (l ++ (t ∷ []))
+  unfolding written updated tailOn slotAt
+  join-own weight l lengths h w room r =
+      record {
+        ends = ends-stored (m .ends) q (tailOn k (endsIn m q)) ends-room ∙ rw (r .ends, moved, length-append l (t ∷ []));
+        slot = λ x hx. slots x hx (ℕ-discrete x (length l));
+        items = rw join-appends (queue-append 0 k (ringsIn m) q t sound free slots-room ends-room ∙ ap (λ (s : List ℕ). s ++ (t ∷ [])) (r .items));
+        counter =
+            getD-set-same (m .counters) q _ (pos 0) (omega (arith, h, lengths .others .counters))
+            ∙ rw (r .counter, w, sumOf-append weight l (t ∷ []), sumOf-single weight t);
+      }
+    where
+      moved : after k (length l) ≡ length l + 1
+      moved = after-up k (length l) (omega (arith, room))
+
+      tail-is : endsIn m q .tail ≡ length l
+      tail-is = ap (λ (e : Ends). e .tail) (r .ends)
+
+      ends-room : q * 2 + 2 ≤ length (m .ends)
+      ends-room = rw (lengths .others .ends) (omega (arith, h))
+
+      slots-room : slotAt k q k ≤ length (m .rings)
+      slots-room = rw (lengths .others .rings) (place-end k (p * p) q h)
+
+      sound : Sound k (endsIn m q)
+      sound = rw (r .ends) (omega (arith, room), omega (arith, room))
+
+      free : ¬ (Full k (endsIn m q))
+      free f = let g : after k (length l) ≡ 0 = rw (r .ends) at f in omega (arith, g, moved)
+
+      slots : (x : ℕ) → x < k → Dec (x ≡ length l) → getD (next .rings) (slotAt k q x) 0 ≡ getD (l ++ (t ∷ [])) x 0
+      slots x hx (yes e) =
+          rw (tail-is, e)
+          (getD-set-same (m .rings) (slotAt k q (length l)) t 0 (omega (arith, slots-room, room)) ∙ sym (getD-append-seam l t [] 0))
+      slots x hx (no n) =
+          getD-set-other (m .rings) (slotAt k q (endsIn m q .tail)) (slotAt k q x) t 0 (λ e. n (omega (arith, e, tail-is)))
+          ∙ r .slot x hx ∙ sym (getD-snoc-other l t x 0 n)
+
+  -- another one
+  pub join-other : (weight : ℕ → ℕ) (l : List ℕ) (s : ℕ) → endsIn m q .tail < k → ¬ (s ≡ q) → Holds k weight m s l → Holds k weight next s l
+  unfolding written updated slotAt
+  join-other weight l s small n r =
+      record {
+        ends = ends-other (m .ends) q s (tailOn k (endsIn m q)) n ∙ r .ends;
+        slot = λ x hx. getD-set-other (m .rings) (slotAt k q (endsIn m q .tail)) (slotAt k s x) t 0
+            (λ e. n (place-same k s x q (endsIn m q .tail) hx small e .0)) ∙ r .slot x hx;
+        items = rw join-appends (queue-append-other 0 k (ringsIn m) q t s n small ∙ r .items);
+        counter = getD-set-other (m .counters) q s _ (pos 0) n ∙ r .counter;
+      }

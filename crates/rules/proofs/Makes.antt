@@ -1,0 +1,156 @@
+-- PROMISE: a step that finds what its sentences ask for is accepted, and then it answers and writes what they say.
+use Prim.Native.Nat.{ℕ, _+_, _*_, _<_}
+use mathlib.Core.Path.{_≡_, refl, sym, ap, _∙_}
+use mathlib.Core.Bool.{true, cond}
+use mathlib.Core.List.{List, _∷_}
+use native.Mathlib.Omega.{arith}
+use lib.ListN.{length}
+use lib.Dec.{leb, eqb}
+use borrow.Author.Tests.{lt-ltb, le-leb, eq-eqb, ne-eqb}
+use Rattle.lists.proofs.Told.{told-pass, told-fail}
+use Rattle.task.specs.Phases.{suits, nextPhase}
+use Rattle.task.specs.declared.Limits.{Limits}
+use Rattle.task.specs.declared.Row.{Row}
+use Rattle.task.specs.declared.Step.{Step}
+use Rattle.task.specs.declared.Step.the-variants.{Fetch, Start, Complete, Release}
+use Rattle.task.specs.declared.StepOutcome.{StepOutcome}
+use Rattle.task.specs.declared.StepAnswer.the-variants.{Accepted}
+use Rattle.lists.specs.Circles.{after}
+use Rattle.ring.specs.Ring.{headOn, tailOn}
+use Rattle.choice.specs.Least.{target}
+use Rattle.choice.proofs.Least.{target-is, target-unique}
+use Rattle.choice.specs.Search.{none}
+use Rattle.rules.specs.Memory.{Mem, tasks, edges, ringNumber, headWord, counterIn, degreeIn, succCount, rowIn, held, acceptedIn, successor}
+use Rattle.rules.specs.Sizes.{Fits}
+use Rattle.rules.specs.Words.{acceptedFits}
+use Rattle.rules.specs.Updates.{Update, putAccepted, written}
+use Rattle.rules.specs.Plans.{Plan, accept, withCount, counted, carriedOut}
+use Rattle.rules.specs.Steps.{fetchTask, fetchFrom, fetchRule, startRule, completeSink, completeInner, completeRule, releasedRow, releaseTo, releaseReady, releaseWaiting, releaseRule, ruleOf, stepPlan, step}
+use Rattle.rules.specs.Moves.{Fetches, Completing, sink, inner, Advances, next, last, Releasing, ReleasesPlaced, waiting, placed, Made}
+use Rattle.rules.proofs.Headers.{lengths-told, limits-told, fits-within}
+use Rattle.rules.proofs.Words.{counter-told, accepted-told, entries-told, recorded-told}
+use Rattle.rules.proofs.Fetch.{scan-stops}
+use Rattle.rules.proofs.Release.{counters-told, room-stops}
+
+-- the tests that both kinds of Complete pass, and both of Release
+completing-passes : (i : ℕ) (m : Mem) → Completing i m
+    → completeRule i m ≡ cond (eqb (succCount m (held m i)) 0) (completeSink i m) (completeInner i m)
+unfolding completeRule
+completing-passes i m c =
+    rw (
+      told-pass (entries-told m) (λ h. omega (arith, c .entries)),
+      told-fail (recorded-told m) (λ e. omega (arith, c .entries)),
+      lt-ltb _ _ (c .task .below),
+      le-leb _ _ (c .task .rises),
+      le-leb _ _ (c .task .inside),
+    )
+
+releasing-passes : (p k i : ℕ) (m : Mem) (row : Row) → Releasing i m row
+    → releaseRule p k i m
+    ≡ cond (eqb (degreeIn m (successor m i)) 1) (releaseReady p k i m) (releaseWaiting i m)
+unfolding releaseRule
+releasing-passes p k i m row c =
+    rw (
+      le-leb (rowIn m i .read) (rowIn m i .write) (omega (arith, c .notEmpty)),
+      le-leb _ _ (c .places),
+      ne-eqb (rowIn m i .read) (rowIn m i .write) (λ e. omega (arith, c .notEmpty)),
+      lt-ltb _ _ (c .task .below),
+      le-leb _ _ (c .task .rises),
+      le-leb _ _ (c .task .inside),
+      lt-ltb _ _ (c .cursor),
+      lt-ltb _ _ (c .below),
+      le-leb _ _ (c .positive),
+      le-leb _ _ (c .few),
+    )
+
+released-is : {count : ℕ} {r row : Row} → Advances count r row → releasedRow count r ≡ row
+unfolding releasedRow
+released-is {count} {r} (next h) = rw (ne-eqb (r .cursor + 1) count (λ e. omega arith))
+released-is {count} {r} (last h) = rw (eq-eqb (r .cursor + 1) count (omega arith))
+
+module _ (p k i : ℕ) (m : Mem) (low : acceptedIn m < 3 * tasks m + edges m) where
+  fits : acceptedFits m ≡ true
+  fits = told-pass (accepted-told m) (λ b. omega (arith, low, b))
+
+  fetch-accepts : (o : StepOutcome) (us : List Update) → Fetches p k i m o us → fetchRule p k i m ≡ accept o (withCount m us)
+  unfolding fetchRule fetchFrom fetchTask counted headOn after
+  fetch-accepts o us f =
+      let e : f .ring ≡ ringNumber p i (f .filler) = f .ringIs ∙ sym (ap (ringNumber p i) (f .fillerIs)) in
+      let t : f .task ≡ headWord k m (ringNumber p i (f .filler)) = f .taskIs ∙ ap (headWord k m) e in
+      rw (lt-ltb _ _ (f .pointer), scan-stops p k i m (f .distance) (f .stop), sym (f .fillerIs), sym t, lt-ltb _ _ (f .below), le-leb _ _ (f .light))
+      (rw (told-pass (counter-told (counterIn m (ringNumber p i i))) (f .counter), fits, f .outcome, f .updates, e))
+
+  placed-accepts : length (m .counters) ≡ p * p → (o : StepOutcome) (us : List Update) → ReleasesPlaced p k i m o us → releaseRule p k i m ≡ accept o (withCount m us)
+  unfolding releaseReady releaseTo counted tailOn after
+  placed-accepts c o us f =
+      rw (
+        releasing-passes p k i m (f .row) (f .common),
+        eq-eqb _ _ (f .ready),
+        told-pass (counters-told (m .counters) (p * p) c) (f .counters),
+        target-unique p (m .counters) (target p (m .counters)) (f .target) (target-is p (m .counters) (omega (arith, f .least .worker))) (f .least),
+        room-stops p k i (f .target) m (f .distance) (f .stop),
+        sym (f .ownerIs),
+        le-leb _ _ (f .light),
+        fits,
+        released-is (f .common .advances),
+        f .outcome,
+        f .updates,
+        f .ringIs,
+      )
+
+  rule-accepts : length (m .counters) ≡ p * p → (s : Step) (o : StepOutcome) (us : List Update) → Made s p k i m o us → ruleOf s p k i m ≡ accept o (withCount m us)
+  unfolding ruleOf startRule completeSink completeInner releaseWaiting counted
+  rule-accepts c Fetch o us f = fetch-accepts o us f
+  rule-accepts c Start o us f = rw (fits, f .outcome, f .updates)
+  rule-accepts c Complete o us (sink f) =
+      rw (completing-passes i m (f .common), eq-eqb _ _ (f .none), fits, f .outcome, f .updates)
+  rule-accepts c Complete o us (inner f) =
+      rw (
+        completing-passes i m (f .common),
+        ne-eqb (succCount m (held m i)) 0 (λ e. omega (arith, f .successors)),
+        le-leb _ _ (f .places),
+        le-leb (rowIn m i .write) (tasks m) (omega (arith, f .room)),
+        lt-ltb _ _ (f .room),
+        fits,
+        f .outcome,
+        f .updates,
+      )
+  rule-accepts c Release o us (waiting f) =
+      rw (
+        releasing-passes p k i m (f .row) (f .common),
+        ne-eqb _ _ (f .notReady),
+        fits,
+        released-is (f .common .advances),
+        f .outcome,
+        f .updates,
+      )
+  rule-accepts c Release o us (placed f) = placed-accepts c o us f
+
+suits-fits : (s : Step) → leb (suits s) 2 ≡ true
+suits-fits Fetch = refl
+suits-fits Start = refl
+suits-fits Complete = refl
+suits-fits Release = refl
+
+module _ (limits : Limits) (p k i : ℕ) (s : Step) (m : Mem) where
+  step-reaches : Fits limits p k m → i < p → rowIn m i .phase ≡ suits s → stepPlan limits p k i s m ≡ ruleOf s p k i m
+  unfolding stepPlan nextPhase
+  step-reaches f w e =
+      rw (
+        told-pass (limits-told limits p k m) (fits-within limits p k m f),
+        told-pass (lengths-told p k m) (λ n. n (f .lengths)),
+        lt-ltb _ _ w,
+        e,
+        suits-fits s,
+        eq-eqb (suits s) (suits s) refl,
+      )
+
+  -- a step that finds all this is accepted, with that outcome and those updates
+  pub made-accepted : (o : StepOutcome) (us : List Update)
+      → Fits limits p k m → i < p → rowIn m i .phase ≡ suits s → acceptedIn m < 3 * tasks m + edges m → Made s p k i m o us
+      → (step limits p k i s m .answer ≡ Accepted o) × (step limits p k i s m .memory ≡ written (putAccepted (acceptedIn m + 1) ∷ us) m)
+  unfolding step carriedOut
+  made-accepted o us f w e low r = (ap (λ (plan : Plan). carriedOut plan m .answer) q, ap (λ (plan : Plan). carriedOut plan m .memory) q)
+    where
+      q : stepPlan limits p k i s m ≡ accept o (withCount m us)
+      q = step-reaches f w e ∙ rule-accepts p k i m low (f .lengths .others .counters) s o us r

@@ -1,0 +1,131 @@
+-- PROMISE: an accepted step adds 1 to the accepted word and rewrites its worker's row, so it moves something; it leaves the phase of the
+-- fixed table, and Complete alone adds an entry. No step writes another worker's row.
+use Prim.Native.Nat.{ℕ, suc, _+_}
+use mathlib.Core.Path.{_≡_, refl, sym, ap, _∙_}
+use mathlib.Core.List.{List}
+use native.Mathlib.Omega.{arith}
+use lib.ListN.{length, getD, set, length-set}
+use lib.Seq.{getD-set-same, getD-set-other}
+use Rattle.task.specs.Types.{idle}
+use Rattle.task.specs.Phases.{suits, leadsTo}
+use Rattle.task.specs.Refusals.{stepSays}
+use Rattle.task.specs.Rows.{Acceptance}
+use Rattle.task.specs.declared.Limits.{Limits}
+use Rattle.task.specs.declared.Row.{Row}
+use Rattle.task.specs.declared.Step.{Step}
+use Rattle.task.specs.declared.Step.the-variants.{Fetch, Start, Complete, Release}
+use Rattle.task.specs.declared.StepOutcome.{StepOutcome}
+use Rattle.task.specs.declared.StepAnswer.{StepAnswer}
+use Rattle.task.specs.declared.StepAnswer.the-variants.{Refused, Accepted}
+use Rattle.rules.specs.Memory.{Mem, rowIn, entriesIn, acceptedIn}
+use Rattle.rules.specs.Updates.{Update, updated, written}
+use Rattle.rules.specs.Steps.{step}
+use Rattle.rules.specs.Plans.{withCount}
+use Rattle.rules.specs.Moves.{sink, inner, next, last, Advances, waiting, placed, Made, AcceptedStep, entriesNext}
+use Rattle.rules.proofs.Plans.{outcome-accepts}
+use Rattle.rules.proofs.Moves.{accepted-step}
+use Rattle.rules.proofs.Untouched.{refused-step}
+
+-- what an accepted step of worker i leaves of the rows and the run words
+record Writes (i : ℕ) (s : Step) (m m′ : Mem) : Type 0 where
+  row : Row
+  rows : m′ .rows ≡ set (m .rows) i row
+  phase : row .phase ≡ leadsTo s
+  other : ¬ (row ≡ rowIn m i)
+  accepted : acceptedIn m′ ≡ suc (acceptedIn m)
+  entries : entriesIn m′ ≡ entriesNext s (entriesIn m)
+
+-- Release keeps the phase, but the read place or the cursor advances
+advanced-row : {count : ℕ} {r row : Row} → Advances count r row → (row .phase ≡ leadsTo Release) × ¬ (row ≡ r)
+advanced-row (next h) = (refl, λ e. omega (arith, ap (λ (x : Row). x .cursor) e))
+advanced-row (last h) = (refl, λ e. omega (arith, ap (λ (x : Row). x .read) e))
+
+same-phase : {r r′ : Row} → r ≡ r′ → r .phase ≡ r′ .phase
+same-phase e = ap (λ (r : Row). r .phase) e
+
+module _ (p k i : ℕ) (m : Mem) (two : _≡_ {A = ℕ} (length (m .run)) 2) where
+  -- the run words once the step is counted
+  abbrev run : List ℕ
+  run = set (m .run) 1 (acceptedIn m + 1)
+
+  run-accepted : getD run 1 0 ≡ suc (acceptedIn m)
+  run-accepted = getD-set-same (m .run) 1 (acceptedIn m + 1) 0 (omega (arith, two)) ∙ omega arith
+
+  run-entries : getD run 0 0 ≡ entriesIn m
+  run-entries = getD-set-other (m .run) 1 0 (acceptedIn m + 1) 0 (λ e. omega arith)
+
+  -- and once Complete has added its entry
+  full-accepted : getD (set run 0 (entriesIn m + 1)) 1 0 ≡ suc (acceptedIn m)
+  full-accepted = getD-set-other run 0 1 (entriesIn m + 1) 0 (λ e. omega arith) ∙ run-accepted
+
+  full-entries : getD (set run 0 (entriesIn m + 1)) 0 0 ≡ suc (entriesIn m)
+  full-entries = getD-set-same run 0 (entriesIn m + 1) 0 (omega (arith, two, length-set (m .run) 1 (acceptedIn m + 1))) ∙ omega arith
+
+  made-writes : (s : Step) (o : StepOutcome) (us : List Update) → rowIn m i .phase ≡ suits s → Made s p k i m o us
+      → Writes i s m (written (withCount m us) m)
+  unfolding written updated
+  made-writes Fetch o us h f =
+      rw (f .updates)
+      (record { row = _; rows = refl; phase = refl; other = λ e. omega (arith, h, same-phase e); accepted = run-accepted; entries = run-entries })
+  made-writes Start o us h f =
+      rw (f .updates)
+      (record { row = _; rows = refl; phase = refl; other = λ e. omega (arith, h, same-phase e); accepted = run-accepted; entries = run-entries })
+  made-writes Complete o us h (sink f) =
+      rw (f .updates)
+      (record { row = _; rows = refl; phase = refl; other = λ e. omega (arith, h, same-phase e); accepted = full-accepted; entries = full-entries })
+  made-writes Complete o us h (inner f) =
+      rw (f .updates)
+      (record { row = _; rows = refl; phase = refl; other = λ e. omega (arith, h, same-phase e); accepted = full-accepted; entries = full-entries })
+  made-writes Release o us h (waiting f) =
+      let (e, n) = advanced-row (f .common .advances) in
+      rw (f .updates) (record { row = _; rows = refl; phase = e; other = n; accepted = run-accepted; entries = run-entries })
+  made-writes Release o us h (placed f) =
+      let (e, n) = advanced-row (f .common .advances) in
+      rw (f .updates) (record { row = _; rows = refl; phase = e; other = n; accepted = run-accepted; entries = run-entries })
+
+module _ (limits : Limits) (p k i : ℕ) (s : Step) (m : Mem) where
+  accepted-writes : AcceptedStep limits p k i s m → Writes i s m (step limits p k i s m .memory)
+  accepted-writes r = rw (r .left) (made-writes p k i m (r .fits .lengths .others .run) s (r .outcome) (r .updates) (r .phase) (r .made))
+
+  -- no step writes another worker's row
+  pub rows-other : (j : ℕ) → ¬ (j ≡ i) → rowIn (step limits p k i s m .memory) j ≡ rowIn m j
+  rows-other j n = go (step limits p k i s m .answer) refl
+    where
+      go : (a : StepAnswer) → step limits p k i s m .answer ≡ a → rowIn (step limits p k i s m .memory) j ≡ rowIn m j
+      go (Refused x d) e = ap (λ (m′ : Mem). rowIn m′ j) (refused-step limits p k i s m x d (ap stepSays e))
+      go (Accepted o) e =
+          let a : Acceptance (stepSays (step limits p k i s m .answer)) = rw e (outcome-accepts o) in
+          let w : Writes i s m (step limits p k i s m .memory) = accepted-writes (accepted-step limits p k i s m a) in
+          ap (λ (rows : List Row). getD rows j idle) (w .rows) ∙ getD-set-other (m .rows) i j (w .row) idle n
+
+  module _ (a : Acceptance (stepSays (step limits p k i s m .answer))) where
+    accepted : AcceptedStep limits p k i s m
+    accepted = accepted-step limits p k i s m a
+
+    writes : Writes i s m (step limits p k i s m .memory)
+    writes = accepted-writes accepted
+
+    row-written : rowIn (step limits p k i s m .memory) i ≡ writes .row
+    row-written =
+        ap (λ (rows : List Row). getD rows i idle) (writes .rows)
+        ∙ getD-set-same (m .rows) i (writes .row) idle (omega (arith, accepted .worker, accepted .fits .lengths .others .rows))
+
+    -- "Each accepted step adds 1 to the accepted word"
+    pub counts : acceptedIn (step limits p k i s m .memory) ≡ suc (acceptedIn m)
+    counts = writes .accepted
+
+    -- "Release 0→0, Fetch 0→1, Start 1→2, Complete 2→0"
+    pub phase-after : rowIn (step limits p k i s m .memory) i .phase ≡ leadsTo s
+    phase-after = same-phase row-written ∙ writes .phase
+
+    -- the worker's row is another one: Release moves the cursor or the read place, the other steps the phase
+    pub row-moved : ¬ (rowIn (step limits p k i s m .memory) i ≡ rowIn m i)
+    row-moved e = writes .other (sym row-written ∙ e)
+
+    -- so an accepted step moves something
+    pub moved : ¬ (step limits p k i s m .memory ≡ m)
+    moved e = row-moved (ap (λ (m′ : Mem). rowIn m′ i) e)
+
+    -- Complete adds 1 to the entries word, the other steps leave it
+    pub entries-after : entriesIn (step limits p k i s m .memory) ≡ entriesNext s (entriesIn m)
+    entries-after = writes .entries

@@ -1,0 +1,255 @@
+-- PROMISE: an accepted step has found what its sentences ask for, and it answers and writes what they say.
+use Prim.Native.Nat.{ℕ, _+_, _*_, _<_}
+use mathlib.Core.Path.{_≡_, refl, ap, subst, _∙_}
+use mathlib.Core.Bool.{Bool, true, false, cond}
+use mathlib.Core.List.{List}
+use native.Mathlib.Omega.{arith}
+use lib.ListN.{length}
+use lib.Dec.{leb, eqb}
+use borrow.Author.Tests.{ltb-true, leb-true, eqb-true, eqb-false}
+use Rattle.lists.proofs.Apart.{unequal}
+use Rattle.lists.proofs.Told.{Told, told-true, told-false, same-told, and-true, told-yes, told-no}
+use Rattle.task.specs.Phases.{suits, nextPhase}
+use Rattle.task.specs.Refusals.{stepSays}
+use Rattle.task.specs.Rows.{Acceptance}
+use Rattle.task.specs.declared.Limits.{Limits}
+use Rattle.task.specs.declared.Row.{Row}
+use Rattle.task.specs.declared.Step.{Step}
+use Rattle.task.specs.declared.Step.the-variants.{Fetch, Start, Complete, Release}
+use Rattle.task.specs.declared.StepOutcome.{StepOutcome}
+use Rattle.lists.specs.Circles.{after, around}
+use Rattle.ring.specs.Ring.{Empty, Full, headOn, tailOn}
+use Rattle.choice.specs.Least.{target}
+use Rattle.choice.proofs.Least.{target-is}
+use Rattle.choice.specs.Search.{Found, unsound, none, at}
+use Rattle.rules.specs.Memory.{Mem, tasks, edges, ringNumber, headWord, counterIn, degreeIn, succCount, firstSucc, pastSucc, rowIn, held, entriesIn, acceptedIn, oldest, successor}
+use Rattle.rules.specs.Sizes.{Fits}
+use Rattle.rules.specs.Words.{phaseFits, rangeFits, placesFit, acceptedFits}
+use Rattle.rules.specs.Updates.{Update}
+use Rattle.rules.specs.Plans.{Plan, refuse, accept, require, suited, withCount, counted, carriedOut}
+use Rattle.rules.specs.Steps.{scan, fetchTask, fetchFrom, fetchRule, startRule, completeSink, completeInner, completeRule, releasedRow, findRoom, releaseTo, releaseReady, releaseWaiting, releaseRule, ruleOf, stepPlan, step}
+use Rattle.rules.specs.Tables.{BadAccepted, BadCounter, scannedEnds, offeredEnds, HasSuccessors, Ready}
+use Rattle.rules.specs.Moves.{Fetches, Ranged, Completing, Completes, sink, inner, Advances, next, last, Releasing, Releases, waiting, placed, Made, AcceptedStep}
+use Rattle.rules.proofs.Headers.{fits-are}
+use Rattle.rules.proofs.Words.{counter-told, accepted-told, entries-told, recorded-told}
+use Rattle.rules.proofs.Searches.{Looked}
+use Rattle.rules.proofs.Fetch.{scan-looked}
+use Rattle.rules.proofs.Release.{counters-told, room-looked}
+
+-- what holds of the outcome and the updates where a plan accepts
+record IfAccepted (M : StepOutcome → List Update → Type 0) (plan : Plan) : Type 0 where
+  holds : (o : StepOutcome) (us : List Update) → plan ≡ accept o us → M o us
+
+module _ {M : StepOutcome → List Update → Type 0} where
+  if-refused : (n d : ℕ) → IfAccepted M (refuse n d)
+  if-refused n d = record { holds = λ o us e. unequal cc }
+
+  if-required : (b : Bool) (n d : ℕ) {plan : Plan} → (b ≡ true → IfAccepted M plan) → IfAccepted M (require b n d plan)
+  if-required true n d f = f refl
+  if-required false n d f = if-refused n d
+
+  if-cond : (b : Bool) {x y : Plan} → (b ≡ true → IfAccepted M x) → (b ≡ false → IfAccepted M y) → IfAccepted M (cond b x y)
+  if-cond true f g = f refl
+  if-cond false f g = g refl
+
+-- updates that add 1 to an accepted word in its range, and the others
+record Counted (m : Mem) (M : StepOutcome → List Update → Type 0) (o : StepOutcome) (us : List Update) : Type 0 where
+  low : acceptedIn m < 3 * tasks m + edges m
+  others : List Update
+  whole : us ≡ withCount m others
+  made : M o others
+
+-- "The cursor advances; after the last successor it returns to 0 and the read place advances."
+row-advances : (count : ℕ) (r : Row) → r .cursor < count → Advances count r (releasedRow count r)
+unfolding releasedRow
+row-advances count r h = go (same-told (r .cursor + 1) count)
+  where
+    go : Told (eqb (r .cursor + 1) count) (r .cursor + 1 ≡ count) (¬ (r .cursor + 1 ≡ count)) → Advances count r (releasedRow count r)
+    go (told-true e q) = rw e (last (omega arith))
+    go (told-false e n) = rw e (next (omega arith))
+
+module _ (m : Mem) where
+  if-counted : {M : StepOutcome → List Update → Type 0} (o : StepOutcome) (us : List Update) → M o us → IfAccepted (Counted m M) (counted m o us)
+  unfolding counted
+  if-counted {M} o us h =
+      if-required (acceptedFits m) _ _ (λ l.
+      let n : ¬ (BadAccepted m) = told-yes (accepted-told m) l in
+      record {
+        holds = λ o′ us′ e. record {
+          low = omega (arith, n);
+          others = us;
+          whole = cc;
+          made = subst (λ (x : StepOutcome). M x us) (cc) h;
+        };
+      })
+
+  ranged : (t : ℕ) → t < tasks m → rangeFits m t ≡ true → Ranged m t
+  ranged t h e =
+      let (a, b) = and-true (leb (firstSucc m t) (pastSucc m t)) _ e in
+      record { below = h; rises = leb-true _ _ a; inside = leb-true _ _ b }
+
+  module _ (p k i : ℕ) where
+    if-fetched : (f : Found) → rowIn m i .pointer < p → Looked p k Empty (scannedEnds p i m) (rowIn m i .pointer) f
+        → IfAccepted (Counted m (Fetches p k i m)) (fetchFrom p k i m f)
+    unfolding fetchFrom fetchTask headOn after
+    if-fetched unsound h l = if-refused _ _
+    if-fetched none h l = if-refused _ _
+    if-fetched (at j) h (e, stop, q) =
+        if-required _ _ _ (λ a.
+        if-required _ _ _ (λ b.
+        if-required _ _ _ (λ c.
+        if-counted _ _ (record {
+          pointer = h;
+          distance = e;
+          stop = stop;
+          ring = ringNumber p i j;
+          ringIs = ap (ringNumber p i) q;
+          filler = j;
+          fillerIs = q;
+          task = headWord k m (ringNumber p i j);
+          taskIs = refl;
+          below = ltb-true _ _ a;
+          light = leb-true _ _ b;
+          counter = told-yes (counter-told (counterIn m (ringNumber p i i))) c;
+          outcome = refl;
+          updates = refl;
+        }))))
+
+    if-inner : Completing i m → HasSuccessors m i → IfAccepted (Counted m (Completes i m)) (completeInner i m)
+    unfolding completeInner
+    if-inner c h =
+        if-required (placesFit m (rowIn m i .read) (rowIn m i .write)) _ _ (λ a.
+        let (r, _) = and-true (leb (rowIn m i .read) (rowIn m i .write)) _ a in
+        if-required _ _ _ (λ w.
+        if-counted _ _ (inner (record { common = c; successors = h; places = leb-true _ _ r; room = ltb-true _ _ w; outcome = refl; updates = refl }))))
+
+    if-completed : Completing i m → IfAccepted (Counted m (Completes i m))
+        (cond (eqb (succCount m (held m i)) 0) (completeSink i m) (completeInner i m))
+    unfolding completeSink
+    if-completed c =
+        if-cond _
+        (λ z. if-counted _ _ (sink (record { common = c; none = eqb-true _ _ z; outcome = refl; updates = refl })))
+        (λ s.
+        let n : ¬ (_≡_ {A = ℕ} (succCount m (held m i)) 0) = eqb-false _ _ s in
+        if-inner c (omega (arith, n)))
+
+    abbrev row : Row
+    row = releasedRow (succCount m (oldest m i)) (rowIn m i)
+
+    module _ (some : 0 < p) (e : length (m .counters) ≡ p * p) where
+      if-placed : (f : Found) → Releasing i m row → Ready m i → ¬ (BadCounter (p * p) (m .counters))
+          → Looked p k (Full k) (offeredEnds p i m (target p (m .counters))) (target p (m .counters)) f
+          → IfAccepted (Counted m (Releases p k i m)) (releaseTo p k i m f)
+      unfolding releaseTo tailOn after
+      if-placed unsound c r q l = if-refused _ _
+      if-placed none c r q l = if-refused _ _
+      if-placed (at o) c r q (d, stop, g) =
+          if-required _ _ _ (λ w.
+          if-counted _ _ (placed (record {
+            row = row;
+            common = c;
+            ready = r;
+            counters = q;
+            target = target p (m .counters);
+            least = target-is p (m .counters) some;
+            distance = d;
+            stop = stop;
+            owner = o;
+            ownerIs = g;
+            ring = ringNumber p o i;
+            ringIs = refl;
+            light = leb-true _ _ w;
+            outcome = refl;
+            updates = refl;
+          })))
+
+      if-released : Releasing i m row → IfAccepted (Counted m (Releases p k i m))
+          (cond (eqb (degreeIn m (successor m i)) 1) (releaseReady p k i m) (releaseWaiting i m))
+      unfolding releaseReady releaseWaiting
+      if-released c =
+          if-cond _
+          (λ r. if-required _ _ _ (λ q.
+          if-placed (findRoom p k i m (around p (target p (m .counters)))) c (eqb-true _ _ r) (told-yes (counters-told (m .counters) (p * p) e) q)
+          (room-looked p k i (target p (m .counters)) m)))
+          (λ n. if-counted _ _ (waiting (record { row = row; common = c; notReady = eqb-false _ _ n; outcome = refl; updates = refl })))
+
+      -- a step's own rule
+      if-ruled : (s : Step) → IfAccepted (Counted m (Made s p k i m)) (ruleOf s p k i m)
+      unfolding ruleOf fetchRule startRule completeRule releaseRule
+      if-ruled Fetch = if-required _ _ _ (λ h. if-fetched (scan p k i m) (ltb-true _ _ h) (scan-looked p k i m))
+      if-ruled Start = if-counted _ _ (record { outcome = refl; updates = refl })
+      if-ruled Complete =
+          if-required _ _ _ (λ a.
+          if-cond _ (λ _. if-refused _ _) (λ b.
+          let n : ¬ (entriesIn m ≡ tasks m) = told-no (recorded-told m) b in
+          let l : ¬ (tasks m < entriesIn m) = told-yes (entries-told m) a in
+          if-required _ _ _ (λ t.
+          if-required _ _ _ (λ g.
+          if-completed (record {
+            entries = omega (arith, l, n);
+            task = ranged (held m i) (ltb-true _ _ t) g;
+          })))))
+      if-ruled Release =
+          if-required _ _ _ (λ a.
+          let (r, w) = and-true (leb (rowIn m i .read) (rowIn m i .write)) _ a in
+          if-cond _ (λ _. if-refused _ _) (λ b.
+          let n : ¬ (rowIn m i .read ≡ rowIn m i .write) = eqb-false _ _ b in
+          if-required _ _ _ (λ t.
+          if-required _ _ _ (λ g.
+          if-required _ _ _ (λ c.
+          if-required _ _ _ (λ s.
+          if-required _ _ _ (λ d.
+          let (d1, d2) = and-true (leb 1 (degreeIn m (successor m i))) _ d in
+          if-released (record {
+            notEmpty = omega (arith, leb-true (rowIn m i .read) (rowIn m i .write) r, n);
+            places = leb-true _ _ w;
+            task = ranged (oldest m i) (ltb-true _ _ t) g;
+            cursor = ltb-true _ _ c;
+            below = ltb-true _ _ s;
+            positive = leb-true _ _ d1;
+            few = leb-true _ _ d2;
+            advances = row-advances (succCount m (oldest m i)) (rowIn m i) (ltb-true _ _ c);
+          }))))))))
+
+-- where a step is accepted, all is as its sentences say
+record AllFound (limits : Limits) (p k i : ℕ) (s : Step) (m : Mem) (o : StepOutcome) (us : List Update) : Type 0 where
+  fits : Fits limits p k m
+  worker : i < p
+  phase : rowIn m i .phase ≡ suits s
+  rule : Counted m (Made s p k i m) o us
+
+if-stepped : (limits : Limits) (p k i : ℕ) (s : Step) (m : Mem) → IfAccepted (AllFound limits p k i s m) (stepPlan limits p k i s m)
+unfolding stepPlan nextPhase
+if-stepped limits p k i s m =
+    if-required _ _ _ (λ a.
+    if-required _ _ _ (λ b.
+    if-required _ _ _ (λ c.
+    if-required (phaseFits (rowIn m i .phase)) _ _ (λ _.
+    go (same-told (rowIn m i .phase) (suits s)) (fits-are limits p k m a b) (ltb-true _ _ c)))))
+  where
+    go : Told (eqb (rowIn m i .phase) (suits s)) (rowIn m i .phase ≡ suits s) (¬ (rowIn m i .phase ≡ suits s)) → Fits limits p k m → i < p
+        → IfAccepted (AllFound limits p k i s m) (suited (nextPhase (rowIn m i .phase) s) (rowIn m i .phase) (ruleOf s p k i m))
+    go (told-true q e) f w =
+        rw q (record { holds = λ o us h. record { fits = f; worker = w; phase = e; rule = if-ruled m p k i (omega (arith, f .oneWorker)) (f .lengths .others .counters) s .holds o us h } })
+    go (told-false q n) f w = rw q (if-refused _ _)
+
+-- what an accepted step has found, answers and writes
+pub accepted-step : (limits : Limits) (p k i : ℕ) (s : Step) (m : Mem) → Acceptance (stepSays (step limits p k i s m .answer)) → AcceptedStep limits p k i s m
+unfolding step carriedOut
+accepted-step limits p k i s m a = go (stepPlan limits p k i s m) refl a
+  where
+    go : (plan : Plan) → stepPlan limits p k i s m ≡ plan → Acceptance (stepSays (carriedOut plan m .answer)) → AcceptedStep limits p k i s m
+    go (refuse n d) e b = absurd b
+    go (accept o us) e b =
+        let r : AllFound limits p k i s m o us = if-stepped limits p k i s m .holds o us e in
+        record {
+          fits = r .fits;
+          worker = r .worker;
+          phase = r .phase;
+          low = r .rule .low;
+          outcome = o;
+          updates = r .rule .others;
+          made = r .rule .made;
+          answered = ap (λ (plan : Plan). carriedOut plan m .answer) e;
+          left = ap (λ (plan : Plan). carriedOut plan m .memory) (e ∙ ap (accept o) (r .rule .whole));
+        }

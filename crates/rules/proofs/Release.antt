@@ -1,0 +1,134 @@
+-- Release follows its rows of the table.
+use Prim.Native.Nat.{ℕ, zero, suc, _+_, _*_, _%_, _<_}
+use mathlib.Core.Path.{_≡_, refl, subst}
+use mathlib.Core.Bool.{cond, _&&_}
+use mathlib.Core.List.{List, [], _∷_}
+use native.Mathlib.Omega.{arith}
+use native.Mathlib.Nat.{mod-lt}
+use lib.ListN.{length, drop}
+use lib.Dec.{eqb}
+use lib.IntN.{ℤ}
+use Rattle.lists.proofs.Told.{Told, told-true, told-false, same-told, le-told, lt-told, and-told, under-told}
+use Rattle.lists.specs.Circles.{around}
+use Rattle.lists.proofs.Circles.{mod-reached}
+use Rattle.task.specs.Refusals.{damaged, nothingThere, ringsFull}
+use Rattle.task.specs.Rows.{Refusal}
+use Rattle.task.specs.declared.Ends.{Ends}
+use Rattle.ring.specs.Ring.{Sound, Full, full}
+use Rattle.ring.proofs.Ends.{full-told}
+use Rattle.choice.specs.Least.{Target, target}
+use Rattle.choice.specs.Search.{Found, unsound, none, at}
+use Rattle.choice.proofs.Least.{target-is, target-unique}
+use Rattle.rules.specs.Memory.{Mem, tasks, edges, ringNumber, endsIn, weightIn, degreeIn, firstSucc, pastSucc, succCount, rowIn, oldest, successor}
+use Rattle.rules.specs.Words.{counterFits, countersFit}
+use Rattle.rules.specs.Plans.{Plan}
+use Rattle.rules.specs.Steps.{findRoom, releaseTo, releaseReady, releaseWaiting, releaseRule}
+use Rattle.rules.specs.Tables.{Beyond2^30, BadCounter, GoesOn, BadEnds, StopsAt, offeredEnds, Ready, releaseRows}
+use Rattle.rules.proofs.Plans.{PlanFollows, given-row, passed-row, refuse-row, checked-row, counted-row}
+use Rattle.rules.proofs.Searches.{Looked, all-not-bad, stop-not-bad, search-looked, search-stops}
+use Rattle.rules.proofs.Words.{counter-told}
+
+-- the test of all counters, against the table's row on counters
+list-told : (cs : List ℤ) → Told (countersFit cs) (¬ (BadCounter (length cs) cs)) (BadCounter (length cs) cs)
+unfolding countersFit
+list-told [] = told-true refl (λ b. omega (arith, b .1))
+list-told (c ∷ cs) = go (counter-told c) (list-told cs)
+  where
+    neither : ¬ (Beyond2^30 c) → ¬ (BadCounter (length cs) cs) → ¬ (BadCounter (suc (length cs)) (c ∷ cs))
+    neither f g (zero, h, b) = f b
+    neither f g (suc q, h, b) = g (q, omega (arith, h), b)
+
+    go : Told (counterFits c) (¬ (Beyond2^30 c)) (Beyond2^30 c) → Told (countersFit cs) (¬ (BadCounter (length cs) cs)) (BadCounter (length cs) cs)
+        → Told (counterFits c && countersFit cs) (¬ (BadCounter (suc (length cs)) (c ∷ cs))) (BadCounter (suc (length cs)) (c ∷ cs))
+    go (told-true e f) (told-true d g) = told-true (rw (e, d)) (neither f g)
+    go (told-true e f) (told-false d b) = told-false (rw (e, d)) (suc (b .0), omega (arith, b .1), b .2)
+    go (told-false e b) t = told-false (rw e) (0, omega arith, b)
+
+pub counters-told : (cs : List ℤ) (n : ℕ) → length cs ≡ n → Told (countersFit cs) (¬ (BadCounter n cs)) (BadCounter n cs)
+counters-told cs n e = subst (λ (k : ℕ). Told (countersFit cs) (¬ (BadCounter k cs)) (BadCounter k cs)) e (list-told cs)
+
+-- what the search for room finds from owner j on, and that it stops where it would
+module _ (p k i j : ℕ) (m : Mem) where
+  pub room-looked : Looked p k (Full k) (offeredEnds p i m j) j (findRoom p k i m (around p j))
+  unfolding findRoom
+  room-looked = search-looked p k j (Full k) (full k) (full-told k) (λ o. endsIn m (ringNumber p o i))
+
+  pub room-stops : (e : ℕ) → StopsAt p k (Full k) (offeredEnds p i m j) e → findRoom p k i m (around p j) ≡ at ((j + e) % p)
+  unfolding findRoom
+  room-stops = search-stops p k j (Full k) (full k) (full-told k) (λ o. endsIn m (ringNumber p o i))
+
+module _ (p k i : ℕ) (m : Mem) where
+  -- the table's rows but the first n
+  abbrev rowsFrom : ℕ → List Refusal
+  rowsFrom n = drop n (releaseRows p k i m)
+
+  -- the degree would not be 0
+  not-ready : ¬ (Ready m i) → (plan : Plan) → PlanFollows (rowsFrom 11) plan → PlanFollows (rowsFrom 7) plan
+  not-ready n plan f =
+      passed-row damaged 0 _ plan (λ c. n (c .0))
+      (passed-row damaged 0 _ plan (λ c. n (c .0))
+      (passed-row ringsFull (successor m i) _ plan (λ c. n (c .0))
+      (passed-row damaged 0 _ plan (λ c. n (c .0)) f)))
+
+  waiting-follows : ¬ (Ready m i) → PlanFollows (rowsFrom 7) (releaseWaiting i m)
+  unfolding releaseWaiting
+  waiting-follows n = not-ready n (releaseWaiting i m) (counted-row m _ _)
+
+  -- the degree would be 0
+  module _ (ready : Ready m i) (some : 0 < p) where
+    -- "target j", and the rings looked at from there on
+    abbrev j : ℕ
+    j = target p (m .counters)
+
+    abbrev offers : ℕ → Ends
+    offers = offeredEnds p i m j
+
+    target-j : Target p (m .counters) j
+    target-j = target-is p (m .counters) some
+
+    not-damaged : ¬ (BadEnds p k (Full k) offers) → ¬ (Ready m i × ((h : ℕ) × Target p (m .counters) h × BadEnds p k (Full k) (offeredEnds p i m h)))
+    not-damaged n (r, (h, t, b)) = n (subst (λ (x : ℕ). BadEnds p k (Full k) (offeredEnds p i m x)) (target-unique p (m .counters) h j t target-j) b)
+
+    -- the rings looked at are all that worker i fills
+    all-full : GoesOn k (Full k) offers p → (o : ℕ) → o < p → Sound k (endsIn m (ringNumber p o i)) × Full k (endsIn m (ringNumber p o i))
+    all-full f o h = go (mod-reached p j o (target-j .worker) h)
+      where
+        go : (d : ℕ) × (d < p) × ((j + d) % p ≡ o) → Sound k (endsIn m (ringNumber p o i)) × Full k (endsIn m (ringNumber p o i))
+        go (d, l, e) = subst (λ (x : ℕ). Sound k (endsIn m (ringNumber p x i)) × Full k (endsIn m (ringNumber p x i))) e (f d l)
+
+    to-follows : (f : Found) → Looked p k (Full k) offers j f → PlanFollows (rowsFrom 8) (releaseTo p k i m f)
+    unfolding releaseTo
+    to-follows unsound bad = given-row damaged 0 _ (ready, (j, target-j, bad))
+    to-follows none all =
+        passed-row damaged 0 _ (releaseTo p k i m none) (not-damaged (all-not-bad p k (Full k) offers all))
+        (given-row ringsFull (successor m i) _ (ready, all-full all))
+    to-follows (at o) (e, stop, q) =
+        passed-row damaged 0 _ (releaseTo p k i m (at o)) (not-damaged (stop-not-bad p k (Full k) offers stop))
+        (passed-row ringsFull (successor m i) _ (releaseTo p k i m (at o)) (λ c. stop .stops (c .1 ((j + e) % p) (mod-lt (j + e) some) .1))
+        (checked-row _ _ _ (under-told _ ready (le-told (weightIn m (successor m i)) 65535)) (λ _. counted-row m _ _)))
+
+    ready-follows : length (m .counters) ≡ p * p → PlanFollows (rowsFrom 7) (releaseReady p k i m)
+    unfolding releaseReady
+    ready-follows e = checked-row _ _ _ (under-told _ ready (counters-told (m .counters) (p * p) e)) (λ _. to-follows (findRoom p k i m (around p j)) (room-looked p k i j m))
+
+  -- the degree falls by one
+  degree-follows : 0 < p → length (m .counters) ≡ p * p → PlanFollows (rowsFrom 7)
+      (cond (eqb (degreeIn m (successor m i)) 1) (releaseReady p k i m) (releaseWaiting i m))
+  degree-follows some e = go (same-told (degreeIn m (successor m i)) 1)
+    where
+      go : Told (eqb (degreeIn m (successor m i)) 1) (Ready m i) (¬ (Ready m i))
+          → PlanFollows (rowsFrom 7) (cond (eqb (degreeIn m (successor m i)) 1) (releaseReady p k i m) (releaseWaiting i m))
+      go (told-true q r) = rw q (ready-follows r some e)
+      go (told-false q n) = rw q (waiting-follows n)
+
+pub release-follows : (p k i : ℕ) (m : Mem) → 0 < p → length (m .counters) ≡ p * p → PlanFollows (releaseRows p k i m) (releaseRule p k i m)
+unfolding releaseRule
+release-follows p k i m some e =
+    checked-row _ _ _ (and-told _ _ (le-told (rowIn m i .read) (rowIn m i .write)) (le-told (rowIn m i .write) (tasks m))) (λ _.
+    refuse-row _ nothingThere 0 _ _ (same-told (rowIn m i .read) (rowIn m i .write))
+    (checked-row _ _ _ (lt-told (oldest m i) (tasks m)) (λ _.
+    checked-row _ _ _ (and-told _ _ (le-told (firstSucc m (oldest m i)) (pastSucc m (oldest m i))) (le-told (pastSucc m (oldest m i)) (edges m))) (λ _.
+    checked-row _ _ _ (lt-told (rowIn m i .cursor) (succCount m (oldest m i))) (λ _.
+    checked-row _ _ _ (lt-told (successor m i) (tasks m)) (λ _.
+    checked-row _ _ _ (and-told _ _ (le-told 1 (degreeIn m (successor m i))) (le-told (degreeIn m (successor m i)) (tasks m))) (λ _.
+    degree-follows p k i m some e)))))))

@@ -1,0 +1,123 @@
+-- What a search over p rings, from number x upward modulo p, finds, in the words of the refusal table: `at-distance d` are the
+-- ends of the ring at distance d, and those as `Skip` says are skipped.
+use Prim.Native.Nat.{ℕ, _+_, _%_, _≤_, _<_}
+use mathlib.Core.Path.{_≡_, sym, ap, subst, _∙_}
+use mathlib.Core.Bool.{Bool, not}
+use native.Mathlib.Omega.{arith}
+use Rattle.lists.specs.Circles.{around}
+use Rattle.lists.specs.Decided.{Smallest}
+use Rattle.lists.proofs.Circles.{length-around, around-at}
+use Rattle.lists.proofs.Decided.{smallest-unique}
+use Rattle.lists.proofs.Told.{Told, told-true, told-false, not-told}
+use Rattle.task.specs.declared.Ends.{Ends}
+use Rattle.ring.specs.Ring.{Sound, sound}
+use Rattle.ring.proofs.Ends.{sound-told}
+use Rattle.choice.specs.Search.{Found, unsound, none, at, search, WentOn, Outcome}
+use Rattle.choice.proofs.Search.{search-is}
+use Rattle.rules.specs.Tables.{GoesOn, BadEnds, StopsAt}
+
+module _ (p k : ℕ) (Skip : Ends → Type 0) (at-distance : ℕ → Ends) where
+  -- what is found from number x on, as a property
+  abbrev pub Looked : ℕ → Found → Type 0
+  Looked x unsound = BadEnds p k Skip at-distance
+  Looked x none = GoesOn k Skip at-distance p
+  Looked x (at j) = (e : ℕ) × StopsAt p k Skip at-distance e × (j ≡ (x + e) % p)
+
+  -- a distance at which a search doesn't go on
+  abbrev Halts : ℕ → Type 0
+  Halts d = ¬ (Sound k (at-distance d) × Skip (at-distance d))
+
+  stop-halts : {e : ℕ} → StopsAt p k Skip at-distance e → Smallest Halts e
+  stop-halts s = record { such = λ h. s .stops (h .1); least = λ d l h. h (s .goesOn d l) }
+
+  bad-halts : (b : BadEnds p k Skip at-distance) → Smallest Halts (b .0)
+  bad-halts b = record { such = λ h. b .3 (h .0); least = λ d l h. h (b .2 d l) }
+
+  -- the three exclude each other, and the stop is the only one
+  pub stop-unique : {e f : ℕ} → StopsAt p k Skip at-distance e → StopsAt p k Skip at-distance f → e ≡ f
+  stop-unique s t = smallest-unique (stop-halts s) (stop-halts t)
+
+  pub all-not-bad : GoesOn k Skip at-distance p → ¬ (BadEnds p k Skip at-distance)
+  all-not-bad all b = b .3 (all (b .0) (b .1) .0)
+
+  pub stop-not-bad : {e : ℕ} → StopsAt p k Skip at-distance e → ¬ (BadEnds p k Skip at-distance)
+  stop-not-bad s b = b .3 (subst (λ d. Sound k (at-distance d)) (smallest-unique (stop-halts s) (bad-halts b)) (s .sound))
+
+  pub stop-not-all : {e : ℕ} → StopsAt p k Skip at-distance e → ¬ (GoesOn k Skip at-distance p)
+  stop-not-all {e} s all = s .stops (all e (s .inside) .1)
+
+-- the search itself, over rings that are found by their numbers
+module _ (p k x : ℕ) (Skip : Ends → Type 0) (skips : Ends → Bool)
+    (skip-told : (e : Ends) → Told (skips e) (Skip e) (¬ (Skip e))) (ends : ℕ → Ends) where
+  abbrev away : ℕ → Ends
+  away d = ends ((x + d) % p)
+
+  abbrev SoundAt : ℕ → Type 0
+  SoundAt j = Sound k (ends j)
+
+  abbrev BlocksAt : ℕ → Type 0
+  BlocksAt j = ¬ (Skip (ends j))
+
+  skip-stable : (e : Ends) → ¬ (¬ (Skip e)) → Skip e
+  skip-stable e n = go (skip-told e)
+    where
+      go : Told (skips e) (Skip e) (¬ (Skip e)) → Skip e
+      go (told-true q y) = y
+      go (told-false q m) = absurd (n m)
+
+  stops-told : (j : ℕ) → Told (not (skips (ends j))) (BlocksAt j) (¬ (BlocksAt j))
+  stops-told j = go (skip-told (ends j))
+    where
+      go : Told (skips (ends j)) (Skip (ends j)) (¬ (Skip (ends j))) → Told (not (skips (ends j))) (BlocksAt j) (¬ (BlocksAt j))
+      go (told-true q y) = not-told (skips (ends j)) (told-true q (λ n. n y))
+      go (told-false q m) = not-told (skips (ends j)) (told-false q m)
+
+  pass-to : (n : ℕ) → n ≤ p → WentOn SoundAt BlocksAt (around p x) n → GoesOn k Skip away n
+  pass-to n h passed d l = (q .0, skip-stable (away d) (q .1))
+    where
+      q : SoundAt ((x + d) % p) × ¬ (BlocksAt ((x + d) % p))
+      q = subst (λ j. SoundAt j × ¬ (BlocksAt j)) (around-at p x d 0 (omega arith)) (passed d l)
+
+  looked-of : (f : Found) → Outcome SoundAt BlocksAt (around p x) f → Looked p k Skip away x f
+  looked-of unsound m = (
+    m .place,
+    inside,
+    pass-to (m .place) (omega (arith, inside)) (m .passed),
+    λ s. m .damaged (subst SoundAt (sym (around-at p x (m .place) 0 inside)) s),
+  )
+    where
+      inside : m .place < p
+      inside = omega (arith, m .inside, length-around p x)
+  looked-of none passed = pass-to p (omega arith) (λ d l. passed d (omega (arith, length-around p x)))
+  looked-of (at j) m = (
+    m .place,
+    record {
+      inside = inside;
+      goesOn = pass-to (m .place) (omega (arith, inside)) (m .passed);
+      sound = subst SoundAt there (m .sound);
+      stops = subst BlocksAt there (m .stops);
+    },
+    there,
+  )
+    where
+      inside : m .place < p
+      inside = omega (arith, m .inside, length-around p x)
+
+      there : j ≡ (x + m .place) % p
+      there = sym (m .there) ∙ around-at p x (m .place) 0 inside
+
+  abbrev found : Found
+  found = search (λ j. sound k (ends j)) (λ j. not (skips (ends j))) (around p x)
+
+  pub search-looked : Looked p k Skip (λ d. ends ((x + d) % p)) x (search (λ j. sound k (ends j)) (λ j. not (skips (ends j))) (around p x))
+  search-looked = looked-of found (search-is _ _ SoundAt BlocksAt (λ j. sound-told k (ends j)) stops-told (around p x))
+
+  -- so where a search would stop, it does
+  pub search-stops : (e : ℕ) → StopsAt p k Skip (λ d. ends ((x + d) % p)) e
+      → search (λ j. sound k (ends j)) (λ j. not (skips (ends j))) (around p x) ≡ at ((x + e) % p)
+  search-stops e s = go found search-looked
+    where
+      go : (f : Found) → Looked p k Skip away x f → f ≡ at ((x + e) % p)
+      go unsound bad = absurd (stop-not-bad p k Skip away s bad)
+      go none all = absurd (stop-not-all p k Skip away s all)
+      go (at j) (d, t, q) = ap at (q ∙ ap (λ (n : ℕ). (x + n) % p) (stop-unique p k Skip away t s))

@@ -1,0 +1,33 @@
+-- PROMISE: a refused call leaves all lent memory as it was.
+use Prim.Native.Nat.{ℕ}
+use mathlib.Core.Path.{_≡_, refl, subst}
+use Rattle.lists.proofs.Apart.{unequal}
+use Rattle.task.specs.Refusals.{refused, answerSays, stepSays}
+use Rattle.task.specs.Rows.{Acceptance}
+use Rattle.task.specs.declared.Limits.{Limits}
+use Rattle.task.specs.declared.Answer.{Answer}
+use Rattle.task.specs.declared.Answer.the-variants as answer
+use Rattle.task.specs.declared.Step.{Step}
+use Rattle.rules.specs.Memory.{Mem}
+use Rattle.rules.specs.Plans.{Plan, refuse, accept, carriedOut}
+use Rattle.rules.specs.Steps.{stepPlan, step}
+use Rattle.rules.specs.Begin.{beginResult, beginAnswer, begin}
+use Rattle.rules.proofs.Plans.{outcome-accepts}
+
+refused-plan : (plan : Plan) (m : Mem) (n d : ℕ) → stepSays (carriedOut plan m .answer) ≡ refused n d → carriedOut plan m .memory ≡ m
+unfolding carriedOut
+refused-plan (refuse x y) m n d e = refl
+refused-plan (accept o us) m n d e = absurd (subst Acceptance e (outcome-accepts o))
+
+pub refused-step : (limits : Limits) (p k i : ℕ) (s : Step) (m : Mem) (n d : ℕ)
+    → stepSays (step limits p k i s m .answer) ≡ refused n d → step limits p k i s m .memory ≡ m
+unfolding step
+refused-step limits p k i s m n d e = refused-plan (stepPlan limits p k i s m) m n d e
+
+pub refused-begin : (limits : Limits) (p k : ℕ) (m : Mem) (n d : ℕ) → answerSays (begin limits p k m .answer) ≡ refused n d → begin limits p k m .memory ≡ m
+unfolding begin
+refused-begin limits p k m n d e = go (beginAnswer limits p k m) e
+  where
+    go : (a : Answer) → answerSays (beginResult a p k m .answer) ≡ refused n d → beginResult a p k m .memory ≡ m
+    go (answer.Refused x y) q = refl
+    go answer.Accepted q = unequal cc

@@ -1,0 +1,11 @@
+pub mod Memory
+pub mod Sizes
+pub mod Words
+pub mod Updates
+pub mod Plans
+pub mod Steps
+pub mod Begin
+pub mod Begun
+pub mod Tables
+pub mod Moves
+pub mod Desk

@@ -1,0 +1,143 @@
+-- "Lent memory, in 32-bit words", and how its words are found.
+use Prim.Native.Nat.{ℕ, _+_, _-_, _*_}
+use mathlib.Core.List.{List}
+use lib.ListN.{length, getD}
+use lib.IntN.{ℤ, pos}
+use Rattle.task.specs.Types.{idle}
+use Rattle.task.specs.declared.Ends.{Ends}
+use Rattle.task.specs.declared.Row.{Row}
+use Rattle.task.specs.declared.TaskId.{TaskId}
+use Rattle.graph.specs.Graph.{Graph, graphOf}
+use Rattle.ring.specs.Ring.{slotAt, endsAt, Rings, ringsOf}
+
+-- one field for each lent list, in the paper's order
+pub record Mem : Type 0 where
+  -- "Weights N."
+  pub weights : List ℕ
+  -- "Predecessor starts N+1 and predecessors E"
+  pub predStarts : List ℕ
+  pub preds : List ℕ
+  -- "Successor starts N+1 and successors E"
+  pub succStarts : List ℕ
+  pub succs : List ℕ
+  -- "Degrees N."
+  pub degrees : List ℕ
+  -- "Rings P·P·K"
+  pub rings : List ℕ
+  -- "Heads and tails, P·P pairs."
+  pub ends : List ℕ
+  -- "Counters P·P, signed, same place rule."
+  pub counters : List ℤ
+  -- "Completed buffers P·N."
+  pub buffers : List ℕ
+  -- "Execution record 2N (task, worker)."
+  pub executed : List ℕ
+  -- "Two run words: entries recorded, steps accepted."
+  pub run : List ℕ
+  -- "The worker rows are one lent list with a record per worker"
+  pub rows : List Row
+
+abbrev pub memOf : List ℕ → List ℕ → List ℕ → List ℕ → List ℕ → List ℕ → List ℕ → List ℕ → List ℤ → List ℕ → List ℕ → List ℕ → List Row → Mem
+memOf w ps p ss s d r e c b x n rows =
+    record {
+      weights = w;
+      predStarts = ps;
+      preds = p;
+      succStarts = ss;
+      succs = s;
+      degrees = d;
+      rings = r;
+      ends = e;
+      counters = c;
+      buffers = b;
+      executed = x;
+      run = n;
+      rows = rows;
+    }
+
+-- "N and E are the lengths of weights and predecessors"
+abbrev pub tasks : Mem → ℕ
+tasks m = length (m .weights)
+
+abbrev pub edges : Mem → ℕ
+edges m = length (m .preds)
+
+abbrev pub graphIn : Mem → Graph
+graphIn m = graphOf (tasks m) (m .predStarts) (m .preds)
+
+-- how many steps a run has, and how many entries its record
+unfoldable pub allSteps : Mem → ℕ
+allSteps m = 3 * tasks m + edges m
+
+unfoldable pub allEntries : Mem → ℕ
+allEntries m = tasks m
+
+-- "the ring of owner i filled by worker j": its number among the P·P rings, and that of its counter
+abbrev pub ringNumber : ℕ → ℕ → ℕ → ℕ
+ringNumber p i j = i * p + j
+
+abbrev pub endsIn : Mem → ℕ → Ends
+endsIn m q = endsAt (m .ends) q
+
+abbrev pub ringsIn : Mem → Rings ℕ
+ringsIn m = ringsOf (m .rings) (m .ends)
+
+-- the word at the head of ring q
+abbrev pub headWord : ℕ → Mem → ℕ → ℕ
+headWord k m q = getD (m .rings) (slotAt k q (endsIn m q .head)) 0
+
+abbrev pub counterIn : Mem → ℕ → ℤ
+counterIn m q = getD (m .counters) q (pos 0)
+
+abbrev pub weightIn : Mem → ℕ → ℕ
+weightIn m t = getD (m .weights) t 0
+
+abbrev pub degreeIn : Mem → ℕ → ℕ
+degreeIn m t = getD (m .degrees) t 0
+
+-- "task t's predecessors run from start t up to but not including start t+1"; successors are of the "same shape"
+abbrev pub firstSucc : Mem → ℕ → ℕ
+firstSucc m t = getD (m .succStarts) t 0
+
+abbrev pub pastSucc : Mem → ℕ → ℕ
+pastSucc m t = getD (m .succStarts) (t + 1) 0
+
+abbrev pub succCount : Mem → ℕ → ℕ
+succCount m t = pastSucc m t - firstSucc m t
+
+-- place x of worker i's completed buffer
+abbrev pub bufferAt : Mem → ℕ → ℕ → ℕ
+bufferAt m i x = i * tasks m + x
+
+abbrev pub rowIn : Mem → ℕ → Row
+rowIn m i = getD (m .rows) i idle
+
+-- a row with another phase and held task, another pointer, other buffer places and cursor
+abbrev pub withHand : ℕ → TaskId → Row → Row
+withHand phase held r =
+    record { phase = phase; held = held; pointer = r .pointer; read = r .read; write = r .write; cursor = r .cursor }
+
+abbrev pub withPointer : ℕ → Row → Row
+withPointer pointer r =
+    record { phase = r .phase; held = r .held; pointer = pointer; read = r .read; write = r .write; cursor = r .cursor }
+
+abbrev pub withPlaces : ℕ → ℕ → ℕ → Row → Row
+withPlaces read write cursor r =
+    record { phase = r .phase; held = r .held; pointer = r .pointer; read = read; write = write; cursor = cursor }
+
+-- the held task of worker i
+abbrev pub held : Mem → ℕ → ℕ
+held m i = rowIn m i .held .0
+
+abbrev pub entriesIn : Mem → ℕ
+entriesIn m = getD (m .run) 0 0
+
+abbrev pub acceptedIn : Mem → ℕ
+acceptedIn m = getD (m .run) 1 0
+
+-- "the oldest task in i's buffer", and "its successor s at the cursor"
+abbrev pub oldest : Mem → ℕ → ℕ
+oldest m i = getD (m .buffers) (bufferAt m i (rowIn m i .read)) 0
+
+abbrev pub successor : Mem → ℕ → ℕ
+successor m i = getD (m .succs) (firstSucc m (oldest m i) + rowIn m i .cursor) 0

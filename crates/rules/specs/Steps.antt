@@ -1,0 +1,162 @@
+-- The four steps, each as its sentences go: P workers, K slots, worker i. A definition stands above what uses it, so a step is read from
+-- its rule (`fetchRule`, `startRule`, `completeRule`, `releaseRule`) upward.
+use Prim.Native.Nat.{ℕ, _+_, _-_}
+use mathlib.Core.Bool.{cond, not, _&&_}
+use mathlib.Core.List.{List, [], _∷_}
+use lib.Dec.{ltb, eqb}
+use lib.IntN.{pos, _+ℤ_, _-ℤ_}
+use Rattle.lists.specs.Circles.{after, around}
+use Rattle.task.specs.Types.{nil}
+use Rattle.task.specs.Phases.{leadsTo, nextPhase}
+use Rattle.task.specs.Refusals.{beyondLimit, wrongLength, noSuchWorker, damaged, nothingThere, ringsFull, recordFull}
+use Rattle.task.specs.declared.Limits.{Limits}
+use Rattle.task.specs.declared.Row.{Row}
+use Rattle.task.specs.declared.Step.{Step}
+use Rattle.task.specs.declared.Step.the-variants.{Fetch, Start, Complete, Release}
+use Rattle.task.specs.declared.StepAnswer.{StepAnswer}
+use Rattle.task.specs.declared.StepOutcome.the-variants.{Moved, Fetched, Released}
+use Rattle.task.specs.declared.ReleaseOutcome.the-variants.{DegreeLeft, Placed}
+use Rattle.graph.specs.Check.{sizesFit}
+use Rattle.ring.specs.Ring.{slotAt, empty, full, headOn, tailOn}
+use Rattle.choice.specs.Least.{target}
+use Rattle.choice.specs.Search.{Found, unsound, none, at, search}
+use Rattle.rules.specs.Memory.{Mem, tasks, edges, allEntries, ringNumber, endsIn, headWord, counterIn, weightIn, degreeIn, succCount, bufferAt, rowIn, withHand, withPointer, withPlaces, held, entriesIn, oldest, successor}
+use Rattle.rules.specs.Sizes.{numbersFit, lengthsFit}
+use Rattle.rules.specs.Words.{endsFit, taskFits, phaseFits, pointerFits, counterFits, countersFit, degreeFits, placesFit, joinFits, cursorFits, rangeFits, weightFits, entriesFit}
+use Rattle.rules.specs.Updates.{Update, putDegree, putSlot, putEnds, putCounter, putBuffer, putEntry, putEntries, putRow}
+use Rattle.rules.specs.Plans.{Plan, refuse, require, refuseIf, checked, suited, counted, Result, carriedOut}
+
+-- "Fetch by i: scan the rings of owner i from the ring pointer upward, modulo P; the scan stops at the first ring that isn't empty."
+unfoldable pub scan : ℕ → ℕ → ℕ → Mem → Found
+scan p k i m = search (λ j. endsFit k m (ringNumber p i j)) (λ j. not (empty (endsIn m (ringNumber p i j)))) (around p (rowIn m i .pointer))
+
+-- the row after a Fetch: the head "becomes the held task"; "The pointer becomes the ring after, modulo P."
+abbrev pub fetchedRow : ℕ → ℕ → ℕ → Row → Row
+fetchedRow p j t r = withPointer (after p j) (withHand (leadsTo Fetch) (record { 0 = t }) r)
+
+-- "The weight leaves counter (i, i), which may go below zero."
+abbrev pub leave : ℕ → ℕ → ℕ → Mem → Update
+leave p i t m = putCounter (ringNumber p i i) (counterIn m (ringNumber p i i) -ℤ pos (weightIn m t))
+
+-- "Take its head, which becomes the held task; the slot's word stays."
+unfoldable pub fetchTask : ℕ → ℕ → ℕ → Mem → ℕ → ℕ → Plan
+fetchTask p k i m j t =
+    checked (taskFits m t)
+    (checked (weightFits m t)
+    (checked (counterFits (counterIn m (ringNumber p i i)))
+    (counted m (Fetched (record { 0 = t }))
+    (putEnds (ringNumber p i j) (headOn k (endsIn m (ringNumber p i j))) ∷ leave p i t m ∷ putRow i (fetchedRow p j t (rowIn m i)) ∷ []))))
+
+-- 10: "Fetch: all P rings empty"
+unfoldable pub fetchFrom : ℕ → ℕ → ℕ → Mem → Found → Plan
+fetchFrom p k i m unsound = refuse damaged 0
+fetchFrom p k i m none = refuse nothingThere 0
+fetchFrom p k i m (at j) = fetchTask p k i m j (headWord k m (ringNumber p i j))
+
+unfoldable pub fetchRule : ℕ → ℕ → ℕ → Mem → Plan
+fetchRule p k i m = checked (pointerFits p (rowIn m i .pointer)) (fetchFrom p k i m (scan p k i m))
+
+-- "Start: the phase alone."
+unfoldable pub startRule : ℕ → Mem → Plan
+startRule i m = counted m Moved (putRow i (withHand (leadsTo Start) (rowIn m i .held) (rowIn m i)) ∷ [])
+
+-- "held becomes NIL", and the write place is as given
+abbrev pub completedRow : ℕ → Row → Row
+completedRow write r = withHand (leadsTo Complete) nil (withPlaces (r .read) write (r .cursor) r)
+
+-- "(task, i) joins the record"
+abbrev pub recordEntry : ℕ → Mem → List Update
+recordEntry i m = putEntry (entriesIn m) (held m i) i ∷ putEntries (entriesIn m + 1) ∷ []
+
+-- the held task is a sink: it has no successors
+unfoldable pub completeSink : ℕ → Mem → Plan
+completeSink i m = counted m Moved (putRow i (completedRow (rowIn m i .write) (rowIn m i)) ∷ recordEntry i m)
+
+-- "the task joins i's completed buffer if it has successors", at the write place
+unfoldable pub completeInner : ℕ → Mem → Plan
+completeInner i m =
+    checked (placesFit m (rowIn m i .read) (rowIn m i .write))
+    (checked (joinFits m (rowIn m i .write))
+    (counted m Moved
+    (putBuffer (bufferAt m i (rowIn m i .write)) (held m i) ∷ putRow i (completedRow (rowIn m i .write + 1) (rowIn m i)) ∷ recordEntry i m)))
+
+-- 12: "Complete with N entries recorded"; "Complete meets 12 before its other words"
+unfoldable pub completeRule : ℕ → Mem → Plan
+completeRule i m =
+    checked (entriesFit m)
+    (refuseIf (eqb (entriesIn m) (allEntries m)) recordFull 0
+    (checked (taskFits m (held m i))
+    (checked (rangeFits m (held m i))
+    (cond (eqb (succCount m (held m i)) 0) (completeSink i m) (completeInner i m)))))
+
+-- "The cursor advances; after the last successor it returns to 0 and the read place advances."
+unfoldable pub releasedRow : ℕ → Row → Row
+releasedRow count r =
+    withHand (leadsTo Release) (r .held)
+    (cond (eqb (r .cursor + 1) count) (withPlaces (r .read + 1) (r .write) 0 r) (withPlaces (r .read) (r .write) (r .cursor + 1) r))
+
+abbrev pub advance : ℕ → Mem → Update
+advance i m = putRow i (releasedRow (succCount m (oldest m i)) (rowIn m i))
+
+-- a task joins the ring of owner o filled by worker i, and "The weight joins the counter of the ring really used."
+abbrev pub join : ℕ → ℕ → ℕ → ℕ → ℕ → Mem → List Update
+join p k o i s m =
+    putSlot (slotAt k (ringNumber p o i) (endsIn m (ringNumber p o i) .tail)) s
+    ∷ putEnds (ringNumber p o i) (tailOn k (endsIn m (ringNumber p o i)))
+    ∷ putCounter (ringNumber p o i) (counterIn m (ringNumber p o i) +ℤ pos (weightIn m s))
+    ∷ []
+
+-- "the first ring filled by i that isn't full", among those of the owners, in their order
+unfoldable pub findRoom : ℕ → ℕ → ℕ → Mem → List ℕ → Found
+findRoom p k i m owners = search (λ o. endsFit k m (ringNumber p o i)) (λ o. not (full k (endsIn m (ringNumber p o i)))) owners
+
+-- 11: "Release: degree would be 0 and all P rings filled by this worker are full"; its detail is "the successor"
+unfoldable pub releaseTo : ℕ → ℕ → ℕ → Mem → Found → Plan
+releaseTo p k i m unsound = refuse damaged 0
+releaseTo p k i m none = refuse ringsFull (successor m i)
+releaseTo p k i m (at o) =
+    checked (weightFits m (successor m i))
+    (counted m (Released (Placed (record { 0 = successor m i }) (record { 0 = o })))
+    (putDegree (successor m i) 0 ∷ advance i m ∷ join p k o i (successor m i) m))
+
+-- "At zero, target j is the worker with the least sum of its P counters", all of which are read; "s is appended to the first ring
+-- filled by i that isn't full, owners taken j, j+1, … modulo P"
+unfoldable pub releaseReady : ℕ → ℕ → ℕ → Mem → Plan
+releaseReady p k i m = checked (countersFit (m .counters)) (releaseTo p k i m (findRoom p k i m (around p (target p (m .counters)))))
+
+-- above zero, nothing more is read
+unfoldable pub releaseWaiting : ℕ → Mem → Plan
+releaseWaiting i m =
+    counted m (Released (DegreeLeft (degreeIn m (successor m i) - 1)))
+    (putDegree (successor m i) (degreeIn m (successor m i) - 1) ∷ advance i m ∷ [])
+
+-- 10: "Release: buffer empty"; else "the oldest task in i's buffer, its successor s at the cursor. The degree of s falls by one."
+unfoldable pub releaseRule : ℕ → ℕ → ℕ → Mem → Plan
+releaseRule p k i m =
+    checked (placesFit m (rowIn m i .read) (rowIn m i .write))
+    (refuseIf (eqb (rowIn m i .read) (rowIn m i .write)) nothingThere 0
+    (checked (taskFits m (oldest m i))
+    (checked (rangeFits m (oldest m i))
+    (checked (cursorFits m (oldest m i) (rowIn m i .cursor))
+    (checked (taskFits m (successor m i))
+    (checked (degreeFits m (degreeIn m (successor m i)))
+    (cond (eqb (degreeIn m (successor m i)) 1) (releaseReady p k i m) (releaseWaiting i m))))))))
+
+unfoldable pub ruleOf : Step → ℕ → ℕ → ℕ → Mem → Plan
+ruleOf Fetch p k i m = fetchRule p k i m
+ruleOf Start p k i m = startRule i m
+ruleOf Complete p k i m = completeRule i m
+ruleOf Release p k i m = releaseRule p k i m
+
+-- "In a step: 2, 1, 7, phase word (8), 9; then the step's rule is followed from its first sentence"
+unfoldable pub stepPlan : Limits → ℕ → ℕ → ℕ → Step → Mem → Plan
+stepPlan limits p k i step m =
+    require (numbersFit limits p k && sizesFit limits (tasks m) (edges m)) beyondLimit 0
+    (require (lengthsFit p k m) wrongLength 0
+    (require (ltb i p) noSuchWorker i
+    (checked (phaseFits (rowIn m i .phase))
+    (suited (nextPhase (rowIn m i .phase) step) (rowIn m i .phase)
+    (ruleOf step p k i m)))))
+
+unfoldable pub step : Limits → ℕ → ℕ → ℕ → Step → Mem → Result StepAnswer
+step limits p k i s m = carriedOut (stepPlan limits p k i s m) m
