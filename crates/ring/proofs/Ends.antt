@@ -49,7 +49,7 @@ module _ (words : List ℕ) (q : ℕ) where
       other : (i : ℕ) → ¬ (i ≡ q * 2) → ¬ (i ≡ q * 2 + 1) → getD (set (set words (q * 2) (e .head)) (q * 2 + 1) (e .tail)) i 0 ≡ getD words i 0
       other i a b = getD-set-other (set words (q * 2) (e .head)) (q * 2 + 1) i (e .tail) 0 b ∙ getD-set-other words (q * 2) i (e .head) 0 a
 
-  pub ends-cleared : getD words (q * 2) 0 ≡ 0 → getD words (q * 2 + 1) 0 ≡ 0 → endsAt words q ≡ record { head = 0; tail = 0 }
+  pub ends-cleared : getD words (q * endWords) 0 ≡ 0 → getD words (q * endWords + 1) 0 ≡ 0 → endsAt words q ≡ record { head = 0; tail = 0 }
   unfolding endsAt
   ends-cleared a b = rw (a, b)
 

@@ -9,7 +9,7 @@ use lib.ListN.{length}
 use lib.Dec.{ltb}
 use borrow.Author.Tests.{ltb-true, ltb-false}
 use Rattle.lists.proofs.Decided.{stable}
-use Rattle.lists.proofs.Told.{Told, told-true, told-false, told, neither}
+use Rattle.lists.proofs.Told.{told, neither, told-pass}
 use Rattle.task.specs.Refusals.{accepted, answerSays, tooManyRoots}
 use Rattle.task.specs.Rows.{Refusal, row, only, Clear, Follows}
 use Rattle.task.proofs.Rows.{follows-none, follows-then, follows-same, clear-parts, same-rows, test-row}
@@ -26,14 +26,14 @@ use Rattle.graph.proofs.Accepted.{said-accepted, clear-fits, fits-clear}
 use Rattle.ring.specs.Ring.{capacity}
 use Rattle.ring.proofs.Ends.{capacity-is}
 use Rattle.rules.specs.Memory.{Mem, tasks, edges, graphIn}
-use Rattle.rules.specs.Sizes.{Others, Lengths, Fits, numbersFit, othersFit, lengthsFit}
+use Rattle.rules.specs.Sizes.{Others, Lengths, Fits, numbersFit, othersFit}
 use Rattle.rules.specs.Begin.{rootsAnswer, beginAnswer, beginResult, begin}
 use Rattle.rules.specs.Tables.{BeyondPK, rootCount, beginRows}
 use Rattle.rules.proofs.Headers.{numbers-told, others-told, lengths-are, lengths-told, within-fits, fits-within}
 
-answer-laid : (a : Answer) (p k : ℕ) (m : Mem) → beginResult a p k m .answer ≡ a
-answer-laid (Refused n d) p k m = refl
-answer-laid Accepted p k m = refl
+answer-given : (a : Answer) (p k : ℕ) (m : Mem) → beginResult a p k m .answer ≡ a
+answer-given (Refused n d) p k m = refl
+answer-given Accepted p k m = refl
 
 module _ (limits : Limits) (p k : ℕ) (m : Mem) where
   -- the graph's check with begin's other numbers and lengths
@@ -62,7 +62,7 @@ module _ (limits : Limits) (p k : ℕ) (m : Mem) where
   checks-follow : Follows (graphRows ++ rootRows) (answerSays (begin limits p k m .answer))
   unfolding begin beginAnswer
   checks-follow =
-      rw (answer-laid (beginAnswer limits p k m) p k m)
+      rw (answer-given (beginAnswer limits p k m) p k m)
       (follows-then graphRows rootRows (checkAnswer limits (numbersFit limits p k) (othersFit p k m) (m .weights) (m .predStarts) (m .preds)) (rootsAnswer p k m)
       (check-follows limits (numbersFit limits p k) (othersFit p k m) (numbers-told limits p k) (λ _. others-told p k m) (m .weights) (m .predStarts) (m .preds))
       (λ _. roots-follow))
@@ -83,15 +83,14 @@ module _ (limits : Limits) (p k : ℕ) (m : Mem) where
   GraphHere = GraphFits limits (m .weights) (m .predStarts) (m .preds)
 
   fits : ¬ (BeyondPK limits p k) → ¬ (¬ (Others p k m)) → GraphHere → Fits limits p k m
-  fits f o g = within-fits limits p k m (neither f small) (lengths (lengths-told p k m))
+  fits f o g = within-fits limits p k m (neither f small) (lengths-are p k m (told-pass (lengths-told p k m) whole))
     where
       small : ¬ (Beyond limits (tasks m) (edges m))
       small (inl h) = omega (arith, g .tasks)
       small (inr h) = omega (arith, g .edges)
 
-      lengths : Told (lengthsFit p k m) (¬ (¬ (Lengths p k m))) (¬ (Lengths p k m)) → Lengths p k m
-      lengths (told-true e _) = lengths-are p k m e
-      lengths (told-false _ n) = absurd (o (λ x. n (record { predStarts = g .lengths; others = x })))
+      whole : ¬ (¬ (Lengths p k m))
+      whole n = o (λ x. n (record { predStarts = g .lengths; others = x }))
 
   clear-begin : Clear (graphRows ++ rootRows) ↔ (Fits limits p k m × GraphHere × (rootCount m ≤ p * (k - 1)))
   clear-begin = (λ c. to (clear-parts graphRows rootRows .0 c), λ a. clear-parts graphRows rootRows .1 (from a))

@@ -219,9 +219,9 @@ module _ (p k : ℕ) (m : Mem) (lengths : Lengths p k m) (sound : Sound (graphIn
           lengths = begun-filled .lengths;
         }
 
-laid-begun : (a : Answer) (p k : ℕ) (m : Mem) → answerSays (beginResult a p k m .answer) ≡ accepted → beginResult a p k m .memory ≡ begun p k m
-laid-begun Accepted p k m e = refl
-laid-begun (Refused n d) p k m e = unequal cc
+accepted-begun : (a : Answer) (p k : ℕ) (m : Mem) → answerSays (beginResult a p k m .answer) ≡ accepted → beginResult a p k m .memory ≡ begun p k m
+accepted-begun Accepted p k m e = refl
+accepted-begun (Refused n d) p k m e = unequal cc
 
 module _ (limits : Limits) (p k : ℕ) (m : Mem) (e : answerSays (begin limits p k m .answer) ≡ accepted) where
   -- the memory that it leaves
@@ -232,7 +232,7 @@ module _ (limits : Limits) (p k : ℕ) (m : Mem) (e : answerSays (begin limits p
   unfolding begin
   laid-down =
       let (f, g, few) = begin-accepted limits p k m .0 e in
-      rw (laid-begun (beginAnswer limits p k m) p k m e) (begun-laid-down p k m (f .lengths) (fits-sound g) (f .oneWorker) (f .twoSlots) (rw (length-roots (graphIn m), capacity-is k) few))
+      rw (accepted-begun (beginAnswer limits p k m) p k m e) (begun-laid-down p k m (f .lengths) (fits-sound g) (f .oneWorker) (f .twoSlots) (rw (length-roots (graphIn m), capacity-is k) few))
 
   -- the successor table is the predecessor table reversed, "each task's successors rising": t is among u's successors exactly as often as u is among t's
   -- predecessors, each successor is a task, and u's successors rise

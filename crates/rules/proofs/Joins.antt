@@ -14,9 +14,9 @@ use Rattle.lists.proofs.Appends.{getD-snoc-other}
 use Rattle.lists.proofs.Places.{place-end, place-same}
 use Rattle.lists.proofs.Circles.{after-up}
 use Rattle.task.specs.declared.Ends.{Ends}
-use Rattle.ring.specs.Ring.{slotAt, tailOn, Sound, Full, queue, appendedAt}
-use Rattle.ring.proofs.Ends.{ends-stored, ends-other}
-use Rattle.ring.proofs.Queues.{queue-append, queue-append-other}
+use Rattle.ring.specs.Ring.{endWords, slotAt, tailOn, Sound, Full, queue, appendedAt}
+use Rattle.ring.proofs.Ends.{capacity-suc, ends-stored, ends-other}
+use Rattle.ring.proofs.Queues.{queue-full, queue-append, queue-append-other}
 use Rattle.rules.specs.Memory.{Mem, ringNumber, ringsIn, endsIn, counterIn, weightIn}
 use Rattle.rules.specs.Sizes.{Lengths}
 use Rattle.rules.specs.Updates.{updated, written}
@@ -70,7 +70,7 @@ module _ (p k o i t : ℕ) (m : Mem) where
       tail-is : endsIn m q .tail ≡ length l
       tail-is = ap (λ (e : Ends). e .tail) (r .ends)
 
-      ends-room : q * 2 + 2 ≤ length (m .ends)
+      ends-room : q * endWords + endWords ≤ length (m .ends)
       ends-room = rw (lengths .others .ends) (omega (arith, h))
 
       slots-room : slotAt k q k ≤ length (m .rings)
@@ -80,7 +80,7 @@ module _ (p k o i t : ℕ) (m : Mem) where
       sound = rw (r .ends) (omega (arith, room), omega (arith, room))
 
       free : ¬ (Full k (endsIn m q))
-      free f = let g : after k (length l) ≡ 0 = rw (r .ends) at f in omega (arith, g, moved)
+      free f = omega (arith, room, queue-full 0 k (ringsIn m) q sound .0 f, ap length (r .items), capacity-suc k (omega (arith, room)))
 
       slots : (x : ℕ) → x < k → Dec (x ≡ length l) → getD (next .rings) (slotAt k q x) 0 ≡ getD (l ++ (t ∷ [])) x 0
       slots x hx (yes e) =

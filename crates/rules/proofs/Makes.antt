@@ -19,18 +19,17 @@ use Rattle.lists.specs.Circles.{after}
 use Rattle.ring.specs.Ring.{headOn, tailOn}
 use Rattle.choice.specs.Least.{target}
 use Rattle.choice.proofs.Least.{target-is, target-unique}
-use Rattle.choice.specs.Search.{none}
 use Rattle.rules.specs.Memory.{Mem, tasks, edges, ringNumber, headWord, counterIn, degreeIn, succCount, rowIn, held, acceptedIn, successor}
 use Rattle.rules.specs.Sizes.{Fits}
 use Rattle.rules.specs.Words.{acceptedFits}
 use Rattle.rules.specs.Updates.{Update, putAccepted, written}
 use Rattle.rules.specs.Plans.{Plan, accept, withCount, counted, carriedOut}
 use Rattle.rules.specs.Steps.{fetchTask, fetchFrom, fetchRule, startRule, completeSink, completeInner, completeRule, releasedRow, releaseTo, releaseReady, releaseWaiting, releaseRule, ruleOf, stepPlan, step}
-use Rattle.rules.specs.Moves.{Fetches, Completing, sink, inner, Advances, next, last, Releasing, ReleasesPlaced, waiting, placed, Made}
+use Rattle.rules.specs.Moves.{Fetches, Completing, sink, inner, Advances, next, last, Releasing, ReleasesPlaced, waiting, placed, Made, Allowed}
 use Rattle.rules.proofs.Headers.{lengths-told, limits-told, fits-within}
-use Rattle.rules.proofs.Words.{counter-told, accepted-told, entries-told, recorded-told}
+use Rattle.rules.proofs.Words.{counter-told, counters-told, accepted-told, entries-told, recorded-told}
 use Rattle.rules.proofs.Fetch.{scan-stops}
-use Rattle.rules.proofs.Release.{counters-told, room-stops}
+use Rattle.rules.proofs.Release.{room-stops}
 
 -- the tests that both kinds of Complete pass, and both of Release
 completing-passes : (i : ℕ) (m : Mem) → Completing i m
@@ -145,12 +144,13 @@ module _ (limits : Limits) (p k i : ℕ) (s : Step) (m : Mem) where
         eq-eqb (suits s) (suits s) refl,
       )
 
-  -- a step that finds all this is accepted, with that outcome and those updates
-  pub made-accepted : (o : StepOutcome) (us : List Update)
-      → Fits limits p k m → i < p → rowIn m i .phase ≡ suits s → acceptedIn m < 3 * tasks m + edges m → Made s p k i m o us
+  -- a step that is allowed is accepted, with that outcome and those updates
+  pub made-accepted : (o : StepOutcome) (us : List Update) → Allowed limits p k i s m o us
       → (step limits p k i s m .answer ≡ Accepted o) × (step limits p k i s m .memory ≡ written (putAccepted (acceptedIn m + 1) ∷ us) m)
   unfolding step carriedOut
-  made-accepted o us f w e low r = (ap (λ (plan : Plan). carriedOut plan m .answer) q, ap (λ (plan : Plan). carriedOut plan m .memory) q)
+  made-accepted o us r = (ap (λ (plan : Plan). carriedOut plan m .answer) q, ap (λ (plan : Plan). carriedOut plan m .memory) q)
     where
       q : stepPlan limits p k i s m ≡ accept o (withCount m us)
-      q = step-reaches f w e ∙ rule-accepts p k i m low (f .lengths .others .counters) s o us r
+      q =
+          step-reaches (r .fits) (r .worker) (r .phase)
+          ∙ rule-accepts p k i m (r .low) (r .fits .lengths .others .counters) s o us (r .made)

@@ -85,7 +85,7 @@ module _ (p k i : ℕ) (m : Mem) (two : _≡_ {A = ℕ} (length (m .run)) 2) whe
 
 module _ (limits : Limits) (p k i : ℕ) (s : Step) (m : Mem) where
   accepted-writes : AcceptedStep limits p k i s m → Writes i s m (step limits p k i s m .memory)
-  accepted-writes r = rw (r .left) (made-writes p k i m (r .fits .lengths .others .run) s (r .outcome) (r .updates) (r .phase) (r .made))
+  accepted-writes r = rw (r .left) (made-writes p k i m (r .allowed .fits .lengths .others .run) s (r .outcome) (r .updates) (r .allowed .phase) (r .allowed .made))
 
   -- no step writes another worker's row
   pub rows-other : (j : ℕ) → ¬ (j ≡ i) → rowIn (step limits p k i s m .memory) j ≡ rowIn m j
@@ -108,7 +108,7 @@ module _ (limits : Limits) (p k i : ℕ) (s : Step) (m : Mem) where
     row-written : rowIn (step limits p k i s m .memory) i ≡ writes .row
     row-written =
         ap (λ (rows : List Row). getD rows i idle) (writes .rows)
-        ∙ getD-set-same (m .rows) i (writes .row) idle (omega (arith, accepted .worker, accepted .fits .lengths .others .rows))
+        ∙ getD-set-same (m .rows) i (writes .row) idle (omega (arith, accepted .allowed .worker, accepted .allowed .fits .lengths .others .rows))
 
     -- "Each accepted step adds 1 to the accepted word"
     pub counts : acceptedIn (step limits p k i s m .memory) ≡ suc (acceptedIn m)

@@ -29,12 +29,12 @@ use Rattle.rules.specs.Updates.{Update}
 use Rattle.rules.specs.Plans.{Plan, refuse, accept, require, suited, withCount, counted, carriedOut}
 use Rattle.rules.specs.Steps.{scan, fetchTask, fetchFrom, fetchRule, startRule, completeSink, completeInner, completeRule, releasedRow, findRoom, releaseTo, releaseReady, releaseWaiting, releaseRule, ruleOf, stepPlan, step}
 use Rattle.rules.specs.Tables.{BadAccepted, BadCounter, scannedEnds, offeredEnds, HasSuccessors, Ready}
-use Rattle.rules.specs.Moves.{Fetches, Ranged, Completing, Completes, sink, inner, Advances, next, last, Releasing, Releases, waiting, placed, Made, AcceptedStep}
+use Rattle.rules.specs.Moves.{Fetches, Ranged, Completing, Completes, sink, inner, Advances, next, last, Releasing, Releases, waiting, placed, Made, Allowed, AcceptedStep}
 use Rattle.rules.proofs.Headers.{fits-are}
-use Rattle.rules.proofs.Words.{counter-told, accepted-told, entries-told, recorded-told}
+use Rattle.rules.proofs.Words.{counter-told, counters-told, accepted-told, entries-told, recorded-told}
 use Rattle.rules.proofs.Searches.{Looked}
 use Rattle.rules.proofs.Fetch.{scan-looked}
-use Rattle.rules.proofs.Release.{counters-told, room-looked}
+use Rattle.rules.proofs.Release.{room-looked}
 
 -- what holds of the outcome and the updates where a plan accepts
 record IfAccepted (M : StepOutcome → List Update → Type 0) (plan : Plan) : Type 0 where
@@ -211,12 +211,11 @@ module _ (m : Mem) where
             advances = row-advances (succCount m (oldest m i)) (rowIn m i) (ltb-true _ _ c);
           }))))))))
 
--- where a step is accepted, all is as its sentences say
+-- where a step is accepted, it is allowed, with the updates after that of the accepted word
 record AllFound (limits : Limits) (p k i : ℕ) (s : Step) (m : Mem) (o : StepOutcome) (us : List Update) : Type 0 where
-  fits : Fits limits p k m
-  worker : i < p
-  phase : rowIn m i .phase ≡ suits s
-  rule : Counted m (Made s p k i m) o us
+  others : List Update
+  whole : us ≡ withCount m others
+  allowed : Allowed limits p k i s m o others
 
 if-stepped : (limits : Limits) (p k i : ℕ) (s : Step) (m : Mem) → IfAccepted (AllFound limits p k i s m) (stepPlan limits p k i s m)
 unfolding stepPlan nextPhase
@@ -229,8 +228,15 @@ if-stepped limits p k i s m =
   where
     go : Told (eqb (rowIn m i .phase) (suits s)) (rowIn m i .phase ≡ suits s) (¬ (rowIn m i .phase ≡ suits s)) → Fits limits p k m → i < p
         → IfAccepted (AllFound limits p k i s m) (suited (nextPhase (rowIn m i .phase) s) (rowIn m i .phase) (ruleOf s p k i m))
-    go (told-true q e) f w =
-        rw q (record { holds = λ o us h. record { fits = f; worker = w; phase = e; rule = if-ruled m p k i (omega (arith, f .oneWorker)) (f .lengths .others .counters) s .holds o us h } })
+    go (told-true q e) f w = rw q (record { holds = λ o us h. found o us (if-ruled m p k i (omega (arith, f .oneWorker)) (f .lengths .others .counters) s .holds o us h) })
+      where
+        found : (o : StepOutcome) (us : List Update) → Counted m (Made s p k i m) o us → AllFound limits p k i s m o us
+        found o us c =
+            record {
+              others = c .others;
+              whole = c .whole;
+              allowed = record { fits = f; worker = w; phase = e; low = c .low; made = c .made };
+            }
     go (told-false q n) f w = rw q (if-refused _ _)
 
 -- what an accepted step has found, answers and writes
@@ -243,13 +249,9 @@ accepted-step limits p k i s m a = go (stepPlan limits p k i s m) refl a
     go (accept o us) e b =
         let r : AllFound limits p k i s m o us = if-stepped limits p k i s m .holds o us e in
         record {
-          fits = r .fits;
-          worker = r .worker;
-          phase = r .phase;
-          low = r .rule .low;
           outcome = o;
-          updates = r .rule .others;
-          made = r .rule .made;
+          updates = r .others;
+          allowed = r .allowed;
           answered = ap (λ (plan : Plan). carriedOut plan m .answer) e;
-          left = ap (λ (plan : Plan). carriedOut plan m .memory) (e ∙ ap (accept o) (r .rule .whole));
+          left = ap (λ (plan : Plan). carriedOut plan m .memory) (e ∙ ap (accept o) (r .whole));
         }

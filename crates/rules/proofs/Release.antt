@@ -1,13 +1,11 @@
 -- Release follows its rows of the table.
-use Prim.Native.Nat.{ℕ, zero, suc, _+_, _*_, _%_, _<_}
-use mathlib.Core.Path.{_≡_, refl, subst}
-use mathlib.Core.Bool.{cond, _&&_}
-use mathlib.Core.List.{List, [], _∷_}
-use native.Mathlib.Omega.{arith}
+use Prim.Native.Nat.{ℕ, _+_, _*_, _%_, _<_}
+use mathlib.Core.Path.{_≡_, subst}
+use mathlib.Core.Bool.{cond}
+use mathlib.Core.List.{List}
 use native.Mathlib.Nat.{mod-lt}
 use lib.ListN.{length, drop}
 use lib.Dec.{eqb}
-use lib.IntN.{ℤ}
 use Rattle.lists.proofs.Told.{Told, told-true, told-false, same-told, le-told, lt-told, and-told, under-told}
 use Rattle.lists.specs.Circles.{around}
 use Rattle.lists.proofs.Circles.{mod-reached}
@@ -20,32 +18,12 @@ use Rattle.choice.specs.Least.{Target, target}
 use Rattle.choice.specs.Search.{Found, unsound, none, at}
 use Rattle.choice.proofs.Least.{target-is, target-unique}
 use Rattle.rules.specs.Memory.{Mem, tasks, edges, ringNumber, endsIn, weightIn, degreeIn, firstSucc, pastSucc, succCount, rowIn, oldest, successor}
-use Rattle.rules.specs.Words.{counterFits, countersFit}
 use Rattle.rules.specs.Plans.{Plan}
 use Rattle.rules.specs.Steps.{findRoom, releaseTo, releaseReady, releaseWaiting, releaseRule}
-use Rattle.rules.specs.Tables.{Beyond2^30, BadCounter, GoesOn, BadEnds, StopsAt, offeredEnds, Ready, releaseRows}
+use Rattle.rules.specs.Tables.{GoesOn, BadEnds, StopsAt, offeredEnds, Ready, releaseRows}
 use Rattle.rules.proofs.Plans.{PlanFollows, given-row, passed-row, refuse-row, checked-row, counted-row}
 use Rattle.rules.proofs.Searches.{Looked, all-not-bad, stop-not-bad, search-looked, search-stops}
-use Rattle.rules.proofs.Words.{counter-told}
-
--- the test of all counters, against the table's row on counters
-list-told : (cs : List ℤ) → Told (countersFit cs) (¬ (BadCounter (length cs) cs)) (BadCounter (length cs) cs)
-unfolding countersFit
-list-told [] = told-true refl (λ b. omega (arith, b .1))
-list-told (c ∷ cs) = go (counter-told c) (list-told cs)
-  where
-    neither : ¬ (Beyond2^30 c) → ¬ (BadCounter (length cs) cs) → ¬ (BadCounter (suc (length cs)) (c ∷ cs))
-    neither f g (zero, h, b) = f b
-    neither f g (suc q, h, b) = g (q, omega (arith, h), b)
-
-    go : Told (counterFits c) (¬ (Beyond2^30 c)) (Beyond2^30 c) → Told (countersFit cs) (¬ (BadCounter (length cs) cs)) (BadCounter (length cs) cs)
-        → Told (counterFits c && countersFit cs) (¬ (BadCounter (suc (length cs)) (c ∷ cs))) (BadCounter (suc (length cs)) (c ∷ cs))
-    go (told-true e f) (told-true d g) = told-true (rw (e, d)) (neither f g)
-    go (told-true e f) (told-false d b) = told-false (rw (e, d)) (suc (b .0), omega (arith, b .1), b .2)
-    go (told-false e b) t = told-false (rw e) (0, omega arith, b)
-
-pub counters-told : (cs : List ℤ) (n : ℕ) → length cs ≡ n → Told (countersFit cs) (¬ (BadCounter n cs)) (BadCounter n cs)
-counters-told cs n e = subst (λ (k : ℕ). Told (countersFit cs) (¬ (BadCounter k cs)) (BadCounter k cs)) e (list-told cs)
+use Rattle.rules.proofs.Words.{counters-told}
 
 -- what the search for room finds from owner j on, and that it stops where it would
 module _ (p k i j : ℕ) (m : Mem) where

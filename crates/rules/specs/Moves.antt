@@ -157,15 +157,20 @@ Made Start p k i m o us = Starts i m o us
 Made Complete p k i m o us = Completes i m o us
 Made Release p k i m o us = Releases p k i m o us
 
--- an accepted step: what it has found, what it answers, and the memory that it leaves
-pub record AcceptedStep (limits : Limits) (p k i : ℕ) (s : Step) (m : Mem) : Type 0 where
+-- when a step is accepted with this outcome and these updates: numbers and lists fit, the worker is there, the phase suits, the accepted
+-- word is in its range, and the step's own rule lets it be made
+pub record Allowed (limits : Limits) (p k i : ℕ) (s : Step) (m : Mem) (o : StepOutcome) (us : List Update) : Type 0 where
   pub fits : Fits limits p k m
   pub worker : i < p
   pub phase : rowIn m i .phase ≡ suits s
   pub low : acceptedIn m < 3 * tasks m + edges m
+  pub made : Made s p k i m o us
+
+-- an accepted step: what it answers, and the memory that it leaves
+pub record AcceptedStep (limits : Limits) (p k i : ℕ) (s : Step) (m : Mem) : Type 0 where
   pub outcome : StepOutcome
   pub updates : List Update
-  pub made : Made s p k i m outcome updates
+  pub allowed : Allowed limits p k i s m outcome updates
   pub answered : step limits p k i s m .answer ≡ Accepted outcome
   -- "Each accepted step adds 1 to the accepted word."
   pub left : step limits p k i s m .memory ≡ written (putAccepted (acceptedIn m + 1) ∷ updates) m
