@@ -1,19 +1,19 @@
--- The parts of a sound table: where they lie, and that they make up the table.
+-- The parts of a sound table: where they lie, that they make up the table, and how long one can be.
 use Prim.Native.Nat.{ℕ, zero, suc, _+_, _-_, _≤_, _<_}
 use mathlib.Core.Path.{_≡_, sym, ap, _∙_}
-use mathlib.Core.List.{List, _++_}
+use mathlib.Core.List.{List, [], _++_}
 use native.Mathlib.Omega.{arith}
 use native.Mathlib.Numerals.{add-one}
-use native.Mathlib.Decide.{ℕ-discrete}
-use lib.ListN.{length, take, drop, getD, length-take, length-drop}
+use native.Mathlib.Decide.{ℕ-discrete, decLt}
+use lib.ListN.{length, take, drop, getD, length-take, length-drop, List·getD-eq-default}
 use lib.Seq.{take-add, take-all}
 use Rattle.lists.specs.Lists.{occ, joined}
 use Rattle.lists.specs.Sums.{sumTo}
 use Rattle.lists.proofs.Decided.{stable}
-use Rattle.lists.proofs.Occurrences.{occ-joined}
-use Rattle.lists.proofs.Sums.{sum-find}
+use Rattle.lists.proofs.Occurrences.{occ-nil, occ-joined}
+use Rattle.lists.proofs.Sums.{sum-find, sum-most, length-occ}
 use Rattle.graph.specs.Graph.{Among, part, Graph, predsOf, Edge, Leads, edge, via}
-use Rattle.graph.specs.Conditions.{Good, Sound}
+use Rattle.graph.specs.Conditions.{Good, Acceptable, Sound}
 
 pub length-part : {n : ℕ} {starts words : List ℕ} {t : ℕ} → Good n starts words t → length (part starts words t) ≡ getD starts (t + 1) 0 - getD starts t 0
 unfolding part
@@ -60,3 +60,27 @@ module _ {g : Graph} (s : Sound g) where
   -- what a count of the predecessors asks of scratch memory of the engine's size
   pub preds-small : (u : ℕ) → Among u (g .preds) → u < 1024
   preds-small u h = omega (arith, preds-below u h, s .sized .tasks)
+
+  -- what is no task has no predecessors
+  pub preds-none : (t : ℕ) → g .tasks ≤ t → predsOf g t ≡ []
+  unfolding part
+  preds-none t h = ap (λ (n : ℕ). take n (drop (getD (g .starts) t 0) (g .preds))) none
+    where
+      none : getD (g .starts) (t + 1) 0 - getD (g .starts) t 0 ≡ 0
+      none = omega (arith, List·getD-eq-default (g .starts) 0 {n = t + 1} (omega (arith, s .sized .starts, h)))
+
+  -- so what has predecessors is a task
+  pub edge-of : (u t : ℕ) → Among u (predsOf g t) → Edge g u t
+  edge-of u t h = record { task = stable (decLt t (g .tasks)) (λ n. beyond (omega (arith, n))); predecessor = h }
+    where
+      beyond : g .tasks ≤ t → ⊥
+      beyond l = omega (arith, h, ap (occ u) (preds-none t l), occ-nil ℕ-discrete u)
+
+-- each of a task's predecessors stands there once, so there are at most N
+pub few-preds : {g : Graph} → Acceptable g → (t : ℕ) → t < g .tasks → length (predsOf g t) ≤ g .tasks
+few-preds {g} a t h =
+    omega (
+      arith,
+      length-occ (g .tasks) (predsOf g t) (a .good t h .below),
+      sum-most (g .tasks) (λ u. occ u (predsOf g t)) 1 (λ u l. a .once t u h),
+    )

@@ -1,27 +1,29 @@
--- PROMISES: the successor table is the predecessor table read the other way round, each task's successors rising.
-use Prim.Native.Nat.{ℕ, _+_, _-_, _≤_, _<_}
+-- PROMISES: the successor table is the predecessor table read the other way round, each task's successors rising; and the roots are the tasks
+-- without predecessors.
+use Prim.Native.Nat.{ℕ, _+_, _-_, _≤_, _<_, min}
 use mathlib.Core.Path.{_≡_, refl, sym, ap, _∙_}
 use mathlib.Core.List.{List, [], _∷_}
 use mathlib.Core.Bool.{cond}
 use mathlib.Core.Logic.{_↔_}
 use native.Mathlib.Omega.{arith}
-use Rattle.lists.specs.Decided.{holds, tally}
-use Rattle.lists.proofs.Decided.{stable}
 use native.Mathlib.Numerals.{add-one}
 use native.Mathlib.Decide.{ℕ-discrete, decLt}
-use lib.ListN.{length, getD, take, drop, replicate, length-replicate}
+use lib.ListN.{length, getD, take, drop, replicate, length-replicate, List·getD-eq-default}
+use Rattle.lists.specs.Decided.{holds, tally}
 use Rattle.lists.specs.Lists.{occ, Rising}
-use Rattle.lists.specs.Sums.{sumTo}
+use Rattle.lists.specs.Sums.{sumTo, sumOf}
+use Rattle.lists.proofs.Appends.{no-members}
+use Rattle.lists.proofs.Decided.{stable}
 use Rattle.lists.proofs.Occurrences.{occ-nil, occ-hit, occ-miss, occ-joined, occ-replicate, occ-replicate-other}
-use Rattle.lists.proofs.Sums.{sum-find, sum-same, sum-zero, sum-only, sum-suc, sum-prefix, length-joined, length-occ}
-use Rattle.lists.proofs.Blocks.{length-tabulate, getD-tabulate, block-at, joined-rises}
+use Rattle.lists.proofs.Sums.{sum-find, sum-same, sum-zero, sum-only, sum-suc, sum-prefix, length-joined, length-occ, sumOf-all}
+use Rattle.lists.proofs.Blocks.{length-tabulate, getD-tabulate, block-at, allOf, occ-all, joined-rises}
 use Rattle.graph.specs.Graph.{Among, part, Graph, graphOf, edgeCount, predsOf}
 use Rattle.graph.specs.Conditions.{Good, Acceptable, Sound}
 use Rattle.graph.specs.Successors.{succsBelow, succsOf, succStart, succStarts, succWords, degreeList, roots}
 use Rattle.graph.specs.Lookup.{lentOf, startsOn, wordsOn, LookupFits}
 use Rattle.task.specs.declared.Side.{Side}
 use Rattle.task.specs.declared.Side.the-variants.{Predecessors, Successors}
-use Rattle.graph.proofs.Parts.{occ-preds, preds-below}
+use Rattle.graph.proofs.Parts.{occ-preds, preds-below, preds-beyond, preds-none}
 
 module _ (g : Graph) where
   -- t is among u's successors below n as often as u is among t's predecessors
@@ -99,6 +101,29 @@ module _ (g : Graph) where
     pub length-succs : (u : ℕ) → length (succsOf g u) ≡ occ u (g .preds)
     length-succs u = length-succsBelow (g .tasks) u ∙ sym (occ-preds s u)
 
+    -- what is no task has no successors
+    pub succs-none : (u : ℕ) → g .tasks ≤ u → succsOf g u ≡ []
+    succs-none u h = no-members (succsOf g u) (length-succs u ∙ preds-beyond s u h)
+
+    -- so of any two numbers one is the other's successor as often as that is its predecessor
+    pub reversed-all : (u t : ℕ) → occ t (succsOf g u) ≡ occ u (predsOf g t)
+    reversed-all u t = go (decLt t (g .tasks))
+      where
+        go : Dec (t < g .tasks) → occ t (succsOf g u) ≡ occ u (predsOf g t)
+        go (yes h) = reversed u t h
+        go (no m) =
+            occ-above (g .tasks) u t (omega arith) ∙ sym (ap (occ u) (preds-none s t (omega arith)) ∙ occ-nil ℕ-discrete u)
+
+    -- the table of degrees, read anywhere
+    pub degree-read : (t : ℕ) → getD (degreeList g) t 0 ≡ length (predsOf g t)
+    unfolding degreeList
+    degree-read t = go (decLt t (g .tasks))
+      where
+        go : Dec (t < g .tasks) → getD (degreeList g) t 0 ≡ length (predsOf g t)
+        go (yes h) = getD-tabulate (g .tasks) (λ u. length (predsOf g u)) 0 t h
+        go (no m) =
+            List·getD-eq-default (degreeList g) 0 {n = t} (omega (arith, length-degrees)) ∙ sym (ap length (preds-none s t (omega arith)))
+
     -- there are as many successors as predecessors
     pub length-succWords : length (succWords g) ≡ edgeCount g
     unfolding succWords
@@ -106,6 +131,13 @@ module _ (g : Graph) where
         length-joined (g .tasks) (succsOf g)
         ∙ sum-same (g .tasks) (λ u. occ u (g .preds)) (λ u. length (succsOf g u)) (λ u l. length-succs u)
         ∙ sym (length-occ (g .tasks) (g .preds) (preds-below s))
+
+    -- as many as the graph has edges: the successors of all tasks together
+    pub all-edges : sumOf (λ u. length (succsOf g u)) (allOf (g .tasks)) ≡ edgeCount g
+    unfolding succWords
+    all-edges =
+        sumOf-all (λ u. length (succsOf g u)) (g .tasks) (allOf (g .tasks)) (occ-all (g .tasks))
+        ∙ sym (length-joined (g .tasks) (succsOf g)) ∙ length-succWords
 
     -- and it runs from 0 to E
     pub table-ends : (_≡_ {A = ℕ} (getD (succStarts g) 0 0) 0) × (getD (succStarts g) (g .tasks) 0 ≡ edgeCount g)
@@ -138,6 +170,14 @@ module _ {A : Type 0} (k : ℕ) where
   kept-has (yes a) b = omega (arith, occ-hit ℕ-discrete k k [] refl)
   kept-has (no n) b = absurd (n b)
 
+  kept-other : (d : Dec A) (u : ℕ) → ¬ (u ≡ k) → occ u (cond (holds d) (k ∷ []) []) ≡ 0
+  kept-other d u m = stable (ℕ-discrete (occ u (cond (holds d) (k ∷ []) [])) 0) (λ n. m (kept-own d u (omega (arith, n)) .0))
+
+-- where t isn't kept, the count n isn't 0
+kept-or : (n : ℕ) (d : Dec (n ≡ 0)) (t : ℕ) → min 1 n + occ t (cond (holds d) (t ∷ []) []) ≡ 1
+kept-or n (yes e) t = omega (arith, occ-hit ℕ-discrete t t [] refl, occ-nil ℕ-discrete t)
+kept-or n (no m) t = omega (arith, occ-nil ℕ-discrete t)
+
 module _ (g : Graph) where
   root? : (t : ℕ) → Dec (length (predsOf g t) ≡ 0)
   root? t = ℕ-discrete (length (predsOf g t)) 0
@@ -147,19 +187,45 @@ module _ (g : Graph) where
   unfolding roots root?
   roots-rise = joined-rises (g .tasks) (λ t. cond (holds (root? t)) (t ∷ []) []) (λ t h. kept-one t (root? t)) (λ t u h k. kept-own t (root? t) u k .0)
 
+  -- how often t is among them
+  kept : ℕ → ℕ → ℕ
+  kept t k = occ t (cond (holds (root? k)) (k ∷ []) [])
+
+  roots-total : (t : ℕ) → occ t (roots g) ≡ sumTo (g .tasks) (kept t)
+  unfolding roots root? kept
+  roots-total t = occ-joined ℕ-discrete t (g .tasks) (λ k. cond (holds (root? k)) (k ∷ []) [])
+
   -- and they are the tasks without predecessors
   pub roots-are : (t : ℕ) → Among t (roots g) ↔ ((t < g .tasks) × (length (predsOf g t) ≡ 0))
-  unfolding roots root?
-  roots-are t = (λ h. to (sum-find (g .tasks) kept (omega (arith, total))), λ p. omega (arith, total, sum-prefix (g .tasks) kept t (p .0), kept-has t (root? t) (p .1)))
+  unfolding root? kept
+  roots-are t = (
+    λ h. to (sum-find (g .tasks) (kept t) (omega (arith, roots-total t))),
+    λ p. omega (arith, roots-total t, sum-prefix (g .tasks) (kept t) t (p .0), kept-has t (root? t) (p .1)),
+  )
     where
-      kept : ℕ → ℕ
-      kept k = occ t (cond (holds (root? k)) (k ∷ []) [])
-
-      total : occ t (roots g) ≡ sumTo (g .tasks) kept
-      total = occ-joined ℕ-discrete t (g .tasks) (λ k. cond (holds (root? k)) (k ∷ []) [])
-
-      to : (k : ℕ) × (k < g .tasks) × (0 < kept k) → (t < g .tasks) × (length (predsOf g t) ≡ 0)
+      to : (k : ℕ) × (k < g .tasks) × (0 < kept t k) → (t < g .tasks) × (length (predsOf g t) ≡ 0)
       to w = let p = kept-own (w .0) (root? (w .0)) t (w .2) in rw (p .0) (w .1, p .1)
+
+  -- a task is a root or it has predecessors
+  pub occ-roots : Sound g → (t : ℕ) → min 1 (length (predsOf g t)) + occ t (roots g) ≡ tally (decLt t (g .tasks))
+  unfolding root? kept
+  occ-roots s t = go (decLt t (g .tasks))
+    where
+      go : (d : Dec (t < g .tasks)) → min 1 (length (predsOf g t)) + occ t (roots g) ≡ tally d
+      go (yes h) =
+          omega (
+            arith,
+            roots-total t,
+            sum-only (g .tasks) (kept t) t h (λ u m. kept-other u (root? u) t (λ e. m (sym e))),
+            kept-or (length (predsOf g t)) (root? t) t,
+          )
+      go (no m) =
+          omega (
+            arith,
+            roots-total t,
+            sum-zero (g .tasks) (kept t) (λ u h. kept-other u (root? u) t (λ e. omega arith)),
+            ap length (preds-none s t (omega arith)),
+          )
 
   -- each of them once
   pub length-roots : length (roots g) ≡ sumTo (g .tasks) (λ t. tally (ℕ-discrete (length (predsOf g t)) 0))

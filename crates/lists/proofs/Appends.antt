@@ -18,6 +18,10 @@ module _ {A : Type 0} where
   has-members [] n = absurd (n refl)
   has-members (x ∷ l) n = omega arith
 
+  -- equal lists begin with the same member
+  pub head-same : {x y : A} {k l : List A} → x ∷ k ≡ y ∷ l → x ≡ y
+  head-same e = cc
+
   -- the first i members, out of the first n
   pub take-part : (l : List A) (i n : ℕ) → i ≤ n → take n l ≡ take i l ++ drop i (take n l)
   take-part l i n h = sym (take-append-drop i (take n l)) ∙ ap (λ (k : List A). k ++ drop i (take n l)) (take-take i n l h)
@@ -44,6 +48,13 @@ module _ {A : Type 0} where
     where
       go : (vs ≡ us) × (rest ≡ row) → ((v ∷ vs) ≡ (u ∷ us)) × (rest ≡ row)
       go (f, g) = (cc, g)
+
+  -- what holds of each member of both lists
+  pub each-append : (Q : A → Type 0) (d : A) (k l : List A) → ((x : ℕ) → x < length k → Q (getD k x d)) → ((x : ℕ) → x < length l → Q (getD l x d))
+      → (x : ℕ) → x < length (k ++ l) → Q (getD (k ++ l) x d)
+  each-append Q d [] l f g x h = g x h
+  each-append Q d (a ∷ k) l f g zero h = f 0 (omega arith)
+  each-append Q d (a ∷ k) l f g (suc x) h = each-append Q d k l (λ y m. f (suc y) (omega arith)) g x (omega arith)
 
   -- what stands elsewhere than at the seam, where one member is added
   pub getD-snoc-other : (l : List A) (a : A) (x : ℕ) (d : A) → ¬ (x ≡ length l) → getD (l ++ (a ∷ [])) x d ≡ getD l x d

@@ -1,14 +1,18 @@
--- Laws of tabulated lists and of lists joined from blocks: where an element stands, and how a list is cut into blocks.
+-- Laws of tabulated lists, of the list of all numbers below n, and of lists joined from blocks: where an element stands, and how a list is cut
+-- into blocks.
 use Prim.Native.Nat.{ℕ, zero, suc, _+_, _-_, _≤_, _<_}
 use mathlib.Core.Path.{_≡_, refl, sym, ap, _∙_}
-use mathlib.Core.List.{List, [], _∷_, _++_}
+use mathlib.Core.List.{List, [], _∷_, _++_, append-nil}
 use native.Mathlib.Omega.{arith}
 use native.Mathlib.Decide.{ℕ-discrete, decLt}
 use lib.ListN.{length, getD, take, drop, length-append, length-drop, List·getD-append}
 use lib.Seq.{ext-getD, take-add, take-length, drop-append-le, take-append-le, drop-append-seam, getD-append-add}
+use Rattle.lists.specs.Decided.{tally}
 use Rattle.lists.specs.Lists.{occ, joined, tabulate, Rising}
-use Rattle.lists.proofs.Occurrences.{occ-joined, at-occ}
 use Rattle.lists.specs.Sums.{sumTo}
+use Rattle.lists.proofs.Decided.{tally-no, tally-next}
+use Rattle.lists.proofs.Occurrences.{occ-nil, occ-joined, at-occ}
+use Rattle.lists.proofs.Prefixes.{occ-snoc}
 use Rattle.lists.proofs.Sums.{sum-find, sum-prefix, length-joined}
 
 module _ {A : Type 0} where
@@ -43,6 +47,22 @@ module _ {A : Type 0} where
   joined-same zero f g h = refl
   joined-same (suc n) f g h = rw (joined-same n f g (λ k m. h k (omega arith)), h n (omega arith))
 
+  -- blocks without members, joined
+  pub joined-none : (n : ℕ) (f : ℕ → List A) → ((j : ℕ) → j < n → f j ≡ []) → joined n f ≡ []
+  unfolding joined
+  joined-none zero f h = refl
+  joined-none (suc n) f h = rw (joined-none n f (λ j l. h j (omega arith)), h n (omega arith))
+
+  -- one block alone has members
+  pub joined-only : (n : ℕ) (f : ℕ → List A) (k : ℕ) → k < n → ((j : ℕ) → j < n → ¬ (j ≡ k) → f j ≡ []) → joined n f ≡ f k
+  unfolding joined
+  joined-only zero f k l h = absurd (omega arith)
+  joined-only (suc n) f k l h = go (ℕ-discrete n k) (λ i. joined-only n f k i (λ j m. h j (omega arith)))
+    where
+      go : Dec (n ≡ k) → (k < n → joined n f ≡ f k) → joined n f ++ f n ≡ f k
+      go (yes e) r = rw (joined-none n f (λ j m. h j (omega arith) (λ q. omega arith))) (ap f e)
+      go (no m) r = rw (h n (omega arith) m) (append-nil (joined n f) ∙ r (omega arith))
+
   -- a list cut into parts of the given sizes
   pub joined-parts : (n : ℕ) (size : ℕ → ℕ) (l : List A) → joined n (λ u. take (size u) (drop (sumTo u size) l)) ≡ take (sumTo n size) l
   unfolding joined sumTo
@@ -68,8 +88,21 @@ module _ {A : Type 0} where
           ∙ take-append-le (length (f b)) (drop (sumTo b (λ k. length (f k))) (joined n f)) (f n) (omega (arith, length-drop (sumTo b (λ k. length (f k))) (joined n f)))
           ∙ r (omega arith)
 
+-- all numbers below n, each once
+unfoldable pub allOf : ℕ → List ℕ
+allOf n = tabulate n (λ t. t)
+
+pub length-all : (n : ℕ) → length (allOf n) ≡ n
+unfolding allOf
+length-all n = length-tabulate n (λ t. t)
+
+pub occ-all : (n t : ℕ) → occ t (allOf n) ≡ tally (decLt t n)
+unfolding allOf tabulate
+occ-all zero t = omega (arith, occ-nil ℕ-discrete t, tally-no (decLt t 0) (λ h. omega arith))
+occ-all (suc n) t = ap (occ t) (tabulate-snoc n (λ x. x)) ∙ omega (arith, occ-snoc t n (allOf n), occ-all n t, tally-next n t)
+
 -- two rising lists, the second above the first
-pub rising-append : (k l : List ℕ) → Rising k → Rising l → ((i j : ℕ) → i < length k → j < length l → getD k i 0 < getD l j 0) → Rising (k ++ l)
+rising-append : (k l : List ℕ) → Rising k → Rising l → ((i j : ℕ) → i < length k → j < length l → getD k i 0 < getD l j 0) → Rising (k ++ l)
 rising-append k l p q c i j h m = go (decLt j (length k)) (decLt i (length k))
   where
     right : (x : ℕ) → length k ≤ x → getD (k ++ l) x 0 ≡ getD l (x - length k) 0

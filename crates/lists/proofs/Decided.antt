@@ -1,10 +1,10 @@
 -- Laws of decided questions and of the first number that has a property.
-use Prim.Native.Nat.{ℕ, zero, suc, _≤_, _<_}
+use Prim.Native.Nat.{ℕ, zero, suc, _+_, _≤_, _<_}
 use mathlib.Core.Path.{_≡_, refl}
 use mathlib.Core.Bool.{true, false}
 use native.Mathlib.Omega.{arith}
 use native.Mathlib.Nat.{le-antisymm}
-use native.Mathlib.Decide.{decLe}
+use native.Mathlib.Decide.{ℕ-discrete, decLe, decLt}
 use Rattle.lists.specs.Decided.{holds, tally, Smallest, stop, firstBelow}
 use Rattle.lists.proofs.Apart.{unequal}
 
@@ -48,6 +48,28 @@ module _ {A : Type 0} where
 pub tally-le : {A B : Type 0} (a : Dec A) (b : Dec B) → (A → B) → tally a ≤ tally b
 tally-le (yes a) b f = omega (arith, tally-yes b (f a))
 tally-le (no n) b f = omega arith
+
+pub tally-same : {A B : Type 0} (a : Dec A) (b : Dec B) → (A → B) → (B → A) → tally a ≡ tally b
+tally-same a b f g = le-antisymm (tally-le a b f) (tally-le b a g)
+
+-- the numbers up to n are those below it, and n
+pub tally-next : (n t : ℕ) → tally (decLt t (suc n)) ≡ tally (decLt t n) + tally (ℕ-discrete t n)
+tally-next n t = go (decLt t n) (ℕ-discrete t n)
+  where
+    go : (a : Dec (t < n)) (b : Dec (t ≡ n)) → tally (decLt t (suc n)) ≡ tally a + tally b
+    go (yes h) (yes e) = absurd (omega arith)
+    go (yes h) (no m) = tally-yes (decLt t (suc n)) (omega arith)
+    go (no h) (yes e) = tally-yes (decLt t (suc n)) (omega arith)
+    go (no h) (no m) = tally-no (decLt t (suc n)) (λ l. omega arith)
+
+-- two numbers are two others, or not
+pub both? : (x y a b : ℕ) → Dec ((x ≡ a) × (y ≡ b))
+both? x y a b = go (ℕ-discrete x a) (ℕ-discrete y b)
+  where
+    go : Dec (x ≡ a) → Dec (y ≡ b) → Dec ((x ≡ a) × (y ≡ b))
+    go (yes e) (yes f) = yes (e, f)
+    go (yes e) (no n) = no (λ h. n (h .1))
+    go (no n) _ = no (λ h. n (h .0))
 
 smallest-le : {P : ℕ → Type 0} {d e : ℕ} → Smallest P d → Smallest P e → d ≤ e
 smallest-le {P} {d} {e} s r = stable (decLe d e) (λ m. s .least e (omega arith) (r .such))

@@ -2,6 +2,7 @@ pub mod Apart
 pub mod Decided
 pub mod Occurrences
 pub mod Sums
+pub mod Positions
 pub mod Appends
 pub mod Prefixes
 pub mod Blocks
@@ -9,3 +10,5 @@ pub mod Told
 pub mod Circles
 pub mod Integers
 pub mod Places
+pub mod Squares
+pub mod SumsZ

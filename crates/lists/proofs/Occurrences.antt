@@ -3,7 +3,8 @@ use Prim.Native.Nat.{ℕ, zero, suc, _+_, _≤_, _<_}
 use mathlib.Core.Path.{_≡_, refl, sym, ap, _∙_}
 use mathlib.Core.List.{List, [], _∷_, _++_}
 use native.Mathlib.Omega.{arith}
-use lib.ListN.{length, getD, take, drop, replicate, take-append-drop}
+use native.Mathlib.Decide.{decLt}
+use lib.ListN.{length, getD, take, drop, replicate, take-append-drop, length-append}
 use Rattle.lists.specs.Decided.{tally}
 use Rattle.lists.specs.Lists.{occOf, joined}
 use Rattle.lists.specs.Sums.{sumTo}
@@ -27,6 +28,26 @@ module _ {A : Type 0} (same : Discrete A) where
   pub occ-append : (a : A) (k l : List A) → occOf same a (k ++ l) ≡ occOf same a k + occOf same a l
   occ-append a [] l = omega (arith, occ-nil a)
   occ-append a (x ∷ k) l = omega (arith, occ-append a k l, occ-cons a x (k ++ l), occ-cons a x k)
+
+  -- an item put between two lists
+  pub occ-insert : (a x : A) (k l : List A) → occOf same a (k ++ (x ∷ l)) ≡ tally (same a x) + occOf same a (k ++ l)
+  occ-insert a x k l = omega (arith, occ-append a k (x ∷ l), occ-append a k l, occ-cons a x l)
+
+  -- neighbours change places
+  pub occ-swap : (a x y : A) (k l : List A) → occOf same a (k ++ (y ∷ x ∷ l)) ≡ occOf same a (k ++ (x ∷ y ∷ l))
+  occ-swap a x y k l =
+      omega (arith, occ-insert a y k (x ∷ l), occ-insert a x k l, occ-insert a x k (y ∷ l), occ-insert a y k l)
+
+  -- one that stands in a list and one that doesn't
+  pub occ-apart : (x y : A) (l : List A) → 0 < occOf same x l → occOf same y l ≡ 0 → ¬ (x ≡ y)
+  occ-apart x y l h z e = omega (arith, rw e at h)
+
+  -- what isn't in x ∷ l is neither x nor in l
+  pub occ-not-head : (y x : A) (l : List A) → occOf same y (x ∷ l) ≡ 0 → ¬ (x ≡ y)
+  occ-not-head y x l z = occ-apart x y (x ∷ l) (omega (arith, occ-hit x x l refl)) z
+
+  pub occ-not-tail : (y x : A) (l : List A) → occOf same y (x ∷ l) ≡ 0 → occOf same y l ≡ 0
+  occ-not-tail y x l z = omega (arith, occ-cons y x l)
 
   pub occ-le-length : (a : A) (l : List A) → occOf same a l ≤ length l
   occ-le-length a [] = omega (arith, occ-nil a)
@@ -53,6 +74,34 @@ module _ {A : Type 0} (same : Discrete A) where
   at-occ d [] i h = absurd (omega arith)
   at-occ d (x ∷ l) zero h = omega (arith, occ-hit x x l refl)
   at-occ d (x ∷ l) (suc i) h = omega (arith, at-occ d l i (omega arith), occ-cons (getD l i d) x l)
+
+  -- a member, and the lists before and after it
+  pub occ-around : (a : A) (l : List A) → 0 < occOf same a l → (k : List A) × (m : List A) × (l ≡ k ++ (a ∷ m))
+  occ-around a [] h = absurd (omega (arith, occ-nil a))
+  occ-around a (x ∷ l) h = go (same a x) (occ-around a l)
+    where
+      go : Dec (a ≡ x) → (0 < occOf same a l → (k : List A) × (m : List A) × (l ≡ k ++ (a ∷ m))) → (k : List A) × (m : List A) × ((x ∷ l) ≡ k ++ (a ∷ m))
+      go (yes e) r = ([], l, ap (λ (y : A). y ∷ l) (sym e))
+      go (no n) r =
+          let w : (k : List A) × (m : List A) × (l ≡ k ++ (a ∷ m)) = r (omega (arith, occ-miss a x l n)) in
+          (x ∷ w .0, w .1, ap (λ (y : List A). x ∷ y) (w .2))
+
+  -- a list that is shorter than another holds some item less often
+  pub less-often : (l m : List A) → length l < length m → (a : A) × (occOf same a l < occOf same a m)
+  less-often l [] h = absurd (omega arith)
+  less-often l (x ∷ m) h = go (decLt 0 (occOf same x l)) (λ k. less-often k m)
+    where
+      go : Dec (0 < occOf same x l) → ((k : List A) → length k < length m → (a : A) × (occOf same a k < occOf same a m))
+          → (a : A) × (occOf same a l < occOf same a (x ∷ m))
+      go (no n) r = (x, omega (arith, n, occ-hit x x m refl))
+      go (yes w) r =
+          let (k, t, e) = occ-around x l w in
+          let (a, f) = r (k ++ t) (omega (arith, h, ap length e, length-append k (x ∷ t), length-append k t)) in
+          (a, omega (arith, f, ap (occOf same a) e, occ-insert a x k t, occ-cons a x m))
+
+  pub occ-none : (l : List A) → ((a : A) → occOf same a l ≡ 0) → l ≡ []
+  occ-none [] h = refl
+  occ-none (x ∷ l) h = absurd (omega (arith, h x, occ-hit x x l refl))
 
   pub occ-joined : (a : A) (n : ℕ) (f : ℕ → List A) → occOf same a (joined n f) ≡ sumTo n (λ k. occOf same a (f k))
   unfolding joined sumTo

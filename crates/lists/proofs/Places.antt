@@ -1,9 +1,9 @@
 -- Blocks of n places each, one after the other: place j of block i is number i · n + j.
-use Prim.Native.Nat.{ℕ, suc, _+_, _*_, _≤_, _<_}
+use Prim.Native.Nat.{ℕ, zero, suc, _+_, _*_, _/_, _%_, _≤_, _<_}
 use mathlib.Core.Path.{_≡_, ap}
 use native.Mathlib.Omega.{arith}
 use native.Mathlib.Decide.{decLt}
-use native.Mathlib.Nat.{mul-le-mul-right, suc-mul}
+use native.Mathlib.Nat.{mul-le-mul-right, suc-mul, mod-lt, div-add-mod', div-lt-iff-lt-mul}
 
 -- block i of m blocks ends within them
 pub place-end : (n m i : ℕ) → i < m → i * n + n ≤ m * n
@@ -11,6 +11,12 @@ place-end n m i h = omega (arith, mul-le-mul-right {m = suc i} {n = m} n h, suc-
 
 pub place-lt : (n m i j : ℕ) → i < m → j < n → i * n + j < m * n
 place-lt n m i j h l = omega (arith, l, place-end n m i h)
+
+-- every number within m blocks is a block's and a place's in it
+pub place-parts : (n m q : ℕ) → q < m * n → (i : ℕ) × (j : ℕ) × (i < m) × (j < n) × (i * n + j ≡ q)
+place-parts zero m q h = absurd (omega (arith, h))
+place-parts (suc n) m q h =
+    (q / suc n, q % suc n, div-lt-iff-lt-mul {k = suc n} {x = q} {y = m} (omega arith) .1 h, mod-lt q (omega arith), div-add-mod' q (suc n))
 
 -- a place's number tells the block and the place in it
 pub place-same : (n i j o h : ℕ) → j < n → h < n → i * n + j ≡ o * n + h → (i ≡ o) × (j ≡ h)

@@ -1,4 +1,4 @@
--- Laws of a list that is read from the front: its first i members, one more, all of them; and of a list of zeros.
+-- Laws of a list that is read from the front: its first i members, one more, all of them; and of a list of equal members.
 use Prim.Native.Nat.{ℕ, zero, suc, _+_, _≤_, _<_}
 use mathlib.Core.Path.{_≡_, refl, sym, ap, _∙_}
 use mathlib.Core.List.{List, [], _∷_, _++_}
@@ -62,11 +62,14 @@ occ-early l n i h m = rw (getD-take n l i 0 h) at (at-occ ℕ-discrete 0 (take n
 pub take-same : (k l : List ℕ) (i n : ℕ) → i ≤ n → take n k ≡ take n l → take i k ≡ take i l
 take-same k l i n h e = sym (take-take i n k h) ∙ ap (take i) e ∙ take-take i n l h
 
--- what stands in a list of zeros, and behind its end
+-- what stands in a list of equal members, and behind its end
+pub getD-equals : {A : Type 0} (n u : ℕ) (a : A) → getD (replicate n a) u a ≡ a
+getD-equals zero u a = refl
+getD-equals (suc n) zero a = refl
+getD-equals (suc n) (suc u) a = getD-equals n u a
+
 pub zeros : (n u : ℕ) → _≡_ {A = ℕ} (getD (replicate n 0) u 0) 0
-zeros zero u = refl
-zeros (suc n) zero = refl
-zeros (suc n) (suc u) = zeros n u
+zeros n u = getD-equals n u 0
 
 -- a place where something other than 0 is read lies inside
 pub inside : (l : List ℕ) (u : ℕ) → 0 < getD l u 0 → u < length l

@@ -4,11 +4,12 @@ use mathlib.Core.Path.{_≡_, refl, sym, ap, _∙_}
 use mathlib.Core.List.{List, [], _∷_, _++_}
 use native.Mathlib.Omega.{arith}
 use native.Mathlib.Decide.{ℕ-discrete, decLt}
-use native.Mathlib.Nat.{zero-mul, one-mul, suc-mul, mul-le-mul-right}
+use native.Mathlib.Nat.{le-antisymm, zero-mul, one-mul, suc-mul, mul-le-mul-right}
 use lib.ListN.{length, length-append}
-use Rattle.lists.proofs.Decided.{stable}
-use Rattle.lists.proofs.Occurrences.{occ-nil, occ-cons, occ-hit, occ-miss}
-use Rattle.lists.specs.Lists.{occ, joined}
+use Rattle.lists.proofs.Decided.{stable, tally-yes, tally-pos}
+use Rattle.lists.proofs.Occurrences.{occ-nil, occ-cons, occ-hit, occ-miss, occ-insert, occ-around}
+use Rattle.lists.specs.Decided.{tally}
+use Rattle.lists.specs.Lists.{occOf, occ, joined}
 use Rattle.lists.specs.Sums.{sumTo, sumOf}
 
 pub sum-same : (n : ℕ) (f g : ℕ → ℕ) → ((j : ℕ) → j < n → g j ≡ f j) → sumTo n g ≡ sumTo n f
@@ -21,9 +22,25 @@ unfolding sumTo
 sum-zero zero f h = refl
 sum-zero (suc n) f h = omega (arith, sum-zero n f (λ k l. h k (omega arith)), h n (omega arith))
 
+-- the same at every place, a number φ being read there
+pub sum-kept : {B : Type 0} (φ : B → ℕ) {f g : ℕ → B} (n : ℕ) → ((j : ℕ) → g j ≡ f j) → sumTo n (λ j. φ (g j)) ≡ sumTo n (λ j. φ (f j))
+sum-kept φ {f} {g} n h = sum-same n (λ j. φ (f j)) (λ j. φ (g j)) (λ j l. ap φ (h j))
+
 pub sum-suc : (n : ℕ) (f : ℕ → ℕ) → sumTo (suc n) f ≡ sumTo n f + f n
 unfolding sumTo
 sum-suc n f = refl
+
+pub sum-add : (n : ℕ) (f g : ℕ → ℕ) → sumTo n (λ k. f k + g k) ≡ sumTo n f + sumTo n g
+unfolding sumTo
+sum-add zero f g = refl
+sum-add (suc n) f g = omega (arith, sum-add n f g)
+
+-- a sum over ordered pairs, by pairs u < t, and each number with itself
+pub sum-pairs : (n : ℕ) (f : ℕ → ℕ → ℕ) → sumTo n (λ t. sumTo n (f t)) ≡ sumTo n (λ t. sumTo t (λ u. f t u + f u t)) + sumTo n (λ t. f t t)
+unfolding sumTo
+sum-pairs zero f = refl
+sum-pairs (suc n) f =
+    omega (arith, sum-pairs n f, sum-add n (λ t. sumTo n (f t)) (λ t. f t n), sum-add n (f n) (λ u. f u n))
 
 -- one place changed
 pub sum-at : (n : ℕ) (f g : ℕ → ℕ) (k : ℕ) → k < n → ((j : ℕ) → ¬ (j ≡ k) → g j ≡ f j) → sumTo n g + f k ≡ sumTo n f + g k
@@ -67,10 +84,33 @@ sum-prefix (suc n) f k h = go (ℕ-discrete k n) (sum-prefix n f k)
     go (yes e) r = rw e (omega arith)
     go (no m) r = omega (arith, r (omega arith))
 
+-- two places that add to a sum of at most 1 are one
+pub one-adds : (n : ℕ) (f : ℕ → ℕ) → sumTo n f ≤ 1 → (i j : ℕ) → i < n → j < n → 0 < f i → 0 < f j → i ≡ j
+one-adds n f h i j li lj wi wj = stable (ℕ-discrete i j) (λ d. go d (decLt i j))
+  where
+    -- both add to the sum up to the later one
+    two : (a b : ℕ) → a < b → b < n → 0 < f a → 0 < f b → ⊥
+    two a b l m wa wb = omega (arith, h, l, m, wa, wb, sum-prefix n f b m, sum-prefix b f a l)
+
+    go : ¬ (i ≡ j) → Dec (i < j) → ⊥
+    go d (yes l) = two i j l lj wi wj
+    go d (no m) = two j i (omega (arith, d, m)) li wj wi
+
+-- n places of at most c each
+pub sum-most : (n : ℕ) (f : ℕ → ℕ) (c : ℕ) → ((k : ℕ) → k < n → f k ≤ c) → sumTo n f ≤ n * c
+unfolding sumTo
+sum-most zero f c h = omega arith
+sum-most (suc n) f c h = omega (arith, sum-most n f c (λ k l. h k (omega arith)), h n (omega arith), suc-mul n c)
+
 pub sum-one : (n : ℕ) → sumTo n (λ k. 1) ≡ n
 unfolding sumTo
 sum-one zero = refl
 sum-one (suc n) = omega (arith, sum-one n)
+
+pub sum-twice : (n : ℕ) (f : ℕ → ℕ) → sumTo n (λ k. 2 * f k) ≡ 2 * sumTo n f
+unfolding sumTo
+sum-twice zero f = refl
+sum-twice (suc n) f = omega (arith, sum-twice n f)
 
 -- where a sum is larger, some place is
 pub sum-find-lt : (n : ℕ) (f g : ℕ → ℕ) → sumTo n f < sumTo n g → (k : ℕ) × (k < n) × (f k < g k)
@@ -104,6 +144,55 @@ unfolding sumOf
 sumOf-append f [] l = omega arith
 sumOf-append f (x ∷ k) l = omega (arith, sumOf-append f k l)
 
+pub sumOf-snoc : {A : Type 0} (f : A → ℕ) (l : List A) (x : A) → sumOf f (l ++ (x ∷ [])) ≡ sumOf f l + f x
+sumOf-snoc f l x = omega (arith, sumOf-append f l (x ∷ []), sumOf-single f x)
+
+pub sumOf-joined : {A : Type 0} (f : A → ℕ) (n : ℕ) (g : ℕ → List A) → sumOf f (joined n g) ≡ sumTo n (λ k. sumOf f (g k))
+unfolding joined sumTo
+sumOf-joined f zero g = sumOf-nil f
+sumOf-joined f (suc n) g = omega (arith, sumOf-append f (joined n g) (g n), sumOf-joined f n g)
+
+pub sumOf-one : {A : Type 0} (l : List A) → sumOf (λ t. 1) l ≡ length l
+unfolding sumOf
+sumOf-one [] = refl
+sumOf-one (x ∷ l) = omega (arith, sumOf-one l)
+
+module _ {A : Type 0} (same : Discrete A) where
+  pub sumOf-same : (f g : A → ℕ) (l : List A) → ((a : A) → 0 < occOf same a l → f a ≡ g a) → sumOf f l ≡ sumOf g l
+  unfolding sumOf
+  sumOf-same f g [] h = refl
+  sumOf-same f g (x ∷ l) h =
+      omega (arith, h x (omega (arith, occ-hit same x x l refl)), sumOf-same f g l (λ a m. h a (omega (arith, occ-cons same a x l))))
+
+  -- lists within another, by occurrences
+  pub sumOf-within : (f : A → ℕ) (l m : List A) → ((a : A) → occOf same a l ≤ occOf same a m) → sumOf f l ≤ sumOf f m
+  unfolding sumOf
+  sumOf-within f [] m h = omega arith
+  sumOf-within f (x ∷ l) m h = go (occ-around same x m (omega (arith, h x, occ-hit same x x l refl))) (sumOf-within f l)
+    where
+      go : (k : List A) × (r : List A) × (m ≡ k ++ (x ∷ r)) → ((m′ : List A) → ((a : A) → occOf same a l ≤ occOf same a m′) → sumOf f l ≤ sumOf f m′)
+          → f x + sumOf f l ≤ sumOf f m
+      go (k, r, e) rest = omega (arith, rest (k ++ r) within, ap (sumOf f) e, sumOf-append f k (x ∷ r), sumOf-append f k r)
+        where
+          within : (a : A) → occOf same a l ≤ occOf same a (k ++ r)
+          within a = omega (arith, h a, ap (occOf same a) e, occ-insert same a x k r, occ-cons same a x l)
+
+  pub sumOf-both : (f : A → ℕ) (l m : List A) → ((a : A) → occOf same a l ≡ occOf same a m) → sumOf f l ≡ sumOf f m
+  sumOf-both f l m h =
+      le-antisymm (sumOf-within f l m (λ a. omega (arith, h a))) (sumOf-within f m l (λ a. omega (arith, h a)))
+
+  pub length-within : (l m : List A) → ((a : A) → occOf same a l ≤ occOf same a m) → length l ≤ length m
+  length-within l m h = omega (arith, sumOf-one l, sumOf-one m, sumOf-within (λ a. 1) l m h)
+
+  -- a list within another and as long: neither holds an item more often
+  pub occ-full : (l m : List A) → ((a : A) → occOf same a l ≤ occOf same a m) → length l ≡ length m → (a : A) → occOf same a l ≡ occOf same a m
+  occ-full l m h e a =
+      stable (ℕ-discrete (occOf same a l) (occOf same a m)) (λ n. omega (arith, e, length-within (a ∷ l) m (λ x. within n x (same x a))))
+    where
+      within : ¬ (occOf same a l ≡ occOf same a m) → (x : A) → Dec (x ≡ a) → occOf same x (a ∷ l) ≤ occOf same x m
+      within n x (yes q) = rw q (omega (arith, n, h a, occ-hit same a a l refl))
+      within n x (no q) = omega (arith, h x, occ-miss same x a l q)
+
 -- a sum over the members of a list of numbers below n, by places
 pub sumOf-places : (f : ℕ → ℕ) (n : ℕ) (l : List ℕ) → ((u : ℕ) → 0 < occ u l → u < n) → sumOf f l ≡ sumTo n (λ t. occ t l * f t)
 unfolding sumOf
@@ -117,15 +206,17 @@ sumOf-places f n (x ∷ l) h =
       suc-mul (occ x l) (f x),
     )
 
+-- a list that holds each number below n once
+pub sumOf-all : (f : ℕ → ℕ) (n : ℕ) (l : List ℕ) → ((t : ℕ) → occ t l ≡ tally (decLt t n)) → sumOf f l ≡ sumTo n f
+sumOf-all f n l h = sumOf-places f n l below ∙ sum-same n f (λ t. occ t l * f t) (λ t m. rw (h t, tally-yes (decLt t n) m) (one-mul (f t)))
+  where
+    below : (u : ℕ) → 0 < occ u l → u < n
+    below u m = tally-pos (decLt u n) (omega (arith, h u))
+
 -- a list of numbers below n has as many members as all their occurrences
 pub length-occ : (n : ℕ) (l : List ℕ) → ((u : ℕ) → 0 < occ u l → u < n) → length l ≡ sumTo n (λ u. occ u l)
-unfolding sumOf
 length-occ n l h =
     sym (sumOf-one l) ∙ sumOf-places (λ t. 1) n l h ∙ sum-same n (λ u. occ u l) (λ u. occ u l * 1) (λ j m. omega arith)
-  where
-    sumOf-one : (k : List ℕ) → sumOf (λ t. 1) k ≡ length k
-    sumOf-one [] = refl
-    sumOf-one (x ∷ k) = omega (arith, sumOf-one k)
 
 -- distinct numbers below n that leave one out are fewer than n
 pub short-without : (n : ℕ) (l : List ℕ) → ((u : ℕ) → 0 < occ u l → u < n) → ((u : ℕ) → occ u l ≤ 1) → (t : ℕ) → t < n → occ t l ≡ 0 → length l < n

@@ -1,7 +1,7 @@
 -- Tests with their reasons: what a test's value says, for one test and for several that must all pass.
 use Prim.Native.Nat.{ℕ, _≤_, _<_}
 use mathlib.Core.Path.{_≡_, refl, subst}
-use mathlib.Core.Bool.{Bool, true, false, not, _&&_, _||_}
+use mathlib.Core.Bool.{Bool, true, false, cond, not, _&&_, _||_}
 use mathlib.Core.Logic.{_⊎_, inl, inr}
 use native.Mathlib.Omega.{arith}
 use lib.Dec.{ltb, leb, eqb}
@@ -58,6 +58,16 @@ and-true false b h = unequal cc
 pub and-false : (a b : Bool) → (a ≡ true → b ≡ false) → (a && b) ≡ false
 and-false true b f = f refl
 and-false false b f = refl
+
+-- a test that chooses between equals
+pub cond-either : {A : Type 0} (b : Bool) (x : A) → cond b x x ≡ x
+cond-either true x = refl
+cond-either false x = refl
+
+-- two choices by one test, which need agree only where it passes
+pub cond-same : {A : Type 0} (b : Bool) (x x′ y : A) → (b ≡ true → x ≡ x′) → cond b x y ≡ cond b x′ y
+cond-same true x x′ y f = f refl
+cond-same false x x′ y f = refl
 
 -- two tests of which one must pass
 pub or-left : (a b : Bool) → a ≡ true → (a || b) ≡ true

@@ -3,13 +3,18 @@ use Prim.Native.Nat.{ℕ, zero, suc, _+_, _<_}
 use mathlib.Core.List.{List, [], _∷_, _++_}
 use native.Mathlib.Decide.{ℕ-discrete}
 use lib.ListN.{length, getD}
-use Rattle.lists.specs.Decided.{tally}
+use Rattle.lists.specs.Decided.{tally, stop}
 
 module _ {A : Type 0} (same : Discrete A) where
   -- how often an item stands in a list
   unfoldable pub occOf : A → List A → ℕ
   occOf a [] = 0
   occOf a (x ∷ l) = tally (same a x) + occOf a l
+
+  -- the place where it first stands; the list's length where it doesn't
+  unfoldable pub placeOf : A → List A → ℕ
+  placeOf a [] = 0
+  placeOf a (x ∷ l) = stop (same a x) (placeOf a l)
 
 -- how often a number stands in a list
 abbrev pub occ : ℕ → List ℕ → ℕ

@@ -53,6 +53,15 @@ module _ (words : List ℕ) (q : ℕ) where
   unfolding endsAt
   ends-cleared a b = rw (a, b)
 
+-- slots stored as a ring's ends: the ends of all n rings are slots as before
+pub stored-sound : (k n : ℕ) (words : List ℕ) (q : ℕ) (e : Ends) → length words ≡ n * endWords → ((r : ℕ) → r < n → Sound k (endsAt words r)) → Sound k e
+    → (r : ℕ) → r < n → Sound k (endsAt (storeEnds words q e) r)
+stored-sound k n words q e size before s r h = go (ℕ-discrete r q)
+  where
+    go : Dec (r ≡ q) → Sound k (endsAt (storeEnds words q e) r)
+    go (yes c) = rw (c, ends-stored words q e (omega (arith, size, h, c))) s
+    go (no c) = rw (ends-other words q r e c) (before r h)
+
 -- What the tests tell.
 pub sound-told : (k : ℕ) (e : Ends) → Told (sound k e) (Sound k e) (¬ (Sound k e))
 unfolding sound
@@ -92,6 +101,14 @@ module _ (k : ℕ) (e : Ends) where
       go : Told (sound k e) (Sound k e) (¬ (Sound k e)) → count k e ≡ 0
       go (told-true t s) = absurd (n s)
       go (told-false f m) = rw f
+
+  -- ends whose head is 0 and whose tail is the number of items between them are slots: were they not, the number would be 0
+  pub filled-sound : 0 < k → _≡_ {A = ℕ} (e .head) 0 → e .tail ≡ count k e → Sound k e
+  filled-sound h head tail = go (sound-told k e)
+    where
+      go : Told (sound k e) (Sound k e) (¬ (Sound k e)) → Sound k e
+      go (told-true t s) = s
+      go (told-false f n) = (omega (arith, h, head), omega (arith, h, tail, count-damaged n))
 
   count-sound : Sound k e → count k e ≡ (e .tail + k - e .head) % k
   unfolding count

@@ -59,7 +59,7 @@ module _ {A : Type 0} (d : A) (k q : ℕ) where
       first = mod-eq-of-lt {n = e .head + 0} (omega (arith, h .0)) ∙ omega arith
 
 module _ {A : Type 0} (d : A) (k : ℕ) (r : Rings A) (q : ℕ) where
-  length-queue : length (queue d k r q) ≡ count k (endsAt (r .ends) q)
+  pub length-queue : length (queue d k r q) ≡ count k (endsAt (r .ends) q)
   unfolding queue
   length-queue = length-tabulate (count k (endsAt (r .ends) q)) (λ n. getD (r .slots) (slotAt k q ((endsAt (r .ends) q .head + n) % k)) d)
 

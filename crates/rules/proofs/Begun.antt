@@ -16,13 +16,15 @@ use Rattle.lists.specs.Sums.{sumOf}
 use Rattle.lists.proofs.Apart.{unequal}
 use Rattle.lists.proofs.Told.{Told, same-told, told-true, told-false}
 use Rattle.lists.proofs.Sums.{sumOf-nil}
-use Rattle.lists.proofs.Prefixes.{zeros}
+use Rattle.lists.proofs.Prefixes.{getD-equals, zeros}
 use Rattle.lists.proofs.Places.{place-lt}
+use Rattle.task.specs.Types.{idle}
 use Rattle.task.specs.Refusals.{answerSays, accepted}
 use Rattle.task.specs.declared.Answer.{Answer}
 use Rattle.task.specs.declared.Answer.the-variants.{Refused, Accepted}
 use Rattle.task.specs.declared.Ends.{Ends}
 use Rattle.task.specs.declared.Limits.{Limits}
+use Rattle.task.specs.declared.Row.{Row}
 use Rattle.graph.specs.Graph.{part}
 use Rattle.graph.specs.Conditions.{Good, Sound}
 use Rattle.graph.specs.Successors.{roots}
@@ -31,7 +33,7 @@ use Rattle.graph.proofs.Reversed.{succ-part, table-reversed, table-good, succs-
 use Rattle.ring.specs.Ring.{capacity, slotAt, endsAt}
 use Rattle.ring.proofs.Ends.{capacity-is, ends-cleared}
 use Rattle.ring.proofs.Queues.{queue-cleared}
-use Rattle.rules.specs.Memory.{Mem, tasks, graphIn, ringNumber, ringsIn, endsIn, weightIn}
+use Rattle.rules.specs.Memory.{Mem, tasks, graphIn, ringNumber, ringsIn, endsIn, weightIn, rowIn}
 use Rattle.rules.specs.Sizes.{Lengths}
 use Rattle.rules.specs.Updates.{updated, written}
 use Rattle.rules.specs.Steps.{join}
@@ -218,6 +220,17 @@ module _ (p k : ℕ) (m : Mem) (lengths : Lengths p k m) (sound : Sound (graphIn
           rows = keeps (λ m. m .rows) (λ o t m. refl);
           lengths = begun-filled .lengths;
         }
+
+-- what is laid down: the same graph, idle rows, and run words that are 0
+module _ {p k : ℕ} {m b : Mem} (laid : LaidDown p k m b) where
+  pub laid-graph : graphIn b ≡ graphIn m
+  laid-graph = rw (laid .weights, laid .predStarts, laid .preds)
+
+  pub laid-row : (i : ℕ) → rowIn b i ≡ idle
+  laid-row i = ap (λ (rows : List Row). getD rows i idle) (laid .rows) ∙ getD-equals (length (m .rows)) i idle
+
+  pub laid-run : (x : ℕ) → _≡_ {A = ℕ} (getD (b .run) x 0) 0
+  laid-run x = ap (λ (run : List ℕ). getD run x 0) (laid .run) ∙ zeros (length (m .run)) x
 
 accepted-begun : (a : Answer) (p k : ℕ) (m : Mem) → answerSays (beginResult a p k m .answer) ≡ accepted → beginResult a p k m .memory ≡ begun p k m
 accepted-begun Accepted p k m e = refl

@@ -10,6 +10,11 @@ use native.Mathlib.Nat.{mod-lt, mod-eq-of-lt, mod-add-mod, add-mod-right, mul-co
 use lib.Dec.{eqb}
 use lib.ListN.{length}
 use borrow.Author.Tests.{eq-eqb, ne-eqb}
+use Rattle.lists.specs.Decided.{tally}
+use Rattle.lists.specs.Lists.{occ}
+use Rattle.lists.specs.Sums.{sumTo}
+use Rattle.lists.proofs.Occurrences.{occ-nil, occ-cons}
+use Rattle.lists.proofs.Sums.{sum-zero, sum-at}
 use Rattle.lists.proofs.Told.{Told, same-told, told-true, told-false}
 use Rattle.lists.proofs.Places.{place-same}
 use Rattle.lists.proofs.Circles.{mod-far}
@@ -48,6 +53,23 @@ module _ (p : ℕ) (positive : 0 < p) where
       go : Told (eqb i j) (i ≡ j) (¬ (i ≡ j)) → toRing p (ringNumber p i j) n ts ≡ cond (eqb i j) (dealt p i n ts) []
       go (told-true e s) = rw (e, sym s) (to-own i n ts hi)
       go (told-false e m) = rw e (to-other i j n ts hj m)
+
+  -- each member of a list is dealt to one of the p workers
+  pub occ-dealt : (t n : ℕ) (ts : List ℕ) → sumTo p (λ i. occ t (dealt p i n ts)) ≡ occ t ts
+  unfolding dealt
+  occ-dealt t n [] = rw (occ-nil ℕ-discrete t) (sum-zero p (λ i. 0) (λ i h. refl))
+  occ-dealt t n (x ∷ ts) =
+      omega (
+        arith,
+        occ-dealt t (n + 1) ts,
+        occ-cons ℕ-discrete t x ts,
+        sum-at p (λ i. occ t (dealt p i (n + 1) ts)) (λ i. occ t (dealt p i n (x ∷ ts))) (n % p) (mod-lt n positive)
+            (λ i m. rw (ne-eqb (n % p) i (λ e. m (sym e)))),
+        own,
+      )
+    where
+      own : occ t (dealt p (n % p) n (x ∷ ts)) ≡ tally (ℕ-discrete t x) + occ t (dealt p (n % p) (n + 1) ts)
+      own = rw (eq-eqb (n % p) (n % p) refl) (occ-cons ℕ-discrete t x (dealt p (n % p) (n + 1) ts))
 
   -- d numbers on from n, fewer than p, is another number modulo p
   mod-apart : (n d : ℕ) → suc d < p → ¬ ((n + suc d) % p ≡ n % p)

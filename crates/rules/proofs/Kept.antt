@@ -1,25 +1,21 @@
 -- PROMISE: no step writes weights or tables, and lists of the stated lengths keep them.
 use Prim.Native.Nat.{ℕ, _+_, _*_}
-use mathlib.Core.Path.{_≡_, refl, ap, _∙_}
+use mathlib.Core.Path.{_≡_, refl, _∙_}
+use mathlib.Core.Logic.{_⊎_, inl, inr}
 use mathlib.Core.List.{List, [], _∷_}
 use lib.ListN.{length, set, length-set}
 use lib.IntN.{ℤ}
 use Rattle.task.specs.declared.Limits.{Limits}
 use Rattle.task.specs.declared.Row.{Row}
 use Rattle.task.specs.declared.Step.{Step}
-use Rattle.task.specs.declared.StepAnswer.{StepAnswer}
-use Rattle.task.specs.declared.StepAnswer.the-variants.{Refused, Accepted}
-use Rattle.task.specs.Refusals.{stepSays}
 use Rattle.ring.proofs.Ends.{length-stored}
-use Rattle.rules.specs.Memory.{Mem, memOf}
-use Rattle.rules.specs.Sizes.{Lengths}
+use Rattle.rules.specs.Memory.{Mem, memOf, graphIn}
+use Rattle.rules.specs.Sizes.{Lengths, Fits}
 use Rattle.rules.specs.Updates.{Update, putDegree, putSlot, putEnds, putCounter, putBuffer, putEntry, putEntries, putAccepted, putRow, updated, written}
 use Rattle.rules.specs.Steps.{step}
 use Rattle.rules.specs.Plans.{withCount}
 use Rattle.rules.specs.Moves.{AcceptedStep}
-use Rattle.rules.proofs.Plans.{outcome-accepts}
-use Rattle.rules.proofs.Untouched.{refused-step}
-use Rattle.rules.proofs.Moves.{accepted-step}
+use Rattle.rules.proofs.Moves.{accepted-or-same}
 
 pub record SameGraph (m m′ : Mem) : Type 0 where
   pub weights : m′ .weights ≡ m .weights
@@ -27,6 +23,23 @@ pub record SameGraph (m m′ : Mem) : Type 0 where
   pub preds : m′ .preds ≡ m .preds
   pub succStarts : m′ .succStarts ≡ m .succStarts
   pub succs : m′ .succs ≡ m .succs
+
+pub same-graph : {m m′ : Mem} → SameGraph m m′ → graphIn m′ ≡ graphIn m
+same-graph s = rw (s .weights, s .predStarts, s .preds)
+
+-- numbers that fit go on fitting where N, E and the lengths stay
+pub fits-kept : {limits : Limits} {p k : ℕ} {m m′ : Mem} → m′ .weights ≡ m .weights → m′ .preds ≡ m .preds → Lengths p k m′
+    → Fits limits p k m → Fits limits p k m′
+fits-kept w e l f =
+    record {
+      fewTasks = rw w (f .fewTasks);
+      fewEdges = rw e (f .fewEdges);
+      oneWorker = f .oneWorker;
+      fewWorkers = f .fewWorkers;
+      twoSlots = f .twoSlots;
+      fewSlots = f .fewSlots;
+      lengths = l;
+    }
 
 -- what no step changes
 pub record Kept (m m′ : Mem) : Type 0 where
@@ -95,10 +108,8 @@ written-keeps [] m = kept-none m
 written-keeps (u ∷ us) m = kept-both (updated-keeps u m) (written-keeps us (updated u m))
 
 pub step-keeps : (limits : Limits) (p k i : ℕ) (s : Step) (m : Mem) → Kept m (step limits p k i s m .memory)
-step-keeps limits p k i s m = go (step limits p k i s m .answer) refl
+step-keeps limits p k i s m = go (accepted-or-same limits p k i s m)
   where
-    go : (a : StepAnswer) → step limits p k i s m .answer ≡ a → Kept m (step limits p k i s m .memory)
-    go (Refused n d) e = rw (refused-step limits p k i s m n d (ap stepSays e)) (kept-none m)
-    go (Accepted o) e =
-        let r : AcceptedStep limits p k i s m = accepted-step limits p k i s m (rw e (outcome-accepts o)) in
-        rw (r .left) (written-keeps (withCount m (r .updates)) m)
+    go : AcceptedStep limits p k i s m ⊎ (step limits p k i s m .memory ≡ m) → Kept m (step limits p k i s m .memory)
+    go (inl r) = rw (r .left) (written-keeps (withCount m (r .updates)) m)
+    go (inr e) = rw e (kept-none m)

@@ -9,6 +9,8 @@ use lib.Dec.{leb, eqb}
 use borrow.Author.Tests.{lt-ltb, le-leb, eq-eqb, ne-eqb}
 use Rattle.lists.proofs.Told.{told-pass, told-fail}
 use Rattle.task.specs.Phases.{suits, nextPhase}
+use Rattle.task.specs.Refusals.{stepSays}
+use Rattle.task.specs.Rows.{Acceptance}
 use Rattle.task.specs.declared.Limits.{Limits}
 use Rattle.task.specs.declared.Row.{Row}
 use Rattle.task.specs.declared.Step.{Step}
@@ -16,6 +18,7 @@ use Rattle.task.specs.declared.Step.the-variants.{Fetch, Start, Complete, Relea
 use Rattle.task.specs.declared.StepOutcome.{StepOutcome}
 use Rattle.task.specs.declared.StepAnswer.the-variants.{Accepted}
 use Rattle.lists.specs.Circles.{after}
+use Rattle.graph.specs.Conditions.{Good}
 use Rattle.ring.specs.Ring.{headOn, tailOn}
 use Rattle.choice.specs.Least.{target}
 use Rattle.choice.proofs.Least.{target-is, target-unique}
@@ -25,7 +28,8 @@ use Rattle.rules.specs.Words.{acceptedFits}
 use Rattle.rules.specs.Updates.{Update, putAccepted, written}
 use Rattle.rules.specs.Plans.{Plan, accept, withCount, counted, carriedOut}
 use Rattle.rules.specs.Steps.{fetchTask, fetchFrom, fetchRule, startRule, completeSink, completeInner, completeRule, releasedRow, releaseTo, releaseReady, releaseWaiting, releaseRule, ruleOf, stepPlan, step}
-use Rattle.rules.specs.Moves.{Fetches, Completing, sink, inner, Advances, next, last, Releasing, ReleasesPlaced, waiting, placed, Made, Allowed}
+use Rattle.rules.specs.Moves.{Fetches, Ranged, Completing, sink, inner, Advances, next, last, Releasing, ReleasesPlaced, waiting, placed, Made, Allowed}
+use Rattle.rules.proofs.Plans.{outcome-accepts}
 use Rattle.rules.proofs.Headers.{lengths-told, limits-told, fits-within}
 use Rattle.rules.proofs.Words.{counter-told, counters-told, accepted-told, entries-told, recorded-told}
 use Rattle.rules.proofs.Fetch.{scan-stops}
@@ -154,3 +158,11 @@ module _ (limits : Limits) (p k i : ℕ) (s : Step) (m : Mem) where
       q =
           step-reaches (r .fits) (r .worker) (r .phase)
           ∙ rule-accepts p k i m (r .low) (r .fits .lengths .others .counters) s o us (r .made)
+
+  -- whatever it answers
+  pub allowed-accepted : (o : StepOutcome) (us : List Update) → Allowed limits p k i s m o us → Acceptance (stepSays (step limits p k i s m .answer))
+  allowed-accepted o us a = rw (made-accepted o us a .0) (outcome-accepts o)
+
+-- a task's successors, where the table's part is good, as the rules read them
+pub good-ranged : (m : Mem) → length (m .succs) ≡ edges m → (t : ℕ) → t < tasks m → Good (tasks m) (m .succStarts) (m .succs) t → Ranged m t
+good-ranged m e t h g = record { below = h; rises = g .rises; inside = omega (arith, g .inside, e) }

@@ -2,6 +2,7 @@
 -- fixed table, and Complete alone adds an entry. No step writes another worker's row.
 use Prim.Native.Nat.{ℕ, suc, _+_}
 use mathlib.Core.Path.{_≡_, refl, sym, ap, _∙_}
+use mathlib.Core.Logic.{_⊎_, inl, inr}
 use mathlib.Core.List.{List}
 use native.Mathlib.Omega.{arith}
 use lib.ListN.{length, getD, set, length-set}
@@ -15,16 +16,12 @@ use Rattle.task.specs.declared.Row.{Row}
 use Rattle.task.specs.declared.Step.{Step}
 use Rattle.task.specs.declared.Step.the-variants.{Fetch, Start, Complete, Release}
 use Rattle.task.specs.declared.StepOutcome.{StepOutcome}
-use Rattle.task.specs.declared.StepAnswer.{StepAnswer}
-use Rattle.task.specs.declared.StepAnswer.the-variants.{Refused, Accepted}
 use Rattle.rules.specs.Memory.{Mem, rowIn, entriesIn, acceptedIn}
 use Rattle.rules.specs.Updates.{Update, updated, written}
 use Rattle.rules.specs.Steps.{step}
 use Rattle.rules.specs.Plans.{withCount}
 use Rattle.rules.specs.Moves.{sink, inner, next, last, Advances, waiting, placed, Made, AcceptedStep, entriesNext}
-use Rattle.rules.proofs.Plans.{outcome-accepts}
-use Rattle.rules.proofs.Moves.{accepted-step}
-use Rattle.rules.proofs.Untouched.{refused-step}
+use Rattle.rules.proofs.Moves.{accepted-step, accepted-or-same}
 
 -- what an accepted step of worker i leaves of the rows and the run words
 record Writes (i : ℕ) (s : Step) (m m′ : Mem) : Type 0 where
@@ -89,14 +86,13 @@ module _ (limits : Limits) (p k i : ℕ) (s : Step) (m : Mem) where
 
   -- no step writes another worker's row
   pub rows-other : (j : ℕ) → ¬ (j ≡ i) → rowIn (step limits p k i s m .memory) j ≡ rowIn m j
-  rows-other j n = go (step limits p k i s m .answer) refl
+  rows-other j n = go (accepted-or-same limits p k i s m)
     where
-      go : (a : StepAnswer) → step limits p k i s m .answer ≡ a → rowIn (step limits p k i s m .memory) j ≡ rowIn m j
-      go (Refused x d) e = ap (λ (m′ : Mem). rowIn m′ j) (refused-step limits p k i s m x d (ap stepSays e))
-      go (Accepted o) e =
-          let a : Acceptance (stepSays (step limits p k i s m .answer)) = rw e (outcome-accepts o) in
-          let w : Writes i s m (step limits p k i s m .memory) = accepted-writes (accepted-step limits p k i s m a) in
+      go : AcceptedStep limits p k i s m ⊎ (step limits p k i s m .memory ≡ m) → rowIn (step limits p k i s m .memory) j ≡ rowIn m j
+      go (inl r) =
+          let w : Writes i s m (step limits p k i s m .memory) = accepted-writes r in
           ap (λ (rows : List Row). getD rows j idle) (w .rows) ∙ getD-set-other (m .rows) i j (w .row) idle n
+      go (inr e) = ap (λ (m′ : Mem). rowIn m′ j) e
 
   module _ (a : Acceptance (stepSays (step limits p k i s m .answer))) where
     accepted : AcceptedStep limits p k i s m

@@ -2,6 +2,7 @@
 use Prim.Native.Nat.{ℕ, _+_, _*_, _<_}
 use mathlib.Core.Path.{_≡_, refl, ap, subst, _∙_}
 use mathlib.Core.Bool.{Bool, true, false, cond}
+use mathlib.Core.Logic.{_⊎_, inl, inr}
 use mathlib.Core.List.{List}
 use native.Mathlib.Omega.{arith}
 use lib.ListN.{length}
@@ -17,6 +18,8 @@ use Rattle.task.specs.declared.Row.{Row}
 use Rattle.task.specs.declared.Step.{Step}
 use Rattle.task.specs.declared.Step.the-variants.{Fetch, Start, Complete, Release}
 use Rattle.task.specs.declared.StepOutcome.{StepOutcome}
+use Rattle.task.specs.declared.StepAnswer.{StepAnswer}
+use Rattle.task.specs.declared.StepAnswer.the-variants.{Refused, Accepted}
 use Rattle.lists.specs.Circles.{after, around}
 use Rattle.ring.specs.Ring.{Empty, Full, headOn, tailOn}
 use Rattle.choice.specs.Least.{target}
@@ -30,6 +33,8 @@ use Rattle.rules.specs.Plans.{Plan, refuse, accept, require, suited, wit
 use Rattle.rules.specs.Steps.{scan, fetchTask, fetchFrom, fetchRule, startRule, completeSink, completeInner, completeRule, releasedRow, findRoom, releaseTo, releaseReady, releaseWaiting, releaseRule, ruleOf, stepPlan, step}
 use Rattle.rules.specs.Tables.{BadAccepted, BadCounter, scannedEnds, offeredEnds, HasSuccessors, Ready}
 use Rattle.rules.specs.Moves.{Fetches, Ranged, Completing, Completes, sink, inner, Advances, next, last, Releasing, Releases, waiting, placed, Made, Allowed, AcceptedStep}
+use Rattle.rules.proofs.Plans.{outcome-accepts}
+use Rattle.rules.proofs.Untouched.{refused-step}
 use Rattle.rules.proofs.Headers.{fits-are}
 use Rattle.rules.proofs.Words.{counter-told, counters-told, accepted-told, entries-told, recorded-told}
 use Rattle.rules.proofs.Searches.{Looked}
@@ -255,3 +260,15 @@ accepted-step limits p k i s m a = go (stepPlan limits p k i s m) refl a
           answered = ap (λ (plan : Plan). carriedOut plan m .answer) e;
           left = ap (λ (plan : Plan). carriedOut plan m .memory) (e ∙ ap (accept o) (r .whole));
         }
+
+-- and its answer accepts
+pub step-accepts : (limits : Limits) (p k i : ℕ) (s : Step) (m : Mem) → AcceptedStep limits p k i s m → Acceptance (stepSays (step limits p k i s m .answer))
+step-accepts limits p k i s m r = rw (r .answered) (outcome-accepts (r .outcome))
+
+-- every other step leaves the memory
+pub accepted-or-same : (limits : Limits) (p k i : ℕ) (s : Step) (m : Mem) → AcceptedStep limits p k i s m ⊎ (step limits p k i s m .memory ≡ m)
+accepted-or-same limits p k i s m = go (step limits p k i s m .answer) refl
+  where
+    go : (a : StepAnswer) → step limits p k i s m .answer ≡ a → AcceptedStep limits p k i s m ⊎ (step limits p k i s m .memory ≡ m)
+    go (Refused n d) e = inr (refused-step limits p k i s m n d (ap stepSays e))
+    go (Accepted o) e = inl (accepted-step limits p k i s m (rw e (outcome-accepts o)))

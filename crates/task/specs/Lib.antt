@@ -2,3 +2,4 @@ pub mod Types
 pub mod Phases
 pub mod Refusals
 pub mod Rows
+pub mod Entries

@@ -1,0 +1,160 @@
+-- A finished run is at rest: every ring and every buffer is empty, every worker idle and every degree 0. A step with begin's P and K and a worker
+-- below P then only ever meets 9 and 10: Fetch and Release find nothing there, Start and Complete don't suit the phase.
+use Prim.Native.Nat.{ℕ, _+_, _-_, _%_, _<_}
+use mathlib.Core.Path.{_≡_, refl, sym, ap, _∙_}
+use mathlib.Core.Logic.{inl, inr}
+use mathlib.Core.List.{List, [], _∷_}
+use native.Mathlib.Omega.{arith}
+use native.Mathlib.Decide.{ℕ-discrete}
+use native.Mathlib.Nat.{mod-lt}
+use lib.ListN.{length, length-append, length-drop}
+use Rattle.lists.proofs.Blocks.{length-tabulate}
+use Rattle.lists.proofs.Places.{place-lt}
+use Rattle.task.specs.Phases.{suits}
+use Rattle.task.specs.Refusals.{refused, wrongPhase, nothingThere, stepSays}
+use Rattle.task.specs.Rows.{row, only, Given}
+use Rattle.task.specs.declared.Limits.{Limits}
+use Rattle.task.specs.declared.Step.{Step}
+use Rattle.task.specs.declared.Step.the-variants.{Fetch, Start, Complete, Release}
+use Rattle.ring.specs.Ring.{Sound, Empty}
+use Rattle.ring.proofs.Queues.{queue-empty}
+use Rattle.rules.specs.Memory.{Mem, graphIn, ringNumber, endsIn, ringsIn, degreeIn, rowIn}
+use Rattle.rules.specs.Sizes.{Fits}
+use Rattle.rules.specs.Steps.{step}
+use Rattle.rules.specs.Tables.{BadPlaces, GoesOn, BadEnds, scannedEnds, ownRows}
+use Rattle.rules.proofs.Headers.{fits-within}
+use Rattle.rules.proofs.Searches.{all-not-bad}
+use Rattle.rules.proofs.Follows.{step-follows}
+use Rattle.algorithm1.specs.State.{Thread, State, successorsOf, threadOf}
+use Rattle.algorithm1.specs.Reading.{queueIn, stateOf}
+use Rattle.algorithm1.proofs.Readings.{degree-at, queue-at, thread-at}
+use Rattle.system.specs.Stages.{idle}
+use Rattle.system.proofs.Finished.{finished-waiting, finished-hand, finished-degree, finished-pending}
+use Rattle.runs.specs.Calls.{Run, memoryOf}
+use Rattle.runs.specs.Demand.{Finished}
+use Rattle.runs.specs.AtRest.{nextSays, AtRest}
+use Rattle.runs.proofs.Invariant.{followers, pendingOf, meaning, Buffered}
+use Rattle.runs.proofs.Begun.{all-listed}
+use Rattle.runs.proofs.Waiting.{waiting-none}
+use Rattle.runs.proofs.Honest.{systemIn, honest-run}
+use Rattle.runs.proofs.Live.{row-phase, row-pointer}
+use Rattle.runs.proofs.LiveRelease.{few-places, buffer-is}
+use Rattle.runs.proofs.Demand.{invariant-run, all-recorded, finished-full}
+
+-- with a task in its buffer a thread has a successor to release
+none-pending : (s : State) (r : Thread) → Buffered s r → pendingOf s r ≡ [] → r .buffer ≡ []
+unfolding pendingOf followers
+none-pending s r b e = go (r .buffer) refl
+  where
+    go : (l : List ℕ) → r .buffer ≡ l → r .buffer ≡ []
+    go [] q = q
+    go (t ∷ ts) q =
+        absurd (omega (
+          arith,
+          b .cursor t ts q,
+          ap (λ (l : List ℕ). length (followers s l)) q ∙ length-append (successorsOf s t) (followers s ts),
+          sym (length-drop (r .cursor) (followers s (r .buffer))) ∙ ap length e,
+        ))
+
+-- an idle worker's step where numbers and lists fit: 9 unless the step suits phase 0, else what the step's own rows say
+module _ (limits : Limits) (p k i : ℕ) (s : Step) (m : Mem) (fits : Fits limits p k m) (worker : i < p) (free : _≡_ {A = ℕ} (rowIn m i .phase) 0) where
+  late-row : (n d : ℕ) → Given (row wrongPhase (only (rowIn m i .phase) (¬ (rowIn m i .phase ≡ suits s))) ∷ ownRows s p k i m) n d
+      → stepSays (step limits p k i s m .answer) ≡ refused n d
+  late-row n d g =
+      step-follows limits p k i s m .refuses n d .1
+      (inr (
+        λ x c. fits-within limits p k m fits (c .1),
+        inr (λ x c. c .1 (fits .lengths), inr (λ x c. omega (arith, worker, c .1), inr (λ x c. omega (arith, free, c .1), g))),
+      ))
+
+  unsuited : ¬ (0 ≡ suits s) → stepSays (step limits p k i s m .answer) ≡ refused wrongPhase 0
+  unsuited n = late-row wrongPhase 0 (inl (refl, (sym free, λ e. n (sym free ∙ e))))
+
+  own-row : 0 ≡ suits s → (n d : ℕ) → Given (ownRows s p k i m) n d → stepSays (step limits p k i s m .answer) ≡ refused n d
+  own-row e n d g = late-row n d (inr (λ x c. c .1 (free ∙ e), g))
+
+module _ (r : Run) (f : Finished r) where
+  abbrev p : ℕ
+  p = r .workers
+
+  abbrev k : ℕ
+  k = r .slots
+
+  abbrev now : Mem
+  now = memoryOf r
+
+  abbrev state : State
+  state = stateOf p k now
+
+  queue-none : (i j : ℕ) → i < p → j < p → queueIn p k now i j ≡ []
+  unfolding meaning
+  queue-none i j hi hj =
+      sym (queue-at p k now i j hi hj)
+      ∙ waiting-none p state i
+      (finished-waiting ℕ-discrete _ p _ (all-listed (graphIn now)) {s = systemIn p k now} (invariant-run r) (all-recorded r (finished-full r f)) i hi)
+      j hj
+
+  ring-empty : (i j : ℕ) → i < p → j < p → Sound k (endsIn now (ringNumber p i j)) × Empty (endsIn now (ringNumber p i j))
+  ring-empty i j hi hj = (sound, queue-empty 0 k (ringsIn now) (ringNumber p i j) sound .1 (queue-none i j hi hj))
+    where
+      sound : Sound k (endsIn now (ringNumber p i j))
+      sound = honest-run r .words .ends (ringNumber p i j) (place-lt p p i j hi hj)
+
+  phase-idle : (i : ℕ) → i < p → _≡_ {A = ℕ} (rowIn now i .phase) 0
+  unfolding meaning
+  phase-idle i h =
+      row-phase (honest-run r) i h idle
+      (finished-hand ℕ-discrete _ p _ (all-listed (graphIn now)) {s = systemIn p k now} (invariant-run r) (all-recorded r (finished-full r f)) i h)
+
+  buffer-empty : (i : ℕ) → i < p → rowIn now i .read ≡ rowIn now i .write
+  unfolding meaning
+  buffer-empty i h =
+      omega (
+        arith,
+        honest-run r .words .places i h,
+        sym (length-tabulate (rowIn now i .write - rowIn now i .read) _)
+            ∙ ap length (sym (buffer-is (honest-run r) i h) ∙ sym (ap (λ (t : Thread). t .buffer) (thread-at p k now i h)) ∙ none),
+      )
+    where
+      none : threadOf state i .buffer ≡ []
+      none =
+          none-pending state (threadOf state i) (honest-run r .sane .buffers i)
+          (finished-pending ℕ-discrete _ p _ (all-listed (graphIn now)) {s = systemIn p k now} (invariant-run r) (all-recorded r (finished-full r f)) i h)
+
+  degree-none : (t : ℕ) → _≡_ {A = ℕ} (degreeIn now t) 0
+  unfolding meaning
+  degree-none t =
+      sym (degree-at p k now t)
+      ∙ finished-degree ℕ-discrete _ p _ (all-listed (graphIn now)) {s = systemIn p k now} (invariant-run r) (all-recorded r (finished-full r f)) t
+
+  pub rests : AtRest r
+  rests = record { queues = queue-none; rings = ring-empty; phases = phase-idle; buffers = buffer-empty; degrees = degree-none }
+
+  module _ (i : ℕ) (worker : i < p) where
+    fits : Fits (r .limits) p k now
+    fits = honest-run r .fits
+
+    free : _≡_ {A = ℕ} (rowIn now i .phase) 0
+    free = phase-idle i worker
+
+    -- the scan finds all P rings empty
+    scan-none : GoesOn k Empty (scannedEnds p i now) p
+    scan-none d h = ring-empty i ((rowIn now i .pointer + d) % p) worker (mod-lt (rowIn now i .pointer + d) (fits .oneWorker))
+
+    no-bad-ends : ¬ (BadEnds p k Empty (scannedEnds p i now))
+    no-bad-ends = all-not-bad p k Empty (scannedEnds p i now) scan-none
+
+    places-good : ¬ (BadPlaces now i)
+    places-good (inl h) = omega (arith, h, honest-run r .words .places i worker)
+    places-good (inr h) = omega (arith, h, few-places (honest-run r) i worker)
+
+    pub finished-says : (nextSays r i Fetch ≡ refused 10 0) × (nextSays r i Start ≡ refused 9 0)
+        × (nextSays r i Complete ≡ refused 9 0) × (nextSays r i Release ≡ refused 10 0)
+    finished-says = (
+      own-row (r .limits) p k i Fetch now fits worker free refl nothingThere 0
+          (inr (λ d c. omega (arith, row-pointer (honest-run r) i worker, c .1), inr (λ d c. no-bad-ends (c .1), inl (refl, (refl, scan-none))))),
+      unsuited (r .limits) p k i Start now fits worker free (λ e. omega (arith, e)),
+      unsuited (r .limits) p k i Complete now fits worker free (λ e. omega (arith, e)),
+      own-row (r .limits) p k i Release now fits worker free refl nothingThere 0
+          (inr (λ d c. places-good (c .1), inl (refl, (refl, buffer-empty i worker)))),
+    )

@@ -1,0 +1,144 @@
+-- What follows for a run at any time: no task is recorded before its predecessors, no two workers hold one task; and for a finished one: it
+-- records the same tasks as any other of its graph, and accepts no further step.
+use Prim.Native.Nat.{ℕ, _<_}
+use mathlib.Core.Path.{_≡_, refl, sym, ap, _∙_}
+use mathlib.Core.Logic.{inl, inr}
+use mathlib.Core.List.{List, []}
+use native.Mathlib.Omega.{arith}
+use native.Mathlib.Decide.{ℕ-discrete, decLt}
+use lib.ListN.{length, getD, drop}
+use Rattle.lists.specs.Lists.{occ, placeOf}
+use Rattle.lists.proofs.Decided.{stable, both?}
+use Rattle.lists.proofs.Blocks.{getD-tabulate}
+use Rattle.lists.proofs.Occurrences.{occ-hit, at-occ}
+use Rattle.lists.proofs.Positions.{place-member, place-at, place-least, before-member}
+use Rattle.task.specs.Refusals.{stepSays, refused, recordFull, numberOf}
+use Rattle.task.specs.Rows.{Acceptance, Given}
+use Rattle.task.specs.declared.Limits.{Limits}
+use Rattle.task.specs.declared.Step.{Step}
+use Rattle.task.specs.declared.Step.the-variants.{Complete}
+use Rattle.graph.specs.Graph.{Graph, predsOf, Edge}
+use Rattle.exchange.specs.Pairs.{eachOnce}
+use Rattle.rules.specs.Memory.{Mem, graphIn, rowIn, held, entriesIn}
+use Rattle.rules.specs.Steps.{step}
+use Rattle.rules.specs.Tables.{completeRows, stepRows}
+use Rattle.rules.proofs.Moves.{accepted-step}
+use Rattle.rules.proofs.Follows.{step-follows}
+use Rattle.rules.proofs.Numbers.{TwoOrOne, other-step}
+use Rattle.algorithm1.specs.Reading.{threadIn}
+use Rattle.algorithm1.proofs.Readings.{thread-at}
+use Rattle.system.specs.Stages.{inHand}
+use Rattle.system.proofs.Progress as progress
+use Rattle.runs.specs.Calls.{Run, memoryOf, eventsOf}
+use Rattle.runs.specs.Demand.{acceptedCompletes, Finished, taskWord, orderOf, OneGraph}
+use Rattle.runs.proofs.Invariant.{itemsOf, meaning}
+use Rattle.runs.proofs.Calls.{graph-reached}
+use Rattle.runs.proofs.Begun.{items-reversed}
+use Rattle.runs.proofs.Hands.{hand-holds}
+use Rattle.runs.proofs.Events.{entries-word}
+use Rattle.runs.proofs.Honest.{systemIn, honest-run}
+use Rattle.runs.proofs.Demand.{run-sound, invariant-run, recorded, recorded-words, recorded-length, finished-count, finished-full, finished-order, running-open}
+
+module _ (r : Run) where
+  abbrev p : ℕ
+  p = r .workers
+
+  abbrev now : Mem
+  now = memoryOf r
+
+  abbrev graph : Graph
+  graph = graphIn now
+
+  in-hand : (i : ℕ) → i < p → ¬ (_≡_ {A = ℕ} (rowIn now i .phase) 0) → 0 < occ (held now i) (inHand (systemIn p (r .slots) now .stages .hand i))
+  unfolding meaning threadIn
+  in-hand i worker busy =
+      rw (thread-at p (r .slots) now i worker, hand-holds (threadIn now i) busy) (omega (arith, occ-hit ℕ-discrete (held now i) (held now i) [] refl))
+
+  -- no two workers hold one task
+  pub one-holder : (i j : ℕ) → i < p → j < p → ¬ (_≡_ {A = ℕ} (rowIn now i .phase) 0) → ¬ (_≡_ {A = ℕ} (rowIn now j .phase) 0)
+      → held now i ≡ held now j → i ≡ j
+  one-holder i j hi hj bi bj e =
+      progress.one-holder ℕ-discrete (itemsOf graph) (items-reversed graph (run-sound r)) p {s = systemIn p (r .slots) now} (invariant-run r) i j (held now i) hi hj
+      (in-hand i hi bi) (rw e (in-hand j hj bj))
+
+  -- a predecessor of a recorded task is recorded before it
+  recorded-early : (x u : ℕ) → x < entriesIn now → 0 < occ u (predsOf graph (taskWord now x)) → (y : ℕ) × (y < x) × (taskWord now y ≡ u)
+  recorded-early x u inside pred =
+      (y, omega (arith, before, place-least ℕ-discrete 0 l x within, ap (λ (t : ℕ). placeOf ℕ-discrete t l) (at x inside)), there)
+    where
+      l : List ℕ
+      l = recorded r
+
+      within : x < length l
+      within = omega (arith, inside, recorded-length r)
+
+      at : (z : ℕ) → z < entriesIn now → getD l z 0 ≡ taskWord now z
+      at z h = ap (λ (l : List ℕ). getD l z 0) (recorded-words r) ∙ getD-tabulate (entriesIn now) (taskWord now) 0 z h
+
+      y : ℕ
+      y = placeOf ℕ-discrete u l
+
+      before : y < placeOf ℕ-discrete (taskWord now x) l
+      before = invariant-run r .order u (taskWord now x) pred (rw (at x inside) at (at-occ ℕ-discrete 0 l x within))
+
+      member : 0 < occ u l
+      member = before-member ℕ-discrete u (taskWord now x) l before
+
+      there : taskWord now y ≡ u
+      there = sym (at y (omega (arith, place-member ℕ-discrete u l member, recorded-length r))) ∙ place-at ℕ-discrete 0 u l member
+
+-- finished runs of one graph record the same tasks
+pub same-tasks : (r r′ : Run) → OneGraph r r′ → Finished r → Finished r′ → (t : ℕ) → occ t (orderOf r) ≡ occ t (orderOf r′)
+same-tasks r r′ o f f′ t =
+    finished-order r f .once t ∙ ap (λ (n : ℕ). eachOnce n t) (o .sameTasks) ∙ sym (finished-order r′ f′ .once t)
+
+-- in an unfinished run too, the record has every task after all its predecessors
+pub never-early : (r : Run) (x u : ℕ) → x < acceptedCompletes (eventsOf r) → Edge (graphIn (r .lent)) u (taskWord (memoryOf r) x)
+    → (y : ℕ) × (y < x) × (taskWord (memoryOf r) y ≡ u)
+never-early r x u h e =
+    recorded-early r x u (omega (arith, h, entries-word r)) (edge-as (graph-reached r) e .predecessor)
+  where
+    edge-as : {g g′ : Graph} {t : ℕ} → g′ ≡ g → Edge g u t → Edge g′ u t
+    edge-as q e = rw q e
+
+-- a finished run accepts no further step, whatever the limits, P, K and worker
+pub no-more : (r : Run) → Finished r → (limits : Limits) (p k i : ℕ) (s : Step) → ¬ (Acceptance (stepSays (step limits p k i s (memoryOf r) .answer)))
+no-more r f limits p k i s a =
+    omega (arith, accepted-step limits p k i s (memoryOf r) a .allowed .low, finished-count r (finished-full r f))
+
+-- in memory begun and stepped by the engine Complete never meets 12, whatever P, K and worker
+pub never-full : (r : Run) (p k i d : ℕ) → ¬ (stepSays (step (r .limits) p k i Complete (memoryOf r) .answer) ≡ refused recordFull d)
+never-full r p k i d e = go (both? p k (r .workers) (r .slots))
+  where
+    -- a step that is refused with 12 has passed the rows before it: the worker is there and its phase is 2
+    given : (p k : ℕ) → p ≡ r .workers → Given (stepRows (r .limits) p k i Complete (memoryOf r)) recordFull d → ⊥
+    given p k same (inl (n, c)) = omega (arith, n)
+    given p k same (inr (a, inl (n, c))) = omega (arith, n)
+    given p k same (inr (a, inr (b, inl (n, c)))) = omega (arith, n)
+    given p k same (inr (a, inr (b, inr (worker, inl (n, c))))) = omega (arith, n)
+    given p k same (inr (a, inr (b, inr (worker, inr (f, inl (n, c)))))) = omega (arith, n)
+    given p k same (inr (a, inr (b, inr (worker, inr (f, inr (phase, inl (n, c))))))) = omega (arith, n)
+    given p k same (inr (a, inr (b, inr (worker, inr (f, inr (phase, inr (h, inl (n, (x, full))))))))) =
+        omega (
+          arith,
+          full,
+          running-open r i (stable (decLt i (r .workers)) (λ m. worker i (refl, omega (arith, m, same))))
+              (stable (ℕ-discrete (rowIn (memoryOf r) i .phase) 2) (λ m. phase (rowIn (memoryOf r) i .phase) (refl, m))),
+        )
+    given p k same (inr (a, inr (b, inr (worker, inr (f, inr (phase, inr (h, inr (g, rest)))))))) = damaged rest
+      where
+        damaged : Given (drop 2 (completeRows i (memoryOf r))) recordFull d → ⊥
+        damaged (inl (n, c)) = omega (arith, n)
+        damaged (inr (a, inl (n, c))) = omega (arith, n)
+        damaged (inr (a, inr (b, inl (n, c)))) = omega (arith, n)
+        damaged (inr (a, inr (b, inr (c, inl (n, x))))) = omega (arith, n)
+        damaged (inr (a, inr (b, inr (c, inr (f, inl (n, x)))))) = omega (arith, n)
+        damaged (inr (a, inr (b, inr (c, inr (f, inr (g, z)))))) = z
+
+    go : Dec ((p ≡ r .workers) × (k ≡ r .slots)) → ⊥
+    go (yes (ep, ek)) = given p k ep (step-follows (r .limits) p k i Complete (memoryOf r) .refuses recordFull d .0 e)
+    go (no n) = other (other-step (r .limits) (r .workers) (r .slots) p k (memoryOf r) (honest-run r .fits .lengths) n i Complete)
+      where
+        other : TwoOrOne (stepSays (step (r .limits) p k i Complete (memoryOf r) .answer)) → ⊥
+        other (inl q) = omega (arith, ap numberOf (sym e ∙ q))
+        other (inr q) = omega (arith, ap numberOf (sym e ∙ q))

@@ -1,0 +1,50 @@
+-- What a thread has in hand, told from its phase and its held task.
+use Prim.Native.Nat.{ℕ, _≤_}
+use mathlib.Core.Path.{_≡_, sym, ap, _∙_}
+use mathlib.Core.List.{[], _∷_}
+use native.Mathlib.Omega.{arith}
+use native.Mathlib.Decide.{ℕ-discrete}
+use borrow.Author.Tests.{ne-eqb}
+use Rattle.lists.proofs.Appends.{head-same}
+use Rattle.algorithm1.specs.State.{Thread}
+use Rattle.system.specs.Stages.{Hand, idle, fetched, running, inHand, phase}
+use Rattle.runs.specs.Counters.{handOf}
+
+module _ (r : Thread) where
+  -- in each phase
+  pub hand-idle : _≡_ {A = ℕ} (r .phase) 0 → handOf r ≡ idle
+  unfolding handOf
+  hand-idle e = rw e
+
+  pub hand-fetched : _≡_ {A = ℕ} (r .phase) 1 → handOf r ≡ fetched (r .held)
+  unfolding handOf
+  hand-fetched e = rw e
+
+  pub hand-running : _≡_ {A = ℕ} (r .phase) 2 → handOf r ≡ running (r .held)
+  unfolding handOf
+  hand-running e = rw e
+
+  -- a thread that isn't idle has its held task in hand
+  pub hand-holds : ¬ (_≡_ {A = ℕ} (r .phase) 0) → inHand (handOf r) ≡ r .held ∷ []
+  unfolding handOf
+  hand-holds n = go (ℕ-discrete (r .phase) 1)
+    where
+      go : Dec (r .phase ≡ 1) → inHand (handOf r) ≡ r .held ∷ []
+      go (yes e) = rw e
+      go (no m) = rw (ne-eqb (r .phase) 0 n, ne-eqb (r .phase) 1 m)
+
+  -- the phase of the hand is the phase word, where that is one
+  pub hand-phase : r .phase ≤ 2 → r .phase ≡ phase (handOf r)
+  hand-phase h = go (ℕ-discrete (r .phase) 0) (ℕ-discrete (r .phase) 1)
+    where
+      of : {x : Hand ℕ} → handOf r ≡ x → phase (handOf r) ≡ phase x
+      of e = ap (λ (x : Hand ℕ). phase x) e
+
+      go : Dec (r .phase ≡ 0) → Dec (r .phase ≡ 1) → r .phase ≡ phase (handOf r)
+      go (yes e) _ = e ∙ sym (of (hand-idle e))
+      go (no n) (yes e) = e ∙ sym (of (hand-fetched e))
+      go (no n) (no l) = let e : _≡_ {A = ℕ} (r .phase) 2 = omega (arith, h, n, l) in e ∙ sym (of (hand-running e))
+
+  -- the running task is the held one
+  pub running-held : (a : ℕ) → _≡_ {A = ℕ} (r .phase) 2 → handOf r ≡ running a → r .held ≡ a
+  running-held a e h = head-same (ap (λ (x : Hand ℕ). inHand x) (sym (hand-running e) ∙ h))

@@ -1,0 +1,137 @@
+-- What holds of the memory after every list of a run's calls: begin lays it down, and every accepted step keeps it.
+use Prim.Native.Nat.{ℕ, suc, _≤_, _<_}
+use mathlib.Core.Path.{_≡_}
+use mathlib.Core.List.{List}
+use native.Mathlib.Decide.{ℕ-discrete}
+use lib.ListN.{length}
+use Rattle.task.specs.Refusals.{answerSays, accepted}
+use Rattle.task.specs.declared.Limits.{Limits}
+use Rattle.task.specs.declared.Step.{Step}
+use Rattle.graph.specs.Graph.{Graph, predsOf}
+use Rattle.graph.specs.Conditions.{Good, GraphFits}
+use Rattle.graph.proofs.Accepted.{fits-sound}
+use Rattle.ring.specs.Ring.{capacity}
+use Rattle.rules.specs.Memory.{Mem, tasks, graphIn, acceptedIn}
+use Rattle.rules.specs.Sizes.{Fits}
+use Rattle.rules.specs.Steps.{step}
+use Rattle.rules.specs.Begin.{begin}
+use Rattle.rules.specs.Begun.{LaidDown}
+use Rattle.rules.specs.Moves.{AcceptedStep}
+use Rattle.rules.proofs.Begin.{begin-accepted}
+use Rattle.rules.proofs.Begun.{laid-graph, laid-run, laid-down, begun-reversed}
+use Rattle.rules.proofs.Kept.{Kept, same-graph, fits-kept}
+use Rattle.rules.proofs.Kept as rules
+use Rattle.rules.proofs.Moved.{counts}
+use Rattle.rules.proofs.Moves.{step-accepts}
+use Rattle.algorithm1.specs.State.{State}
+use Rattle.algorithm1.specs.Algorithm.{Does}
+use Rattle.algorithm1.specs.Reading.{stateOf}
+use Rattle.algorithm1.proofs.Accepted.{step-does}
+use Rattle.system.specs.System as system
+use Rattle.system.proofs.Kept.{step-keeps, begins-keeps}
+use Rattle.system.proofs.Progress.{begins-few, step-few}
+use Rattle.runs.specs.Calls.{Call, reached, Run, memoryOf}
+use Rattle.runs.specs.Counters.{AddsUp}
+use Rattle.runs.proofs.Invariant.{itemsOf, meaning, Sane, Words}
+use Rattle.runs.proofs.Calls.{always}
+use Rattle.runs.proofs.Begun.{items-reversed, begun-sane, begun-begins}
+use Rattle.runs.proofs.Steps.{does-steps, does-sane}
+use Rattle.runs.proofs.Counters.{does-adds-up, begun-adds-up}
+use Rattle.runs.proofs.Words.{begun-words, step-words}
+use Rattle.runs.proofs.Bounds.{Bounded, does-bounded, begun-bounded}
+
+-- the system's state that the memory stands for
+abbrev pub systemIn : ℕ → ℕ → Mem → system.State ℕ
+systemIn p k m = meaning p (acceptedIn m) (stateOf p k m)
+
+-- what is known of the system's state, where the graph and the number of steps are known by other names
+pub record Known (g : Graph) (p steps : ℕ) (s : State) : Type 0 where
+  pub invariant : system.Invariant ℕ-discrete (itemsOf g) p (meaning p steps s)
+  pub few : (t : ℕ) → meaning p steps s .degree t ≤ length (predsOf g t)
+
+known-as : (p : ℕ) (s : State) {g g′ : Graph} {n n′ : ℕ} → g′ ≡ g → n′ ≡ n → Known g p n s → Known g′ p n′ s
+known-as p s e f v = rw (e, f) v
+
+pub record Honest (limits : Limits) (p k : ℕ) (m : Mem) : Type 0 where
+  pub fits : Fits limits p k m
+  pub graph : GraphFits limits (m .weights) (m .predStarts) (m .preds)
+  -- the successor table is as begin filled it
+  pub good : (u : ℕ) → u < tasks m → Good (tasks m) (m .succStarts) (m .succs) u
+  pub words : Words p k m
+  pub sane : Sane (graphIn m) p (stateOf p k m)
+  pub known : Known (graphIn m) p (acceptedIn m) (stateOf p k m)
+  pub addsUp : AddsUp p (stateOf p k m)
+  pub bounded : Bounded p (stateOf p k m)
+
+module _ (limits : Limits) (p k : ℕ) where
+  pub begun-honest : (m : Mem) → answerSays (begin limits p k m .answer) ≡ accepted → Honest limits p k (begin limits p k m .memory)
+  begun-honest m e =
+      record {
+        fits = fits-kept (laid .weights) (laid .preds) (laid .lengths) (begin-accepted limits p k m .0 e .0);
+        graph = rw (laid .weights, laid .predStarts, laid .preds) (begin-accepted limits p k m .0 e .1);
+        good = λ u h. begun-reversed limits p k m e u h .1;
+        words = begun-words limits p k m e;
+        sane = rw (laid-graph laid) (begun-sane limits p k m e);
+        known =
+            known-as p (stateOf p k (begin limits p k m .memory)) (laid-graph laid) (laid-run laid 1)
+            (record {
+              invariant = begins-keeps ℕ-discrete (itemsOf (graphIn m)) p (begun-begins limits p k m e);
+              few = begins-few ℕ-discrete (itemsOf (graphIn m)) p (begun-begins limits p k m e);
+            });
+        addsUp = begun-adds-up limits p k m e;
+        bounded = begun-bounded limits p k m e;
+      }
+    where
+      laid : LaidDown p k m (begin limits p k m .memory)
+      laid = laid-down limits p k m e
+
+  module _ (m : Mem) (i : ℕ) (s : Step) (r : AcceptedStep limits p k i s m) (h : Honest limits p k m) where
+    abbrev left : Mem
+    left = step limits p k i s m .memory
+
+    abbrev before : State
+    before = stateOf p k m
+
+    abbrev after : State
+    after = stateOf p k left
+
+    kept : Kept m left
+    kept = rules.step-keeps limits p k i s m
+
+    one-more : acceptedIn left ≡ suc (acceptedIn m)
+    one-more = counts limits p k i s m (step-accepts limits p k i s m r)
+
+    does : Does p (capacity k) i s before after (r .outcome)
+    does = step-does limits p k i s m r
+
+    -- an accepted step is a step of the system
+    pub system-step : system.Step ℕ-discrete (itemsOf (graphIn m)) p (systemIn p k m) (meaning p (suc (acceptedIn m)) after)
+    system-step =
+        does-steps (graphIn m) p (capacity k) i before after (r .outcome) (h .sane) (acceptedIn m) s does
+
+    pub step-honest : Honest limits p k left
+    step-honest =
+        record {
+          fits = fits-kept (kept .graph .weights) (kept .graph .preds) (kept .lengths p k (h .fits .lengths)) (h .fits);
+          graph = rw (kept .graph .weights, kept .graph .predStarts, kept .graph .preds) (h .graph);
+          good = rw (kept .graph .weights, kept .graph .succStarts, kept .graph .succs) (h .good);
+          words = step-words limits p k i s m r (h .words);
+          sane = rw (same-graph (kept .graph)) (does-sane (graphIn m) p (capacity k) i before after (r .outcome) (h .sane) s does);
+          known =
+              known-as p after (same-graph (kept .graph)) one-more
+              (record {
+                invariant =
+                    step-keeps ℕ-discrete (itemsOf (graphIn m)) p (items-reversed (graphIn m) (fits-sound (h .graph))) system-step (h .known .invariant);
+                few = step-few ℕ-discrete (itemsOf (graphIn m)) p system-step (h .known .few);
+              });
+          addsUp = does-adds-up p (capacity k) i before after (r .outcome) (h .sane .shaped) s does (h .addsUp);
+          bounded = does-bounded p (capacity k) i before after (r .outcome) (h .sane .shaped) s does (h .bounded);
+        }
+
+  -- so it holds after every list of a run's calls
+  pub honest : (m : Mem) → answerSays (begin limits p k m .answer) ≡ accepted → (cs : List Call) → Honest limits p k (reached limits p k m cs)
+  honest = always limits p k (Honest limits p k) begun-honest step-honest
+
+-- what is known of the memory after a run's calls
+pub honest-run : (r : Run) → Honest (r .limits) (r .workers) (r .slots) (memoryOf r)
+honest-run r = honest (r .limits) (r .workers) (r .slots) (r .lent) (r .accepts) (r .calls)

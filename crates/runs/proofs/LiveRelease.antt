@@ -1,0 +1,214 @@
+-- Where a run isn't finished and an idle worker has a successor to release, its Release is accepted if no task waits for any worker: then every
+-- ring has room.
+use Prim.Native.Nat.{ℕ, suc, _+_, _-_, _*_, _%_, _≤_, _<_}
+use mathlib.Core.Path.{_≡_, refl, sym, ap, _∙_}
+use mathlib.Core.List.{List, [], _∷_, _++_}
+use native.Mathlib.Omega.{arith}
+use native.Mathlib.Decide.{ℕ-discrete, decLt}
+use native.Mathlib.Nat.{add-zero, mod-lt}
+use lib.ListN.{length, getD, List·getD-eq-default, List·getD-append}
+use lib.Seq.{drop-nil, getD-drop}
+use Rattle.lists.specs.Lists.{tabulate}
+use Rattle.lists.proofs.Apart.{cons-not-nil}
+use Rattle.lists.proofs.Appends.{head-same}
+use Rattle.lists.proofs.Blocks.{length-tabulate}
+use Rattle.lists.proofs.Decided.{stable}
+use Rattle.lists.proofs.Places.{place-parts}
+use Rattle.task.specs.Refusals.{stepSays}
+use Rattle.task.specs.Rows.{Acceptance}
+use Rattle.task.specs.declared.Limits.{Limits}
+use Rattle.task.specs.declared.Row.{Row}
+use Rattle.task.specs.declared.Step.the-variants.{Release}
+use Rattle.task.specs.declared.StepOutcome.{StepOutcome}
+use Rattle.ring.specs.Ring.{Full}
+use Rattle.ring.proofs.Ends.{capacity-suc}
+use Rattle.ring.proofs.Queues.{queue-full}
+use Rattle.choice.specs.Least.{target}
+use Rattle.choice.proofs.Least.{target-is}
+use Rattle.rules.specs.Memory.{Mem, tasks, edges, ringNumber, endsIn, ringsIn, counterIn, degreeIn, rowIn, succCount, acceptedIn, oldest, successor}
+use Rattle.rules.specs.Updates.{Update}
+use Rattle.rules.specs.Steps.{step}
+use Rattle.rules.specs.Tables.{BadCounter, StopsAt, offeredEnds}
+use Rattle.rules.specs.Moves.{Ranged, Advances, next, last, Releasing, waiting, placed, Releases}
+use Rattle.rules.proofs.Makes.{allowed-accepted}
+use Rattle.algorithm1.specs.State.{Thread, State, successorsOf, queueOf, threadOf, waitingFor}
+use Rattle.algorithm1.specs.Reading.{threadIn, successorsIn, stateOf}
+use Rattle.algorithm1.proofs.Readings.{successors-at, queue-at, thread-at, length-successors, successor-at}
+use Rattle.algorithm1.proofs.Memories.{between, thread-from, places-fit, between-first}
+use Rattle.system.specs.Stages.{idle}
+use Rattle.runs.specs.Counters.{handOf, Within}
+use Rattle.runs.proofs.Invariant.{followers, pendingOf, Buffered}
+use Rattle.runs.proofs.Waiting.{waiting-none}
+use Rattle.runs.proofs.Honest.{Honest}
+use Rattle.runs.proofs.Weights.{honest-within}
+use Rattle.runs.proofs.Live.{within-range, row-phase, joined-recorded, task-ranged, ends-sound}
+
+-- what a thread has to release first is the successor at the cursor of the oldest task in its buffer
+record FirstDue (s : State) (r : Thread) (x : ℕ) : Type 0 where
+  task : ℕ
+  others : List ℕ
+  buffer : r .buffer ≡ task ∷ others
+  inside : r .cursor < length (successorsOf s task)
+  there : x ≡ getD (successorsOf s task) (r .cursor) 0
+
+first-due : (s : State) (r : Thread) (x : ℕ) (rest : List ℕ) → Buffered s r → pendingOf s r ≡ x ∷ rest → FirstDue s r x
+unfolding pendingOf followers
+first-due s r x rest b e = go (r .buffer) refl
+  where
+    go : (l : List ℕ) → r .buffer ≡ l → FirstDue s r x
+    go [] q = absurd (cons-not-nil x rest (sym (rw q at e) ∙ drop-nil (r .cursor)))
+    go (t ∷ ts) q =
+        record {
+          task = t;
+          others = ts;
+          buffer = q;
+          inside = b .cursor t ts q;
+          there =
+              ap (λ (l : List ℕ). getD l 0 0) (sym (rw q at e))
+              ∙ getD-drop (r .cursor) (successorsOf s t ++ followers s ts) 0 0
+              ∙ ap (λ (n : ℕ). getD (successorsOf s t ++ followers s ts) n 0) (add-zero (r .cursor))
+              ∙ List·getD-append (successorsOf s t) (followers s ts) 0 (r .cursor) (b .cursor t ts q);
+        }
+
+-- a number that isn't a task's has no successors
+successors-task : (p k : ℕ) (m : Mem) (t : ℕ) → 0 < length (successorsOf (stateOf p k m) t) → t < tasks m
+unfolding stateOf
+successors-task p k m t h =
+    stable (decLt t (tasks m))
+    (λ n. omega (
+      arith,
+      h,
+      ap length (List·getD-eq-default (tabulate (tasks m) (successorsIn m)) [] {n = t} (omega (arith, n, length-tabulate (tasks m) (successorsIn m)))),
+    ))
+
+-- the row after a Release
+advanced : (count : ℕ) (r : Row) → r .cursor < count → (row : Row) × Advances count r row
+advanced count r h = go (ℕ-discrete (suc (r .cursor)) count)
+  where
+    go : Dec (suc (r .cursor) ≡ count) → (row : Row) × Advances count r row
+    go (yes e) = (_, last e)
+    go (no n) = (_, next (omega (arith, h, n)))
+
+-- all P·P counters are in their range
+counters-within : (p : ℕ) (m : Mem) → ((i j : ℕ) → i < p → j < p → Within (counterIn m (ringNumber p i j))) → ¬ (BadCounter (p * p) (m .counters))
+counters-within p m within (q, l, beyond) =
+    let (i, j, hi, hj, e) = place-parts p p q l in
+    within-range (counterIn m q) (rw e at (within i j hi hj)) beyond
+
+module _ {limits : Limits} {p k : ℕ} {m : Mem} (h : Honest limits p k m) (i : ℕ) (worker : i < p) where
+  -- the buffer places end within N
+  pub few-places : rowIn m i .write ≤ tasks m
+  few-places = omega (arith, joined-recorded h i worker, h .words .entries)
+
+  pub buffer-is : threadIn m i .buffer ≡ between m i (rowIn m i .read) (rowIn m i .write)
+  buffer-is =
+      ap (λ (r : Thread). r .buffer) (thread-from m i) ∙ places-fit m i (rowIn m i .read) (rowIn m i .write) (h .words .places i worker) few-places
+
+  -- a buffer that isn't empty has the oldest task first
+  buffer-some : (t : ℕ) (ts : List ℕ) → threadIn m i .buffer ≡ t ∷ ts → rowIn m i .read < rowIn m i .write
+  buffer-some t ts e = omega (arith, sym (length-tabulate (rowIn m i .write - rowIn m i .read) _) ∙ ap length (sym buffer-is ∙ e))
+
+  buffer-oldest : (t : ℕ) (ts : List ℕ) → threadIn m i .buffer ≡ t ∷ ts → t ≡ oldest m i
+  buffer-oldest t ts e = head-same (sym e ∙ buffer-is ∙ between-first m i (rowIn m i .read) (rowIn m i .write) (buffer-some t ts e))
+
+  -- the first that is due is the successor that the rules release, and their words are in their ranges
+  releasing : (x : ℕ) → FirstDue (stateOf p k m) (threadIn m i) x → x < tasks m → 1 ≤ degreeIn m x → degreeIn m x ≤ tasks m
+      → (row : Row) × Releasing i m row
+  unfolding threadIn
+  releasing x due below positive few =
+      let (row, advances) = advanced (succCount m (oldest m i)) (rowIn m i) cursor in (
+        row,
+        record {
+          notEmpty = buffer-some (due .task) (due .others) (due .buffer);
+          places = few-places;
+          task = ranged;
+          cursor = cursor;
+          below = rw x-is at below;
+          positive = rw x-is at positive;
+          few = rw x-is at few;
+          advances = advances;
+        },
+      )
+    where
+      is-oldest : due .task ≡ oldest m i
+      is-oldest = buffer-oldest (due .task) (due .others) (due .buffer)
+
+      task : oldest m i < tasks m
+      task = rw is-oldest at (successors-task p k m (due .task) (omega (arith, due .inside)))
+
+      ranged : Ranged m (oldest m i)
+      ranged = task-ranged h i worker (oldest m i) task
+
+      successors-are : successorsOf (stateOf p k m) (due .task) ≡ successorsIn m (oldest m i)
+      successors-are = ap (successorsOf (stateOf p k m)) is-oldest ∙ successors-at p k m (oldest m i) task
+
+      cursor : rowIn m i .cursor < succCount m (oldest m i)
+      cursor =
+          omega (arith, due .inside, ap length successors-are, length-successors m (oldest m i) (h .fits .lengths .others .succs) ranged)
+
+      x-is : x ≡ successor m i
+      x-is = due .there ∙ ap (λ (l : List ℕ). getD l (rowIn m i .cursor) 0) successors-are ∙ successor-at m (oldest m i) (rowIn m i .cursor) cursor
+
+  -- an empty ring isn't full: it has two slots or more
+  empty-room : (o : ℕ) → o < p → queueOf (stateOf p k m) o i ≡ [] → ¬ (Full k (endsIn m (ringNumber p o i)))
+  empty-room o owner none full =
+      omega (
+        arith,
+        h .fits .twoSlots,
+        capacity-suc k (omega (arith, h .fits .twoSlots)),
+        sym (queue-full 0 k (ringsIn m) (ringNumber p o i) (ends-sound h o owner i worker) .0 full)
+            ∙ ap length (sym (queue-at p k m o i owner worker) ∙ none),
+      )
+
+  -- so where nothing waits, the search stops at its first ring
+  room-first : ((o : ℕ) → o < p → waitingFor p (stateOf p k m) o ≡ []) → (j : ℕ) → StopsAt p k (Full k) (offeredEnds p i m j) 0
+  room-first none j =
+      record {
+        inside = h .fits .oneWorker;
+        goesOn = λ d l. absurd (omega (arith, l));
+        sound = ends-sound h ((j + 0) % p) owner i worker;
+        stops = empty-room ((j + 0) % p) owner (waiting-none p (stateOf p k m) ((j + 0) % p) (none ((j + 0) % p) owner) i worker);
+      }
+    where
+      owner : (j + 0) % p < p
+      owner = mod-lt (j + 0) (h .fits .oneWorker)
+
+  -- the run isn't finished
+  module _ (low : acceptedIn m < 3 * tasks m + edges m) where
+    pub release-live : (x : ℕ) (rest : List ℕ) → handOf (threadOf (stateOf p k m) i) ≡ idle
+        → pendingOf (stateOf p k m) (threadOf (stateOf p k m) i) ≡ x ∷ rest
+        → x < tasks m → 1 ≤ degreeIn m x → degreeIn m x ≤ tasks m → ((o : ℕ) → o < p → waitingFor p (stateOf p k m) o ≡ [])
+        → Acceptance (stepSays (step limits p k i Release m .answer))
+    release-live x rest hand pending below positive few none =
+        let (row, common) = releasing x due below positive few in
+        go row common (ℕ-discrete (degreeIn m (successor m i)) 1)
+      where
+        due : FirstDue (stateOf p k m) (threadIn m i) x
+        due = rw (thread-at p k m i worker) at (first-due (stateOf p k m) (threadOf (stateOf p k m) i) x rest (h .sane .buffers i) pending)
+
+        accepts : (o : StepOutcome) (us : List Update) → Releases p k i m o us → Acceptance (stepSays (step limits p k i Release m .answer))
+        accepts o us r =
+            allowed-accepted limits p k i Release m o us
+            (record { fits = h .fits; worker = worker; phase = row-phase h i worker idle hand; low = low; made = r })
+
+        go : (row : Row) → Releasing i m row → Dec (degreeIn m (successor m i) ≡ 1) → Acceptance (stepSays (step limits p k i Release m .answer))
+        go row common (yes e) =
+            accepts _ _
+            (placed (record {
+              row = row;
+              common = common;
+              ready = e;
+              counters = counters-within p m (honest-within h);
+              target = target p (m .counters);
+              least = target-is p (m .counters) (h .fits .oneWorker);
+              distance = 0;
+              stop = room-first none (target p (m .counters));
+              owner = (target p (m .counters) + 0) % p;
+              ownerIs = refl;
+              ring = ringNumber p ((target p (m .counters) + 0) % p) i;
+              ringIs = refl;
+              light = h .graph .light (successor m i) (common .below);
+              outcome = refl;
+              updates = refl;
+            }))
+        go row common (no n) = accepts _ _ (waiting (record { row = row; common = common; notReady = n; outcome = refl; updates = refl }))

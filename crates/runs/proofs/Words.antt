@@ -1,0 +1,179 @@
+-- The words that are no part of Algorithm 1's state: an accepted begin leaves them as `Words` says, and every accepted step keeps them so.
+use Prim.Native.Nat.{ℕ, _+_, _*_, _≤_, _<_}
+use mathlib.Core.Path.{_≡_, refl, sym, ap, _∙_}
+use mathlib.Core.Bool.{cond}
+use mathlib.Core.List.{List}
+use native.Mathlib.Omega.{arith}
+use native.Mathlib.Decide.{ℕ-discrete}
+use lib.ListN.{length, getD, set}
+use lib.Seq.{getD-set-same}
+use lib.Dec.{eqb}
+use Rattle.lists.specs.Circles.{after}
+use Rattle.lists.specs.Sums.{sumTo}
+use Rattle.lists.proofs.Told.{Told, told-true, told-false, same-told}
+use Rattle.lists.proofs.Sums.{sum-zero, sum-at}
+use Rattle.lists.proofs.Places.{place-parts}
+use Rattle.task.specs.Types.{idle}
+use Rattle.task.specs.Refusals.{accepted, answerSays}
+use Rattle.task.specs.declared.Ends.{Ends}
+use Rattle.task.specs.declared.Limits.{Limits}
+use Rattle.task.specs.declared.Row.{Row}
+use Rattle.task.specs.declared.Step.{Step}
+use Rattle.task.specs.declared.Step.the-variants.{Fetch, Start, Complete, Release}
+use Rattle.task.specs.declared.StepOutcome.{StepOutcome}
+use Rattle.ring.specs.Ring.{endsAt, storeEnds, Sound, headOn, tailOn, queue}
+use Rattle.ring.proofs.Ends.{stored-sound, sound-append, sound-take, filled-sound}
+use Rattle.ring.proofs.Queues.{length-queue}
+use Rattle.rules.specs.Memory.{Mem, tasks, ringNumber, ringsIn, endsIn, rowIn, entriesIn}
+use Rattle.rules.specs.Updates.{Update, updated, written}
+use Rattle.rules.specs.Plans.{withCount}
+use Rattle.rules.specs.Steps.{step}
+use Rattle.rules.specs.Begin.{begin}
+use Rattle.rules.specs.Begun.{LaidDown, rootsOf}
+use Rattle.rules.specs.Moves.{Allowed, AcceptedStep, Made, Advances, next, last, sink, inner, waiting, placed, entriesNext}
+use Rattle.rules.proofs.Moves.{step-accepts}
+use Rattle.rules.proofs.Moved.{rows-other, entries-after}
+use Rattle.rules.proofs.Kept.{step-keeps}
+use Rattle.rules.proofs.Begin.{begin-accepted}
+use Rattle.rules.proofs.Begun.{laid-row, laid-run, laid-down}
+use Rattle.runs.proofs.Invariant.{Words}
+
+-- After an accepted begin.
+module _ (limits : Limits) (p k : ℕ) (m : Mem) (e : answerSays (begin limits p k m .answer) ≡ accepted) where
+  abbrev b : Mem
+  b = begin limits p k m .memory
+
+  laid : LaidDown p k m b
+  laid = laid-down limits p k m e
+
+  begun-tail : (i j : ℕ) → i < p → j < p → endsIn b (ringNumber p i j) .tail ≡ length (queue 0 k (ringsIn b) (ringNumber p i j))
+  begun-tail i j hi hj = laid .tail i j hi hj ∙ go (same-told i j)
+    where
+      go : Told (eqb i j) (i ≡ j) (¬ (i ≡ j)) → cond (eqb i j) (length (rootsOf p i m)) 0 ≡ length (queue 0 k (ringsIn b) (ringNumber p i j))
+      go (told-true t s) = rw (t, sym s) (sym (ap length (laid .own i hi)))
+      go (told-false f n) = rw f (sym (ap length (laid .empty i j hi hj n)))
+
+  pub begun-words : Words p k b
+  begun-words =
+      record {
+        ends = ends;
+        places = λ i h. rw (laid-row laid i) (omega arith);
+        filled = omega (arith, sum-zero p (λ i. rowIn b i .write) (λ i h. ap (λ (r : Row). r .write) (laid-row laid i)));
+        entries = omega (arith, laid-run laid 0);
+      }
+    where
+      ends : (q : ℕ) → q < p * p → Sound k (endsIn b q)
+      ends q h =
+          let (i, j, hi, hj, s) = place-parts p p q h in
+          let two : 2 ≤ k = begin-accepted limits p k m .0 e .0 .twoSlots in
+          let q′ : ℕ = ringNumber p i j in
+          rw (sym s) (filled-sound k (endsIn b q′) (omega (arith, two)) (laid .head q′) (begun-tail i j hi hj ∙ length-queue 0 k (ringsIn b) q′))
+
+-- what Release does to the places
+advanced-places : {count : ℕ} {r row : Row} → r .read < r .write → Advances count r row → (row .read ≤ row .write) × (row .write ≡ r .write)
+advanced-places h (next c) = (omega (arith, h), refl)
+advanced-places h (last c) = (omega (arith, h), refl)
+
+-- what an accepted step of worker i leaves of the ends and the rows; at most the one task that Complete records joins a buffer
+record Leaves (p k i : ℕ) (s : Step) (m m′ : Mem) : Type 0 where
+  ends : (q : ℕ) → q < p * p → Sound k (endsIn m′ q)
+  row : Row
+  rows : m′ .rows ≡ set (m .rows) i row
+  places : row .read ≤ row .write
+  joins : row .write ≤ entriesNext s (rowIn m i .write)
+
+module _ (limits : Limits) (p k i : ℕ) (m : Mem) (w : Words p k m) where
+  stored : {s : Step} {o : StepOutcome} {us : List Update} → Allowed limits p k i s m o us
+      → (q : ℕ) (e : Ends) → Sound k e → (r : ℕ) → r < p * p → Sound k (endsAt (storeEnds (m .ends) q e) r)
+  stored a q e = stored-sound k (p * p) (m .ends) q e (a .fits .lengths .others .ends) (w .ends)
+
+  made-leaves : (s : Step) (o : StepOutcome) (us : List Update) → Allowed limits p k i s m o us → Leaves p k i s m (written (withCount m us) m)
+  unfolding written updated headOn tailOn after
+  made-leaves Fetch o us a =
+      let f : Made Fetch p k i m o us = a .made in
+      rw (f .updates)
+      (record {
+        ends = stored a (f .ring) _ (sound-take k (endsIn m (f .ring)) (rw (f .ringIs) (f .stop .sound)));
+        row = _;
+        rows = refl;
+        places = w .places i (a .worker);
+        joins = omega arith;
+      })
+  made-leaves Start o us a =
+      let f : Made Start p k i m o us = a .made in
+      rw (f .updates) (record { ends = w .ends; row = _; rows = refl; places = w .places i (a .worker); joins = omega arith })
+  made-leaves Complete o us a = go (a .made)
+    where
+      go : Made Complete p k i m o us → Leaves p k i Complete m (written (withCount m us) m)
+      go (sink f) = rw (f .updates) (record { ends = w .ends; row = _; rows = refl; places = w .places i (a .worker); joins = omega arith })
+      go (inner f) = rw (f .updates) (record { ends = w .ends; row = _; rows = refl; places = omega (arith, f .places); joins = omega arith })
+  made-leaves Release o us a = go (a .made)
+    where
+      go : Made Release p k i m o us → Leaves p k i Release m (written (withCount m us) m)
+      go (waiting f) =
+          let (c, d) = advanced-places (f .common .notEmpty) (f .common .advances) in
+          rw (f .updates) (record { ends = w .ends; row = _; rows = refl; places = c; joins = omega (arith, d) })
+      go (placed f) =
+          let (c, d) = advanced-places (f .common .notEmpty) (f .common .advances) in
+          rw (f .updates)
+          (record {
+            ends = stored a (f .ring) _ (sound-append k (endsIn m (f .ring)) (rw (f .ringIs, f .ownerIs) (f .stop .sound)));
+            row = _;
+            rows = refl;
+            places = c;
+            joins = omega (arith, d);
+          })
+
+-- the sum of all writes grows by no more than the entries
+within : (s : Step) (old new write write′ entries entries′ : ℕ) → new + write ≡ old + write′ → write′ ≤ entriesNext s write → old ≤ entries
+    → entries′ ≡ entriesNext s entries → new ≤ entries′
+within Fetch old new write write′ entries entries′ e j h n = omega (arith, e, j, h, n)
+within Start old new write write′ entries entries′ e j h n = omega (arith, e, j, h, n)
+within Complete old new write write′ entries entries′ e j h n = omega (arith, e, j, h, n)
+within Release old new write write′ entries entries′ e j h n = omega (arith, e, j, h, n)
+
+module _ (limits : Limits) (p k i : ℕ) (s : Step) (m : Mem) (r : AcceptedStep limits p k i s m) where
+  abbrev m′ : Mem
+  m′ = step limits p k i s m .memory
+
+  abbrev writes : Mem → ℕ → ℕ
+  writes m j = rowIn m j .write
+
+  pub step-words : Words p k m → Words p k m′
+  step-words w = record { ends = l .ends; places = places; filled = filled; entries = entries s (r .allowed .made) more }
+    where
+      l : Leaves p k i s m m′
+      l = rw (r .left) (made-leaves limits p k i m w s (r .outcome) (r .updates) (r .allowed))
+
+      row : rowIn m′ i ≡ l .row
+      row =
+          ap (λ (rows : List Row). getD rows i idle) (l .rows)
+          ∙ getD-set-same (m .rows) i (l .row) idle (omega (arith, r .allowed .worker, r .allowed .fits .lengths .others .rows))
+
+      more : entriesIn m′ ≡ entriesNext s (entriesIn m)
+      more = entries-after limits p k i s m (step-accepts limits p k i s m r)
+
+      places : (j : ℕ) → j < p → rowIn m′ j .read ≤ rowIn m′ j .write
+      places j h = go (ℕ-discrete j i)
+        where
+          go : Dec (j ≡ i) → rowIn m′ j .read ≤ rowIn m′ j .write
+          go (yes e) = rw (e, row) (l .places)
+          go (no n) = rw (rows-other limits p k i s m j n) (w .places j h)
+
+      sums : sumTo p (writes m′) + writes m i ≡ sumTo p (writes m) + l .row .write
+      sums =
+          sum-at p (writes m) (writes m′) i (r .allowed .worker) (λ j n. ap (λ (r : Row). r .write) (rows-other limits p k i s m j n))
+          ∙ ap (λ (r : Row). sumTo p (writes m) + r .write) row
+
+      filled : sumTo p (writes m′) ≤ entriesIn m′
+      filled = within s _ _ (writes m i) (l .row .write) (entriesIn m) (entriesIn m′) sums (l .joins) (w .filled) more
+
+      same : tasks m′ ≡ tasks m
+      same = ap length (step-keeps limits p k i s m .graph .weights)
+
+      entries : (s : Step) → Made s p k i m (r .outcome) (r .updates) → entriesIn m′ ≡ entriesNext s (entriesIn m) → entriesIn m′ ≤ tasks m′
+      entries Fetch f e = omega (arith, e, w .entries, same)
+      entries Start f e = omega (arith, e, w .entries, same)
+      entries Complete (sink f) e = omega (arith, e, f .common .entries, same)
+      entries Complete (inner f) e = omega (arith, e, f .common .entries, same)
+      entries Release f e = omega (arith, e, w .entries, same)

@@ -1,0 +1,25 @@
+-- What a finished run leaves: nothing to do.
+use Prim.Native.Nat.{ℕ, _<_}
+use mathlib.Core.Path.{_≡_}
+use mathlib.Core.List.{[]}
+use Rattle.task.specs.Refusals.{Said, stepSays}
+use Rattle.task.specs.declared.Step.{Step}
+use Rattle.ring.specs.Ring.{Sound, Empty}
+use Rattle.rules.specs.Memory.{ringNumber, endsIn, degreeIn, rowIn}
+use Rattle.rules.specs.Steps.{step}
+use Rattle.algorithm1.specs.Reading.{queueIn}
+use Rattle.runs.specs.Calls.{Run, memoryOf}
+
+-- what a worker's step with begin's P and K would be answered next
+abbrev pub nextSays : Run → ℕ → Step → Said
+nextSays r i s = stepSays (step (r .limits) (r .workers) (r .slots) i s (memoryOf r) .answer)
+
+-- nothing is left to do
+pub record AtRest (r : Run) : Type 0 where
+  -- each ring's list is empty, and it isn't so because one of the ends is damaged: head and tail are one slot
+  pub queues : (i j : ℕ) → i < r .workers → j < r .workers → queueIn (r .workers) (r .slots) (memoryOf r) i j ≡ []
+  pub rings : (i j : ℕ) → i < r .workers → j < r .workers
+      → Sound (r .slots) (endsIn (memoryOf r) (ringNumber (r .workers) i j)) × Empty (endsIn (memoryOf r) (ringNumber (r .workers) i j))
+  pub phases : (i : ℕ) → i < r .workers → _≡_ {A = ℕ} (rowIn (memoryOf r) i .phase) 0
+  pub buffers : (i : ℕ) → i < r .workers → rowIn (memoryOf r) i .read ≡ rowIn (memoryOf r) i .write
+  pub degrees : (t : ℕ) → _≡_ {A = ℕ} (degreeIn (memoryOf r) t) 0

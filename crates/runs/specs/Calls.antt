@@ -1,0 +1,136 @@
+-- "A run starts at an accepted begin .. A list of calls follows: Fetch, Start, Complete and Release with any worker, P and K, accepted or
+-- refused, and refused begins. Each finds the words that the last one left; a lookup in between writes nothing."
+use Prim.Native.Nat.{ℕ, suc}
+use mathlib.Core.Path.{_≡_}
+use mathlib.Core.Bool.{Bool, true, false, cond}
+use mathlib.Core.List.{List, [], _∷_}
+use lib.Dec.{eqb}
+use Rattle.task.specs.Refusals.{Said, refused, accepted, graphRead, taskFetched, degreeLeft, taskPlaced, answerSays, stepSays}
+use Rattle.task.specs.declared.Limits.{Limits}
+use Rattle.task.specs.declared.Side.{Side}
+use Rattle.task.specs.declared.Step.{Step}
+use Rattle.task.specs.declared.Step.the-variants.{Fetch, Start, Complete, Release}
+use Rattle.graph.specs.Lookup.{lentOf, judgeAnswer}
+use Rattle.rules.specs.Memory.{Mem}
+use Rattle.rules.specs.Steps.{step}
+use Rattle.rules.specs.Begin.{begin}
+
+pub data Call : Type 0 where
+  stepCall : (p k worker : ℕ) → Step → Call
+  beginCall : (p k : ℕ) → Call
+  lookupCall : Side → (task : ℕ) → Call
+
+-- one of the four steps; a lookup or a begin is none
+abbrev pub isStep : Call → Bool
+isStep (stepCall p k i s) = true
+isStep (beginCall p k) = false
+isStep (lookupCall side t) = false
+
+abbrev pub isFetch : Step → Bool
+isFetch Fetch = true
+isFetch Start = false
+isFetch Complete = false
+isFetch Release = false
+
+-- a Fetch by worker i
+abbrev pub fetchBy : ℕ → Call → Bool
+fetchBy i (stepCall p k w s) = cond (isFetch s) (eqb w i) false
+fetchBy i (beginCall p k) = false
+fetchBy i (lookupCall side t) = false
+
+abbrev pub isCompletion : Step → Bool
+isCompletion Fetch = false
+isCompletion Start = false
+isCompletion Complete = true
+isCompletion Release = false
+
+abbrev pub isComplete : Call → Bool
+isComplete (stepCall p k i s) = isCompletion s
+isComplete (beginCall p k) = false
+isComplete (lookupCall side t) = false
+
+-- the worker that takes a step; 0 for the other calls
+abbrev pub workerOf : Call → ℕ
+workerOf (stepCall p k i s) = i
+workerOf (beginCall p k) = 0
+workerOf (lookupCall side t) = 0
+
+-- what a call answers (of a lookup its judging call), and the memory that it leaves
+unfoldable pub says : Limits → Call → Mem → Said
+says limits (stepCall p k i s) m = stepSays (step limits p k i s m .answer)
+says limits (beginCall p k) m = answerSays (begin limits p k m .answer)
+says limits (lookupCall side t) m = answerSays (judgeAnswer side (lentOf (m .weights) (m .predStarts) (m .preds) (m .succStarts) (m .succs)) t)
+
+unfoldable pub leaves : Limits → Call → Mem → Mem
+leaves limits (stepCall p k i s) m = step limits p k i s m .memory
+leaves limits (beginCall p k) m = begin limits p k m .memory
+leaves limits (lookupCall side t) m = m
+
+-- a call and its answer
+pub record Event : Type 0 where
+  pub call : Call
+  pub said : Said
+
+abbrev pub eventOf : Limits → Call → Mem → Event
+eventOf limits c m = record { call = c; said = says limits c m }
+
+abbrev pub acceptedSaid : Said → Bool
+acceptedSaid (refused n d) = false
+acceptedSaid accepted = true
+acceptedSaid (graphRead n e) = true
+acceptedSaid (taskFetched t) = true
+acceptedSaid (degreeLeft d) = true
+acceptedSaid (taskPlaced t w) = true
+
+-- the event is an accepted begin
+abbrev pub beganBy : Call → Bool → Bool
+beganBy (stepCall p k i s) a = false
+beganBy (beginCall p k) a = a
+beganBy (lookupCall side t) a = false
+
+unfoldable pub began : Event → Bool
+began e = beganBy (e .call) (acceptedSaid (e .said))
+
+-- the memory after a list of calls
+unfoldable pub memoryAfter : Limits → List Call → Mem → Mem
+memoryAfter limits [] m = m
+memoryAfter limits (c ∷ cs) m = memoryAfter limits cs (leaves limits c m)
+
+-- the events of the run so far, the latest first: "a further accepted begin starts another run"
+unfoldable pub recalled : Event → List Event → List Event
+recalled e past = cond (began e) [] (e ∷ past)
+
+-- after a list of calls, `past` being what came before it
+unfoldable pub eventsAfter : Limits → List Call → Mem → List Event → List Event
+eventsAfter limits [] m past = past
+eventsAfter limits (c ∷ cs) m past = eventsAfter limits cs (leaves limits c m) (recalled (eventOf limits c m) past)
+
+-- how many of the calls are accepted begins
+unfoldable pub begins : Limits → List Call → Mem → ℕ
+begins limits [] m = 0
+begins limits (c ∷ cs) m = cond (began (eventOf limits c m)) (suc (begins limits cs (leaves limits c m))) (begins limits cs (leaves limits c m))
+
+-- the memory that begin leaves, and that after the run's calls
+abbrev pub begunMemory : Limits → ℕ → ℕ → Mem → Mem
+begunMemory limits p k m = begin limits p k m .memory
+
+abbrev pub reached : Limits → ℕ → ℕ → Mem → List Call → Mem
+reached limits p k m cs = memoryAfter limits cs (begunMemory limits p k m)
+
+-- "For every list of calls from an accepted begin on": an accepted begin on any memory, with any P and K, and the calls after it
+pub record Run : Type 0 where
+  pub limits : Limits
+  pub workers : ℕ
+  pub slots : ℕ
+  -- the memory before begin
+  pub lent : Mem
+  pub accepts : answerSays (begin limits workers slots lent .answer) ≡ accepted
+  pub calls : List Call
+
+-- the memory after the run's calls
+abbrev pub memoryOf : Run → Mem
+memoryOf r = reached (r .limits) (r .workers) (r .slots) (r .lent) (r .calls)
+
+-- the calls of the run that then goes on, with their answers, the latest first: those since the last accepted begin
+abbrev pub eventsOf : Run → List Event
+eventsOf r = eventsAfter (r .limits) (r .calls) (begunMemory (r .limits) (r .workers) (r .slots) (r .lent)) []

@@ -1,0 +1,77 @@
+-- Demand 3, one claim about whole lists of a run's calls. What is counted is counted from the calls and their answers; the record is the lent words.
+use Prim.Native.Nat.{ℕ, suc, _+_, _*_, _≤_, _<_}
+use mathlib.Core.Path.{_≡_}
+use mathlib.Core.Bool.{Bool, cond, _&&_}
+use mathlib.Core.Logic.{_↔_}
+use mathlib.Core.List.{List, [], _∷_}
+use native.Mathlib.Decide.{ℕ-discrete}
+use lib.ListN.{getD}
+use Rattle.lists.specs.Lists.{tabulate}
+use Rattle.task.specs.Types.{nil}
+use Rattle.task.specs.Refusals.{stepSays}
+use Rattle.task.specs.Rows.{Acceptance}
+use Rattle.task.specs.declared.Step.{Step}
+use Rattle.graph.specs.Graph.{Edge}
+use Rattle.exchange.specs.Exchange.{Allows}
+use Rattle.exchange.specs.Pairs.{eachOnce, TaskExchanges}
+use Rattle.rules.specs.Memory.{Mem, tasks, edges, graphIn}
+use Rattle.rules.specs.Steps.{step}
+use Rattle.runs.specs.Calls.{Call, isStep, isComplete, Event, acceptedSaid, Run, memoryOf, eventsOf}
+
+-- how many of the events are accepted calls of the kind; a lookup or a begin is of neither kind below
+unfoldable pub acceptedOf : (Call → Bool) → List Event → ℕ
+acceptedOf kind [] = 0
+acceptedOf kind (e ∷ es) = cond (kind (e .call) && acceptedSaid (e .said)) (suc (acceptedOf kind es)) (acceptedOf kind es)
+
+abbrev pub acceptedSteps : List Event → ℕ
+acceptedSteps = acceptedOf isStep
+
+abbrev pub acceptedCompletes : List Event → ℕ
+acceptedCompletes = acceptedOf isComplete
+
+-- "The run is finished once N of its Completes are accepted"
+pub record Finished (r : Run) : Type 0 where
+  pub completes : tasks (r .lent) ≤ acceptedCompletes (eventsOf r)
+
+-- the record's lent words: pair x is (task, worker), NIL where there is no such word
+abbrev pub taskWord : Mem → ℕ → ℕ
+taskWord m x = getD (m .executed) (2 * x) (nil .0)
+
+abbrev pub workerWord : Mem → ℕ → ℕ
+workerWord m x = getD (m .executed) (2 * x + 1) (nil .0)
+
+-- the run's task order: the tasks of the first N pairs of the record
+unfoldable pub orderOf : Run → List ℕ
+orderOf r = tabulate (tasks (r .lent)) (taskWord (memoryOf r))
+
+-- "It allows a list that holds each of the N tasks once, after all its predecessors.": the graph in the tables that begin was lent
+abbrev pub AllowedOrder : Mem → List ℕ → Type 0
+AllowedOrder m l = Allows ℕ-discrete (eachOnce (tasks m)) (Edge (graphIn m)) l
+
+-- one run, after its list of calls
+pub record OneRun (r : Run) : Type 0 where
+  -- "with N tasks and E edges a finished run has exactly 3N + E accepted steps"
+  pub steps : Finished r → acceptedSteps (eventsOf r) ≡ 3 * tasks (r .lent) + edges (r .lent)
+  -- "and a record that holds every task once, after all its predecessors", each beside one of the workers
+  pub order : Finished r → AllowedOrder (r .lent) (orderOf r)
+  pub named : Finished r → (x : ℕ) → x < tasks (r .lent) → workerWord (memoryOf r) x < r .workers
+  -- "and in an unfinished one some worker has a step that would be accepted next", with begin's P and K
+  pub next : ¬ (Finished r)
+      → (i : ℕ) × (s : Step) × (i < r .workers) × Acceptance (stepSays (step (r .limits) (r .workers) (r .slots) i s (memoryOf r) .answer))
+
+-- "Two runs are of one graph if N and the edges agree."
+pub record OneGraph (r r′ : Run) : Type 0 where
+  pub sameTasks : tasks (r .lent) ≡ tasks (r′ .lent)
+  pub sameEdges : (u t : ℕ) → Edge (graphIn (r .lent)) u t ↔ Edge (graphIn (r′ .lent)) u t
+
+-- "the records differ only in the order of tasks and the workers named: one task order becomes the other by exchanging neighbours that the graph
+-- doesn't order, one exchange for each pair that the two order differently, every list on the way being an order the graph allows"
+abbrev pub Exchanges : Run → Run → Type 0
+Exchanges r r′ = TaskExchanges (tasks (r .lent)) (Edge (graphIn (r .lent))) (orderOf r) (orderOf r′)
+
+-- PROMISE: demand 3
+pub record Demand3 : Type 0 where
+  -- "For every list of calls from an accepted begin on"
+  pub one : (r : Run) → OneRun r
+  -- "For every two such lists whose finished runs are of one graph, whatever worker counts and queue lengths were accepted"
+  pub two : (r r′ : Run) → OneGraph r r′ → Finished r → Finished r′ → Exchanges r r′

@@ -1,0 +1,6 @@
+pub mod Calls
+pub mod Counters
+pub mod Fairness
+pub mod Demand
+pub mod RunWords
+pub mod AtRest

@@ -1,0 +1,6 @@
+pub mod Stages
+pub mod Records
+pub mod Kept
+pub mod Counting
+pub mod Finished
+pub mod Progress
