@@ -106,7 +106,9 @@ pub record Completes (i : ℕ) (s s′ : State) (o : StepOutcome) : Type 0 where
 -- after one pass of line 6 the cursor is on the next successor; after the last the task leaves the buffer, its share of line 13:
 -- "Completed Task ID buffer = φ"
 abbrev pub passed : ℕ → List ℕ → Thread → Thread
-passed count rest r = cond (eqb (r .cursor + 1) count) (threadWith rest 0 (r .phase) (r .held) (r .pointer)) (threadWith (r .buffer) (r .cursor + 1) (r .phase) (r .held) (r .pointer))
+passed count rest r =
+    cond (eqb (r .cursor + 1) count) (threadWith rest 0 (r .phase) (r .held) (r .pointer))
+    (threadWith (r .buffer) (r .cursor + 1) (r .phase) (r .held) (r .pointer))
 
 -- line 6: "for all T ∈ {successors of tasks in the Completed Task ID buffer of Thread i}": T is "the oldest task in i's buffer, its successor s at the
 -- cursor", and its degree can be lowered ("degree to be lowered outside 1..N" is damaged)

@@ -34,11 +34,11 @@ module _ {A : Type 0} (same : Discrete A) {E : A → A → Type 0} where
   differ-exchanged s c = rw (s .before, s .after) (differ-swap same (s .x) (s .y) (s .front) (s .back) c)
 
   module _ {want : A → ℕ} where
-    pub chain-first : {a b : List A} {n : ℕ} → Chain same want E a b n → Allows same want E a
+    chain-first : {a b : List A} {n : ℕ} → Chain same want E a b n → Allows same want E a
     chain-first (none p) = p
     chain-first (more p s r) = p
 
-    pub chain-last : {a b : List A} {n : ℕ} → Chain same want E a b n → Allows same want E b
+    chain-last : {a b : List A} {n : ℕ} → Chain same want E a b n → Allows same want E b
     chain-last (none p) = p
     chain-last (more p s r) = chain-last r
 
@@ -63,7 +63,7 @@ chain-least-tasks n E {a} {b} r =
 
 module _ {A : Type 0} (same : Discrete A) (want : A → ℕ) (E : A → A → Type 0) (one : (a : A) → want a ≤ 1) where
   -- a chain without detours exchanges only what its end has the other way round, and goes on without detours
-  pub chain-right : {a b c : List A} {n : ℕ} (s : Exchanged E a b) → Chain same want E b c n → suc n ≡ differ same a c
+  chain-right : {a b c : List A} {n : ℕ} (s : Exchanged E a b) → Chain same want E b c n → suc n ≡ differ same a c
       → Before same (s .y) (s .x) c × (n ≡ differ same b c)
   chain-right {a} {b} {c} {n} s r e = (
     tally-pos (decLt (placeOf same (s .y) c) (placeOf same (s .x) c)) (omega (arith, e, step, least)),

@@ -137,7 +137,7 @@ module _ (limits : Limits) (p k : ℕ) (m : Mem) (e : answerSays (begin limits p
   positive : 0 < p
   positive = begin-accepted limits p k m .0 e .0 .oneWorker
 
-  pub begun-sound : Sound (graphIn m)
+  begun-sound : Sound (graphIn m)
   begun-sound = fits-sound (begin-accepted limits p k m .0 e .1)
 
   pub begun-sane : Sane (graphIn m) p (stateOf p k (begin limits p k m .memory))

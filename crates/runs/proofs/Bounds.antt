@@ -69,7 +69,8 @@ module _ (p : ℕ) (s s′ : State) where
       back c = sym (+ℤ-assoc c (pos (left p s)) (pos y)) ∙ +ℤ-swap c (pos (left p s)) (pos y)
 
   -- neither the weights nor a list nor a counter changes
-  kept-bounded : s′ .weights ≡ s .weights → s′ .queues ≡ s .queues → s′ .counters ≡ s .counters → left p s′ ≡ left p s + 0 → Bounded p s → Bounded p s′
+  kept-bounded : s′ .weights ≡ s .weights → s′ .queues ≡ s .queues → s′ .counters ≡ s .counters → left p s′ ≡ left p s + 0
+      → Bounded p s → Bounded p s′
   unfolding placed waitingFor
   kept-bounded ew eq ec el =
       bounded-after 0 0 (rw (el, ew, eq) (omega arith)) el
@@ -187,7 +188,8 @@ module _ {p i : ℕ} {s s′ : State} {o : StepOutcome} (worker : i < p) (shaped
       counter : ℤ
       counter = counterOf s (f .owner) i
 
-pub does-bounded : (p capacity i : ℕ) (s s′ : State) (o : StepOutcome) → Shaped p s → (step : Step) → Does p capacity i step s s′ o → Bounded p s → Bounded p s′
+pub does-bounded : (p capacity i : ℕ) (s s′ : State) (o : StepOutcome) → Shaped p s → (step : Step) → Does p capacity i step s s′ o
+    → Bounded p s → Bounded p s′
 does-bounded p capacity i s s′ o shaped step d = go step (d .lines)
   where
     go : (step : Step) → Lines p capacity i step s s′ o → Bounded p s → Bounded p s′

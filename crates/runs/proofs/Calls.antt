@@ -154,7 +154,8 @@ module _ (limits : Limits) (p k : ℕ) {A : Type 0} (f : Mem → A)
 
 -- so it is as begin was lent it: weights and predecessor tables, and with them the graph and N
 module _ (r : Run) where
-  as-lent : {A : Type 0} (f : Mem → A) → ((m m′ : Mem) → SameGraph m m′ → f m′ ≡ f m) → ((m b : Mem) → LaidDown (r .workers) (r .slots) m b → f b ≡ f m)
+  as-lent : {A : Type 0} (f : Mem → A) → ((m m′ : Mem) → SameGraph m m′ → f m′ ≡ f m)
+      → ((m b : Mem) → LaidDown (r .workers) (r .slots) m b → f b ≡ f m)
       → f (memoryOf r) ≡ f (r .lent)
   as-lent f stepped begun =
       unwritten (r .limits) (r .workers) (r .slots) f (λ m i s. stepped m _ (step-keeps (r .limits) (r .workers) (r .slots) i s m .graph))

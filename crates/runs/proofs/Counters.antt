@@ -159,7 +159,8 @@ module _ {p i : ℕ} {s s′ : State} {o : StepOutcome} (worker : i < p) where
         changed-adds-up shaped (allocate-changes f) (ap pos (sym (sumOf-snoc (weightOf s) (queueOf s (f .owner) i) (f .task))))
 
 -- "After each step .. the split counters of a worker add up to the weight of the tasks waiting for that worker."
-pub does-adds-up : (p capacity i : ℕ) (s s′ : State) (o : StepOutcome) → Shaped p s → (step : Step) → Does p capacity i step s s′ o → AddsUp p s → AddsUp p s′
+pub does-adds-up : (p capacity i : ℕ) (s s′ : State) (o : StepOutcome) → Shaped p s → (step : Step) → Does p capacity i step s s′ o
+    → AddsUp p s → AddsUp p s′
 does-adds-up p capacity i s s′ o shaped step d = go step (d .lines)
   where
     go : (step : Step) → Lines p capacity i step s s′ o → AddsUp p s → AddsUp p s′

@@ -26,9 +26,9 @@ use Rattle.exchange.specs.Pairs.{eachOnce}
 use Rattle.exchange.proofs.Theorem.{exchange-tasks}
 use Rattle.rules.specs.Memory.{Mem, tasks, edges, graphIn, rowIn, entriesIn, acceptedIn}
 use Rattle.rules.specs.Steps.{step}
-use Rattle.algorithm1.specs.State.{Thread, State, threadOf, waitingFor}
-use Rattle.algorithm1.specs.Reading.{recordIn, threadIn, stateOf}
-use Rattle.algorithm1.proofs.Readings.{degree-at, thread-at}
+use Rattle.algorithm1.specs.State.{State, threadOf, waitingFor}
+use Rattle.algorithm1.specs.Reading.{recordIn, stateOf}
+use Rattle.algorithm1.proofs.Readings.{degree-at, phase-at}
 use Rattle.system.specs.Stages.{Hand, idle, running, inHand}
 use Rattle.system.specs.System as system
 use Rattle.system.specs.System.{Ready, toStart, toComplete, toFetch, toRelease}
@@ -89,13 +89,13 @@ module _ (r : Run) where
 
   -- While a task runs, an entry is free for it: in memory begun and stepped by the engine Complete never meets 12.
   pub running-open : (i : ℕ) → i < p → _≡_ {A = ℕ} (rowIn now i .phase) 2 → entriesIn now < tasks now
-  unfolding meaning threadIn
+  unfolding meaning
   running-open i worker e =
       omega (
         arith,
         held-few ℕ-discrete (itemsOf graph) p (allOf (tasks now)) (all-listed graph) {s = systemIn p k now} invariant-run,
         sum-prefix p (λ j. length (inHand (handOf (threadOf state j)))) i worker,
-        ap (λ (h : Hand ℕ). length (inHand h)) (hand-running (threadOf state i) (ap (λ (t : Thread). t .phase) (thread-at p k now i worker) ∙ e)),
+        ap (λ (h : Hand ℕ). length (inHand h)) (hand-running (threadOf state i) (phase-at p k now i worker ∙ e)),
         recorded-length,
         length-all (tasks now),
       )
@@ -197,7 +197,7 @@ module _ (r : Run) where
   pub finished-full : Finished r → entriesIn (memoryOf r) ≡ tasks (memoryOf r)
   finished-full f = omega (arith, f .completes, entries-word r, honest-run r .words .entries, tasks-reached r)
 
-  pub unfinished-free : ¬ (Finished r) → entriesIn (memoryOf r) < tasks (memoryOf r)
+  unfinished-free : ¬ (Finished r) → entriesIn (memoryOf r) < tasks (memoryOf r)
   unfinished-free n =
       stable (decLt (entriesIn (memoryOf r)) (tasks (memoryOf r)))
       (λ m. n (record { completes = omega (arith, m, entries-word r, tasks-reached r) }))

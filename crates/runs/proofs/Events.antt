@@ -73,6 +73,9 @@ module _ (r : Run) where
   abbrev now : Mem
   now = memoryOf r
 
+  fits : Fits (r .limits) (r .workers) (r .slots) now
+  fits = honest-run r .fits
+
   words : Words (r .workers) (r .slots) now
   words = honest-run r .words
 
@@ -93,10 +96,7 @@ module _ (r : Run) where
       ∙ ap (λ (l : List ℕ). l ++ others) (sym (ap wordsOf recorded ∙ words-pairs (entriesIn now) (now .executed) inside))
     where
       inside : 2 * entriesIn now ≤ length (now .executed)
-      inside = omega (arith, words .entries, honest-run r .fits .lengths .others .executed)
-
-  fits : Fits (r .limits) (r .workers) (r .slots) now
-  fits = honest-run r .fits
+      inside = omega (arith, words .entries, fits .lengths .others .executed)
 
   -- the run words, as the rules read them
   pub accepted-word : acceptedIn (memoryOf r) ≡ acceptedSteps (eventsOf r)
@@ -108,7 +108,7 @@ module _ (r : Run) where
   pub run-words : RunWords r
   run-words =
       record {
-        run = two-words (now .run) (fits .lengths .others .run) ∙ rw (recounts .entries, recounts .steps);
+        run = two-words (now .run) (fits .lengths .others .run) ∙ rw (entries-word, accepted-word);
         rest = others;
         record-begins = record-first ∙ ap (λ (es : List Entry). wordsOf es ++ others) (recounts .executed);
         record-size = fits .lengths .others .executed ∙ ap (λ (n : ℕ). 2 * n) (tasks-reached r);

@@ -64,7 +64,7 @@ pub record Honest (limits : Limits) (p k : ℕ) (m : Mem) : Type 0 where
   pub bounded : Bounded p (stateOf p k m)
 
 module _ (limits : Limits) (p k : ℕ) where
-  pub begun-honest : (m : Mem) → answerSays (begin limits p k m .answer) ≡ accepted → Honest limits p k (begin limits p k m .memory)
+  begun-honest : (m : Mem) → answerSays (begin limits p k m .answer) ≡ accepted → Honest limits p k (begin limits p k m .memory)
   begun-honest m e =
       record {
         fits = fits-kept (laid .weights) (laid .preds) (laid .lengths) (begin-accepted limits p k m .0 e .0);
@@ -105,11 +105,11 @@ module _ (limits : Limits) (p k : ℕ) where
     does = step-does limits p k i s m r
 
     -- an accepted step is a step of the system
-    pub system-step : system.Step ℕ-discrete (itemsOf (graphIn m)) p (systemIn p k m) (meaning p (suc (acceptedIn m)) after)
+    system-step : system.Step ℕ-discrete (itemsOf (graphIn m)) p (systemIn p k m) (meaning p (suc (acceptedIn m)) after)
     system-step =
         does-steps (graphIn m) p (capacity k) i before after (r .outcome) (h .sane) (acceptedIn m) s does
 
-    pub step-honest : Honest limits p k left
+    step-honest : Honest limits p k left
     step-honest =
         record {
           fits = fits-kept (kept .graph .weights) (kept .graph .preds) (kept .lengths p k (h .fits .lengths)) (h .fits);

@@ -33,7 +33,7 @@ use Rattle.rules.proofs.Fetch.{scan-looked}
 use Rattle.rules.proofs.Makes.{allowed-accepted, good-ranged}
 use Rattle.algorithm1.specs.State.{Thread, State, queueOf, threadOf, waitingFor}
 use Rattle.algorithm1.specs.Reading.{threadIn, stateOf}
-use Rattle.algorithm1.proofs.Readings.{queue-at, thread-at}
+use Rattle.algorithm1.proofs.Readings.{queue-at, thread-at, phase-at}
 use Rattle.system.specs.Stages.{Hand, idle, fetched, running, phase}
 use Rattle.runs.specs.Counters.{handOf, Within}
 use Rattle.runs.proofs.Hands.{hand-phase, running-held}
@@ -56,8 +56,7 @@ module _ {limits : Limits} {p k : ℕ} {m : Mem} (h : Honest limits p k m) (i : 
   thread-phase x e = hand-phase (threadOf state i) (h .sane .phases i) ∙ ap (λ (y : Hand ℕ). phase y) e
 
   pub row-phase : (x : Hand ℕ) → handOf (threadOf state i) ≡ x → rowIn m i .phase ≡ phase x
-  unfolding threadIn
-  row-phase x e = sym (ap (λ (r : Thread). r .phase) (thread-at p k m i worker)) ∙ thread-phase x e
+  row-phase x e = sym (phase-at p k m i worker) ∙ thread-phase x e
 
   row-held : (a : ℕ) → handOf (threadOf state i) ≡ running a → held m i ≡ a
   unfolding threadIn

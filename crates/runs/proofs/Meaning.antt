@@ -35,18 +35,18 @@ tasks-snoc [] e = refl
 tasks-snoc (x ∷ es) e = ap (λ (l : List ℕ). x .task ∷ l) (tasks-snoc es e)
 
 module _ (s : State) where
-  pub followers-cons : (t : ℕ) (ts : List ℕ) → followers s (t ∷ ts) ≡ successorsOf s t ++ followers s ts
+  followers-cons : (t : ℕ) (ts : List ℕ) → followers s (t ∷ ts) ≡ successorsOf s t ++ followers s ts
   unfolding followers
   followers-cons t ts = refl
 
-  pub followers-snoc : (ts : List ℕ) (t : ℕ) → followers s (ts ++ (t ∷ [])) ≡ followers s ts ++ successorsOf s t
+  followers-snoc : (ts : List ℕ) (t : ℕ) → followers s (ts ++ (t ∷ [])) ≡ followers s ts ++ successorsOf s t
   unfolding followers
   followers-snoc [] t = append-nil (successorsOf s t)
   followers-snoc (u ∷ ts) t =
       ap (λ (l : List ℕ). successorsOf s u ++ l) (followers-snoc ts t) ∙ sym (append-assoc (successorsOf s u) (followers s ts) (successorsOf s t))
 
   -- a task without successors adds none, in the buffer or not
-  pub followers-buffered : (ts : List ℕ) (t : ℕ) → followers s (buffered (successorsOf s t) t ts) ≡ followers s ts ++ successorsOf s t
+  followers-buffered : (ts : List ℕ) (t : ℕ) → followers s (buffered (successorsOf s t) t ts) ≡ followers s ts ++ successorsOf s t
   followers-buffered ts t = go (successorsOf s t) refl
     where
       go : (l : List ℕ) → successorsOf s t ≡ l → followers s (buffered l t ts) ≡ followers s ts ++ l
@@ -66,14 +66,14 @@ unfolding followers
 followers-same s s′ e [] = refl
 followers-same s s′ e (t ∷ ts) = rw (followers-same s s′ e ts, e)
 
-pub pending-same : (s s′ : State) → s′ .successors ≡ s .successors → (r : Thread) → pendingOf s′ r ≡ pendingOf s r
+pending-same : (s s′ : State) → s′ .successors ≡ s .successors → (r : Thread) → pendingOf s′ r ≡ pendingOf s r
 unfolding pendingOf
 pending-same s s′ e r = ap (drop (r .cursor)) (followers-same s s′ e (r .buffer))
 
 -- a thread's buffer, as a run keeps it
 module _ (s : State) (r : Thread) (b : Buffered s r) where
   -- the cursor is not behind the last successor
-  pub cursor-fits : r .cursor ≤ length (followers s (r .buffer))
+  cursor-fits : r .cursor ≤ length (followers s (r .buffer))
   cursor-fits = go (r .buffer) refl
     where
       go : (l : List ℕ) → r .buffer ≡ l → r .cursor ≤ length (followers s l)

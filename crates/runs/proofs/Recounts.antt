@@ -49,7 +49,6 @@ use Rattle.runs.proofs.Calls.{Still, refuses, looks, throughout}
 abbrev pub none : Entry
 none = entryOf 0 0
 
--- what the words say of the run's events so far; while a worker has a task in hand, that is the one its last accepted Fetch answered
 pub record Recounts (p : ℕ) (m : Mem) (past : List Event) : Type 0 where
   pub steps : acceptedIn m ≡ acceptedSteps past
   pub entries : entriesIn m ≡ acceptedCompletes past

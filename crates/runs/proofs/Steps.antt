@@ -76,7 +76,9 @@ module _ (g : Graph) (p i : ℕ) (worker : i < p) (s s′ : State) (sane : Sane 
                 record {
                   waiting = waiting-other p i (f .list) worker s s′ (f .rest) queues;
                   removed = record { more = fewer };
-                  hand = hand-moves (fetch-acts worker (sane .shaped) f) (hand-idle (threadOf s i) (f .phase)) (hand-fetched (holding p (f .list) (f .task) (threadOf s i)) refl);
+                  hand =
+                      hand-moves (fetch-acts worker (sane .shaped) f) (hand-idle (threadOf s i) (f .phase))
+                      (hand-fetched (holding p (f .list) (f .task) (threadOf s i)) refl);
                   done = rw (f .after);
                 };
             keeps = record { pending = pending-stays (fetch-acts worker (sane .shaped) f) refl; degree = λ a. rw (f .after); steps = refl };
@@ -102,7 +104,9 @@ module _ (g : Graph) (p i : ℕ) (worker : i < p) (s s′ : State) (sane : Sane 
             runs =
                 record {
                   waiting = λ j. rw (f .after);
-                  hand = hand-moves (start-acts worker (sane .shaped) f) (hand-fetched (threadOf s i) (f .phase)) (hand-running (executing (threadOf s i)) refl);
+                  hand =
+                      hand-moves (start-acts worker (sane .shaped) f) (hand-fetched (threadOf s i) (f .phase))
+                      (hand-running (executing (threadOf s i)) refl);
                   done = rw (f .after);
                 };
             keeps = record { pending = pending-stays (start-acts worker (sane .shaped) f) refl; degree = λ a. rw (f .after); steps = refl };

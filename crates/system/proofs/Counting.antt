@@ -11,7 +11,7 @@ use Rattle.lists.proofs.Sums.{sum-same, sum-le, sum-twice, sumOf-one, sumOf-app
 use Rattle.system.specs.Stages.{Hand, idle, fetched, running, inHand, phase, Stages, places}
 use Rattle.system.specs.System.{Items, State, Invariant}
 
-pub phase-le : {A : Type 0} (r : Hand A) → phase r ≤ 2 * length (inHand r)
+phase-le : {A : Type 0} (r : Hand A) → phase r ≤ 2 * length (inHand r)
 phase-le idle = omega arith
 phase-le (fetched a) = omega arith
 phase-le (running a) = omega arith

@@ -28,10 +28,10 @@ module _ {A : Type 0} (same : Discrete A) (G : Items A) (P : ℕ) where
     count = rw d (omega (arith, v .count, k .steps, h, sum-kept length P (k .pending)));
   }
 
-  pub fetch-keeps : {i : ℕ} {a : A} {s s′ : State A} → Fetches same G P i a s s′ → Invariant same G P s → Invariant same G P s′
+  fetch-keeps : {i : ℕ} {a : A} {s s′ : State A} → Fetches same G P i a s s′ → Invariant same G P s → Invariant same G P s′
   fetch-keeps f = moved-keeps (f .keeps) (f .takes .done) (takes-places same P (f .takes)) (omega (arith, sum-replaced phase (f .takes .hand)))
 
-  pub start-keeps : {i : ℕ} {a : A} {s s′ : State A} → Starts same G P i a s s′ → Invariant same G P s → Invariant same G P s′
+  start-keeps : {i : ℕ} {a : A} {s s′ : State A} → Starts same G P i a s s′ → Invariant same G P s → Invariant same G P s′
   start-keeps f = moved-keeps (f .keeps) (f .runs .done) (runs-places same P (f .runs)) (omega (arith, sum-replaced phase (f .runs .hand)))
 
   -- release: a successor's degree falls, and its release is due no more
@@ -50,14 +50,14 @@ module _ {A : Type 0} (same : Discrete A) (G : Items A) (P : ℕ) where
       go y (yes e) = rw (e, d, f .now) (omega (arith, v .degree x, f .was, sum-replaced (occOf same x) (p .pending), occ-hit same x x (p .rest) refl))
       go y (no m) = rw (d, f .others y m) (omega (arith, v .degree y, sum-replaced (occOf same y) (p .pending), occ-miss same y x (p .rest) m))
 
-  pub lower-keeps : {i : ℕ} {x : A} {s s′ : State A} → Lowers same G P i x s s′ → Invariant same G P s → Invariant same G P s′
+  lower-keeps : {i : ℕ} {x : A} {s s′ : State A} → Lowers same G P i x s s′ → Invariant same G P s → Invariant same G P s′
   lower-keeps {i} {x} {s} {s′} f = released-keeps (f .releases) (f .falls) (f .stays .done) (f .stays .hand) (λ y. go y (same y x))
     where
       go : (y : A) → Dec (y ≡ x) → min 1 (s′ .degree y) + places same P (s′ .stages) y ≡ min 1 (s .degree y) + places same P (s .stages) y
       go y (yes e) = rw e (omega (arith, stays-places same P (f .stays) x, f .falls .was, f .falls .now, f .blocked))
       go y (no m) = rw (stays-places same P (f .stays) y, f .falls .others y m) refl
 
-  pub place-keeps : {i o : ℕ} {x : A} {s s′ : State A} → Places same G P i o x s s′ → Invariant same G P s → Invariant same G P s′
+  place-keeps : {i o : ℕ} {x : A} {s s′ : State A} → Places same G P i o x s s′ → Invariant same G P s → Invariant same G P s′
   place-keeps {i} {o} {x} {s} {s′} f = released-keeps (f .releases) (f .falls) (f .enters .done) (f .enters .hand) (λ y. go y (same y x))
     where
       go : (y : A) → Dec (y ≡ x) → min 1 (s′ .degree y) + places same P (s′ .stages) y ≡ min 1 (s .degree y) + places same P (s .stages) y
@@ -65,7 +65,7 @@ module _ {A : Type 0} (same : Discrete A) (G : Items A) (P : ℕ) where
       go y (no m) = omega (arith, enters-places same P (f .enters) y, tally-no (same y x) m, f .falls .others y m)
 
   module _ (laws : Reversed same G) where
-    pub complete-keeps : {i : ℕ} {a : A} {s s′ : State A} → Completes same G P i a s s′ → Invariant same G P s → Invariant same G P s′
+    complete-keeps : {i : ℕ} {a : A} {s s′ : State A} → Completes same G P i a s s′ → Invariant same G P s → Invariant same G P s′
     unfolding places occOf
     complete-keeps {i} {a} {s} {s′} f v = record {
       stage = λ x. rw (finishes-places same P (f .finishes) x, f .degree x) (v .stage x);

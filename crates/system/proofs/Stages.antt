@@ -12,7 +12,7 @@ use Rattle.system.specs.Stages.{Hand, inHand, Stages, Other, Replaced, p
 
 -- sums of a number φ over the places, where one of them changes
 module _ {B : Type 0} (φ : B → ℕ) {f g : ℕ → B} where
-  pub sum-other : {n k : ℕ} → Other n k f g → sumTo n (λ j. φ (g j)) + φ (f k) ≡ sumTo n (λ j. φ (f j)) + φ (g k)
+  sum-other : {n k : ℕ} → Other n k f g → sumTo n (λ j. φ (g j)) + φ (f k) ≡ sumTo n (λ j. φ (f j)) + φ (g k)
   sum-other {n} {k} o = sum-at n (λ j. φ (f j)) (λ j. φ (g j)) k (o .inside) (λ j m. ap φ (o .others j m))
 
   pub sum-replaced : {n k : ℕ} {old new : B} → Replaced n k old new f g → sumTo n (λ j. φ (g j)) + φ old ≡ sumTo n (λ j. φ (f j)) + φ new
