@@ -31,8 +31,8 @@ use Rattle.algorithm1.proofs.Readings.{degree-at, queue-at, thread-at}
 use Rattle.system.specs.Stages.{idle}
 use Rattle.system.proofs.Finished.{finished-waiting, finished-hand, finished-degree, finished-pending}
 use Rattle.runs.specs.Calls.{Run, memoryOf}
-use Rattle.runs.specs.Demand.{Finished}
-use Rattle.runs.specs.AtRest.{nextSays, AtRest}
+use Rattle.runs.specs.Demand.{Finished, nextSays}
+use Rattle.runs.specs.AtRest.{AtRest}
 use Rattle.runs.proofs.Invariant.{followers, pendingOf, meaning, Buffered}
 use Rattle.runs.proofs.Begun.{all-listed}
 use Rattle.runs.proofs.Waiting.{waiting-none}

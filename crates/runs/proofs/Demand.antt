@@ -12,7 +12,6 @@ use Rattle.lists.proofs.Decided.{stable, tally-yes, tally-pos}
 use Rattle.lists.proofs.Occurrences.{occ-hit}
 use Rattle.lists.proofs.Sums.{sum-prefix}
 use Rattle.task.specs.Types.{nil}
-use Rattle.task.specs.Refusals.{stepSays}
 use Rattle.task.specs.Rows.{Acceptance}
 use Rattle.task.specs.declared.Step.{Step}
 use Rattle.task.specs.declared.Step.the-variants.{Fetch, Start, Complete, Release}
@@ -25,7 +24,6 @@ use Rattle.exchange.specs.Exchange.{Allows}
 use Rattle.exchange.specs.Pairs.{eachOnce}
 use Rattle.exchange.proofs.Theorem.{exchange-tasks}
 use Rattle.rules.specs.Memory.{Mem, tasks, edges, graphIn, rowIn, entriesIn, acceptedIn}
-use Rattle.rules.specs.Steps.{step}
 use Rattle.algorithm1.specs.State.{State, threadOf, waitingFor}
 use Rattle.algorithm1.specs.Reading.{recordIn, stateOf}
 use Rattle.algorithm1.proofs.Readings.{degree-at, phase-at}
@@ -37,7 +35,7 @@ use Rattle.system.proofs.Finished.{finished-record, finished-steps}
 use Rattle.system.proofs.Progress.{progress, held-wanted, waiting-wanted, pending-blocked}
 use Rattle.runs.specs.Calls.{Run, memoryOf}
 use Rattle.runs.specs.Counters.{handOf}
-use Rattle.runs.specs.Demand.{Finished, taskWord, orderOf, AllowedOrder, OneRun, OneGraph, Exchanges, Demand3}
+use Rattle.runs.specs.Demand.{Finished, taskWord, orderOf, AllowedOrder, nextSays, OneRun, OneGraph, Exchanges, Demand3}
 use Rattle.runs.proofs.Invariant.{itemsOf, pendingOf, meaning}
 use Rattle.runs.proofs.Calls.{graph-reached, tasks-reached}
 use Rattle.runs.proofs.Begun.{all-listed, items-reversed}
@@ -129,7 +127,7 @@ module _ (r : Run) where
   -- a task isn't recorded yet
   module _ (free : entriesIn now < tasks now) where
     abbrev Accepts : ℕ → Step → Type 0
-    Accepts i s = Acceptance (stepSays (step (r .limits) p k i s now .answer))
+    Accepts i s = Acceptance (nextSays r i s)
 
     some-missing : length recorded < length (allOf (tasks now))
     some-missing = omega (arith, recorded-length, free, length-all (tasks now))

@@ -2,17 +2,10 @@
 use Prim.Native.Nat.{ℕ, _<_}
 use mathlib.Core.Path.{_≡_}
 use mathlib.Core.List.{[]}
-use Rattle.task.specs.Refusals.{Said, stepSays}
-use Rattle.task.specs.declared.Step.{Step}
 use Rattle.ring.specs.Ring.{Sound, Empty}
 use Rattle.rules.specs.Memory.{ringNumber, endsIn, degreeIn, rowIn}
-use Rattle.rules.specs.Steps.{step}
 use Rattle.algorithm1.specs.Reading.{queueIn}
 use Rattle.runs.specs.Calls.{Run, memoryOf}
-
--- what a worker's step with begin's P and K would be answered next
-abbrev pub nextSays : Run → ℕ → Step → Said
-nextSays r i s = stepSays (step (r .limits) (r .workers) (r .slots) i s (memoryOf r) .answer)
 
 -- nothing is left to do
 pub record AtRest (r : Run) : Type 0 where

@@ -8,7 +8,7 @@ use native.Mathlib.Decide.{ℕ-discrete}
 use lib.ListN.{getD}
 use Rattle.lists.specs.Lists.{tabulate}
 use Rattle.task.specs.Types.{nil}
-use Rattle.task.specs.Refusals.{stepSays}
+use Rattle.task.specs.Refusals.{Said, stepSays}
 use Rattle.task.specs.Rows.{Acceptance}
 use Rattle.task.specs.declared.Step.{Step}
 use Rattle.graph.specs.Graph.{Edge}
@@ -48,6 +48,10 @@ orderOf r = tabulate (tasks (r .lent)) (taskWord (memoryOf r))
 abbrev pub AllowedOrder : Mem → List ℕ → Type 0
 AllowedOrder m l = Allows ℕ-discrete (eachOnce (tasks m)) (Edge (graphIn m)) l
 
+-- what the rules would answer next to a worker's step with begin's P and K
+abbrev pub nextSays : Run → ℕ → Step → Said
+nextSays r i s = stepSays (step (r .limits) (r .workers) (r .slots) i s (memoryOf r) .answer)
+
 -- one run, after its list of calls
 pub record OneRun (r : Run) : Type 0 where
   -- "with N tasks and E edges a finished run has exactly 3N + E accepted steps"
@@ -55,9 +59,8 @@ pub record OneRun (r : Run) : Type 0 where
   -- "and a record that holds every task once, after all its predecessors", each beside one of the workers
   pub order : Finished r → AllowedOrder (r .lent) (orderOf r)
   pub named : Finished r → (x : ℕ) → x < tasks (r .lent) → workerWord (memoryOf r) x < r .workers
-  -- "and in an unfinished one some worker has a step that would be accepted next", with begin's P and K
-  pub next : ¬ (Finished r)
-      → (i : ℕ) × (s : Step) × (i < r .workers) × Acceptance (stepSays (step (r .limits) (r .workers) (r .slots) i s (memoryOf r) .answer))
+  -- "and in an unfinished one some worker has a step that would be accepted next"
+  pub next : ¬ (Finished r) → (i : ℕ) × (s : Step) × (i < r .workers) × Acceptance (nextSays r i s)
 
 -- "Two runs are of one graph if N and the edges agree."
 pub record OneGraph (r r′ : Run) : Type 0 where

@@ -98,7 +98,6 @@ module _ {A : Type 0} (same : Discrete A) (G : Items A) where
 
     module _ {s : State A} (v : Invariant same G P s) where
       -- what is held or waits is an item of the job
-
       pub held-wanted : (i : ℕ) (a : A) → i < P → 0 < occOf same a (inHand (s .stages .hand i)) → G .want a ≡ 1
       unfolding places
       held-wanted i a l h = omega (arith, h, v .stage a, laws .one a, sum-prefix P (λ j. occOf same a (inHand (s .stages .hand j))) i l)
