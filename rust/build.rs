@@ -1,9 +1,9 @@
-//! With the feature `linked`, links the archives that `rt staticlib graph_export` and `rt staticlib stg_export` write.
+//! With the feature `linked`, links the archives that `rt staticlib` writes of the crates named here.
 
 use std::env;
 use std::path::Path;
 
-const ARCHIVES: [&str; 2] = ["graph_export", "stg_export"];
+const ARCHIVES: [&str; 3] = ["graph_export", "stg_export", "engine_export"];
 
 fn main() {
     if env::var_os("CARGO_FEATURE_LINKED").is_none() {

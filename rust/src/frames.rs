@@ -1,5 +1,5 @@
-//! The cases of the program `text_trials`, and what it has to print. A task text holds any byte, so each is framed by its
-//! length.
+//! The cases of the programs `text_trials` and `desk_trials`, and what they have to print. A task text holds any byte, so each
+//! is framed by its length.
 //!
 //! - `# words` is a note, and printed as it stands.
 //! - `t` and the length of the text; the lengths of the lent weights, starts and predecessors. The bytes of the text follow
@@ -7,7 +7,10 @@
 //!
 //! The answer to a text is one line: `read`, number and detail (`0 0` if accepted), N and E (`0 0` if refused), and after a
 //! colon what the three lent lists hold then.
+//!
+//! For `desk_trials` the header has the length of the text alone, and the answer is what the desk program prints.
 
+use crate::desk;
 use crate::model::{MAX_EDGES, MAX_TASKS};
 use crate::reader;
 use crate::text::{pattern, shown_answer, shown_lent};
@@ -48,6 +51,25 @@ impl Frame {
                 let header = format!("t {} {weights} {starts} {preds}\n", text.len());
                 [header.as_bytes(), text, b"\n"].concat()
             }
+        }
+    }
+
+    /// What the program `desk_trials` reads.
+    pub fn desk_case(&self) -> Vec<u8> {
+        match self {
+            Frame::Note(_) => self.case(),
+            Frame::Text(TextTrial { text, .. }) => {
+                let header = format!("t {}\n", text.len());
+                [header.as_bytes(), text, b"\n"].concat()
+            }
+        }
+    }
+
+    /// What it has to print.
+    pub fn desk_answer(&self) -> Vec<u8> {
+        match self {
+            Frame::Note(_) => self.case(),
+            Frame::Text(trial) => desk::output(&trial.text),
         }
     }
 

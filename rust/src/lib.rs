@@ -1,17 +1,43 @@
-//! A model of the engine's graph layer and of its reader, written from document 01 and not from the proved code, and the
-//! generator of the trials.
+//! A model of the engine, written from document 01 and not from the proved code: its graph layer, its reader, begin and the
+//! four steps, and the desk program; and the generators of the trials.
 //!
 //! `trials` lists the graphs from fixed seeds, `text` spells them as lines, and `model` says what each must answer.
 //! `texts` lists the task texts, `frames` frames them, and `reader` says what each must answer; `plain` is a reader as one
 //! would write it without proofs, to compare costs with.
+//! `scripts` lists whole runs, `script` spells them as lines, and says by `engine` what each must answer.
+//! `runs` draws lists of calls over a lent `memory`, `damages` lists damaged words, `engine` says what each must answer, and
+//! `demand3` checks whole runs.
+//! `plain_engine` is begin and the steps without proofs; `measured` has the runs that costs are compared on, and `beside`
+//! makes the calls of an engine beside the model's. `proved` and `proved_engine` call the proved code; `exports` is the
+//! interface of the engine's exports, and `plain_export` puts the plain engine behind it.
+//! `rule` and `refusals` make the tables that stand in the pages of `docs`, and `pages` puts them there.
 
+pub mod beside;
+pub mod damages;
+pub mod demand3;
+pub mod desk;
 pub mod draw;
+pub mod engine;
+pub mod engines;
+pub mod exports;
 pub mod frames;
+pub mod measured;
+pub mod memory;
 pub mod model;
+pub mod pages;
 pub mod plain;
+pub mod plain_engine;
+pub mod plain_export;
 #[cfg(feature = "linked")]
 pub mod proved;
+#[cfg(feature = "linked")]
+pub mod proved_engine;
 pub mod reader;
+pub mod refusals;
+pub mod rule;
+pub mod runs;
+pub mod script;
+pub mod scripts;
 pub mod text;
 pub mod texts;
 pub mod trials;

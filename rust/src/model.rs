@@ -4,7 +4,7 @@ pub const MAX_TASKS: usize = 1_024;
 pub const MAX_EDGES: usize = 8_192;
 
 /// "Weights 0..65,535."
-const MAX_WEIGHT: u32 = 65_535;
+pub(crate) const MAX_WEIGHT: u32 = 65_535;
 
 /// "Answer: the number and a detail".
 #[derive(Clone, Copy, Debug, PartialEq, Eq)]
@@ -39,7 +39,7 @@ impl Limits {
     };
 
     /// "N tasks, numbered 0..N−1, N at most 1,024. E edges, at most 8,192."
-    fn hold(self, n: usize, e: usize) -> bool {
+    pub(crate) fn hold(self, n: usize, e: usize) -> bool {
         let tasks = (self.tasks as usize).min(MAX_TASKS);
         let edges = (self.edges as usize).min(MAX_EDGES);
         n <= tasks && e <= edges
@@ -121,12 +121,12 @@ impl Graph {
     }
 
     /// "task t's predecessors run from start t up to but not including start t+1", once 3 has passed.
-    fn predecessors(&self, task: usize) -> &[u32] {
+    pub(crate) fn predecessors(&self, task: usize) -> &[u32] {
         self.preds.part(task).unwrap_or(&[])
     }
 
     /// "an edge leads from a predecessor to its task" and "each task's successors rising".
-    fn successors(&self, task: usize) -> Vec<u32> {
+    pub(crate) fn successors(&self, task: usize) -> Vec<u32> {
         (0..self.n())
             .filter(|&later| self.predecessors(later).contains(&word(task)))
             .map(word)
@@ -134,7 +134,7 @@ impl Graph {
     }
 
     /// 2: "N, E, P, K or (begin) a weight beyond its limit", detail 0.
-    fn judge_limits(&self, limits: Limits) -> Answer {
+    pub(crate) fn judge_limits(&self, limits: Limits) -> Answer {
         let heavy = self.weights.iter().any(|&weight| weight > MAX_WEIGHT);
         if heavy || !limits.hold(self.n(), self.e()) {
             return refused(2, 0);
@@ -200,7 +200,7 @@ impl Graph {
     }
 
     /// "Order in begin: 2, 1, 3, 4, 5, 6": what comes after 1, without 6.
-    fn judge_edges(&self) -> Answer {
+    pub(crate) fn judge_edges(&self) -> Answer {
         self.judge_table()?;
         self.judge_twice()?;
         self.judge_cycle()

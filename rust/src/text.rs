@@ -123,7 +123,7 @@ fn lookup_case(trial: &LookupTrial) -> String {
     line
 }
 
-fn add_words(line: &mut String, words: &[u32]) {
+pub(crate) fn add_words(line: &mut String, words: &[u32]) {
     for word in words {
         write!(line, " {word}").expect("a String takes all");
     }
@@ -170,7 +170,7 @@ pub(crate) fn shown_lent(list: &[u32]) -> String {
     shown(list)
 }
 
-fn shown(list: &[u32]) -> String {
+pub(crate) fn shown(list: &[u32]) -> String {
     match list.len() {
         0 => String::from("-"),
         1..=SHOWN => list.iter().map(u32::to_string).collect::<Vec<_>>().join(" "),
@@ -178,7 +178,7 @@ fn shown(list: &[u32]) -> String {
     }
 }
 
-fn hash(list: &[u32]) -> u64 {
+pub(crate) fn hash(list: &[u32]) -> u64 {
     list.iter()
         .fold(0, |sum, &word| (sum * FACTOR + u64::from(word) + 1) % PRIME)
 }

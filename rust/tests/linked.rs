@@ -10,6 +10,13 @@ struct Reply {
     detail: u32,
 }
 
+/// Where a lookup's part stands in the table on the side named, and how many neighbours it has; 0 and 0 where it is refused.
+#[repr(C)]
+struct Part {
+    place: u32,
+    count: u32,
+}
+
 extern "C" {
     fn yolluvek_check_graph(
         tasks: usize,
@@ -53,6 +60,21 @@ extern "C" {
         side: u32,
         task: u32,
     ) -> Reply;
+
+    fn yolluvek_lookup(
+        weights: *const u32,
+        weights_len: usize,
+        pred_starts: *const u32,
+        pred_starts_len: usize,
+        preds: *const u32,
+        preds_len: usize,
+        succ_starts: *const u32,
+        succ_starts_len: usize,
+        succs: *const u32,
+        succs_len: usize,
+        side: u32,
+        task: u32,
+    ) -> Part;
 }
 
 fn answer(reply: Reply) -> Answer {
@@ -103,25 +125,42 @@ fn proved_link(limits: Limits, graph: &Graph, lent: &mut Lent) -> Answer {
     })
 }
 
-fn proved_judge(lookup: &Lookup, side: Side, task: u32) -> Answer {
-    let (preds, succs) = (&lookup.preds, &lookup.succs);
-    // as above
-    answer(unsafe {
-        yolluvek_judge_lookup(
-            lookup.weights.as_ptr(),
-            lookup.weights.len(),
-            preds.starts.as_ptr(),
-            preds.starts.len(),
-            preds.words.as_ptr(),
-            preds.words.len(),
-            succs.starts.as_ptr(),
-            succs.starts.len(),
-            succs.words.as_ptr(),
-            succs.words.len(),
-            u32::from(side == Side::Successors),
-            task,
-        )
-    })
+/// Calls an export that takes a lookup's arguments.
+macro_rules! looked_up {
+    ($export:ident, $lookup:expr, $side:expr, $task:expr) => {{
+        let Lookup { weights, preds, succs } = $lookup;
+        // each pointer and length is that of a list that lives through the call
+        unsafe {
+            $export(
+                weights.as_ptr(),
+                weights.len(),
+                preds.starts.as_ptr(),
+                preds.starts.len(),
+                preds.words.as_ptr(),
+                preds.words.len(),
+                succs.starts.as_ptr(),
+                succs.starts.len(),
+                succs.words.as_ptr(),
+                succs.words.len(),
+                u32::from($side == Side::Successors),
+                $task,
+            )
+        }
+    }};
+}
+
+/// Place and count of the model's part, the place being that of its words among those of the table.
+fn model_part(lookup: &Lookup, side: Side, task: u32) -> (usize, usize) {
+    let part = lookup.neighbours(side, task);
+    let words = match side {
+        Side::Predecessors => &lookup.preds.words,
+        Side::Successors => &lookup.succs.words,
+    };
+    let place = match lookup.judge(side, task) {
+        Ok(()) => (part.as_ptr() as usize - words.as_ptr() as usize) / size_of::<u32>(),
+        Err(_) => 0,
+    };
+    (place, part.len())
 }
 
 /// The graph's answers and what the lent lists hold then.
@@ -149,8 +188,12 @@ fn line(trial: &GraphTrial) -> String {
 
 fn compare_lookup(trial: &LookupTrial) {
     for &(side, task) in &trial.questions {
-        let (proved, model) = (proved_judge(&trial.lookup, side, task), trial.lookup.judge(side, task));
-        assert_eq!(proved, model, "{side:?} {task} {:?}", trial.lookup);
+        let lookup = &trial.lookup;
+        let judged = answer(looked_up!(yolluvek_judge_lookup, lookup, side, task));
+        assert_eq!(judged, lookup.judge(side, task), "{side:?} {task} {lookup:?}");
+        let Part { place, count } = looked_up!(yolluvek_lookup, lookup, side, task);
+        let part = (place as usize, count as usize);
+        assert_eq!(part, model_part(lookup, side, task), "{side:?} {task} {lookup:?}");
     }
 }
 

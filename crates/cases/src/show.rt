@@ -60,7 +60,7 @@ fn spaced(i: usize, word: u32) {
     number(word as u64);
 }
 
-fn words(list: &[u32]) {
+pub fn words(list: &[u32]) {
     let mut i = 0;
     while i < list.len() {
         spaced(i, list[i]);
@@ -69,15 +69,48 @@ fn words(list: &[u32]) {
 }
 
 // One step of the hash: a polynomial modulo a prime below 2^32.
-fn mixed(sum: u64, word: u32) -> u64 {
+pub fn mixed(sum: u64, word: u32) -> u64 {
     ((sum % 4294967291) * 1000003 + word as u64 + 1) % 4294967291
 }
 
-fn hash(list: &[u32]) -> u64 {
+pub fn hash(list: &[u32]) -> u64 {
     let mut sum = 0;
     let mut i = 0;
     while i < list.len() {
         sum = mixed(sum, list[i]);
+        i += 1;
+    }
+    sum
+}
+
+// A counter as a word: 2^31 more than it is.
+fn raised(counter: i32) -> u32 {
+    (counter as i64 + 2147483648) as u32
+}
+
+pub fn hash_counters(counters: &[i32]) -> u64 {
+    let mut sum = 0;
+    let mut i = 0;
+    while i < counters.len() {
+        let counter = counters[i];
+        sum = mixed(sum, raised(counter));
+        i += 1;
+    }
+    sum
+}
+
+fn mixed_row(sum: u64, row: [u32; 6]) -> u64 {
+    let held = mixed(mixed(sum, row[0]), row[1]);
+    let read = mixed(mixed(held, row[2]), row[3]);
+    mixed(mixed(read, row[4]), row[5])
+}
+
+pub fn hash_rows(rows: &[[u32; 6]]) -> u64 {
+    let mut sum = 0;
+    let mut i = 0;
+    while i < rows.len() {
+        let row = rows[i];
+        sum = mixed_row(sum, row);
         i += 1;
     }
     sum

@@ -1,15 +1,19 @@
 -- What the exported calls answer: "the number and a detail", 0 and 0 where accepted.
-use Prim.Native.Nat.{ℕ}
+use Prim.Native.Nat.{ℕ, _+_, _-_}
 use mathlib.Core.Bool.{cond}
 use mathlib.Core.List.{List}
+use lib.ListN.{getD}
 use lib.Dec.{eqb}
 use Rattle.task.specs.Refusals.{answerSays, numberOf, detailOf}
 use Rattle.task.specs.Types.{engine}
 use Rattle.task.specs.declared.Answer.{Answer}
+use Rattle.task.specs.declared.Answer.the-variants as answer
 use Rattle.task.specs.declared.Limits.{Limits}
 use Rattle.task.specs.declared.Side.{Side}
 use Rattle.task.specs.declared.Side.the-variants.{Predecessors, Successors}
 use Rattle.graph.specs.Successors.{Linked}
+use Rattle.graph.specs.Lookup.{Lent, startsOn, judgeAnswer}
+use Rattle.graph_export.specs.declared.Part.{Part}
 use Rattle.graph_export.specs.declared.Reply.{Reply}
 
 abbrev pub replyOf : Answer → Reply
@@ -35,3 +39,12 @@ repliedOf r s w d = record { reply = r; starts = s; succs = w; degrees = d }
 
 abbrev pub replied : Linked → Replied
 replied l = repliedOf (replyOf (l .answer)) (l .starts) (l .succs) (l .degrees)
+
+-- where a lookup's part stands in the table on the side named, and how many neighbours it has; 0 and 0 where it is refused
+abbrev pub partFor : Answer → Side → Lent → ℕ → Part
+partFor (answer.Refused n d) side l t = record { place = 0; count = 0 }
+partFor answer.Accepted side l t =
+    record { place = getD (startsOn side l) t 0; count = getD (startsOn side l) (t + 1) 0 - getD (startsOn side l) t 0 }
+
+unfoldable pub partIn : Side → Lent → ℕ → Part
+partIn side l t = partFor (judgeAnswer side l t) side l t

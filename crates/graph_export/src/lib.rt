@@ -5,7 +5,9 @@ ghost use mathlib.Core.Bool.{true};
 ghost use Rattle.graph.specs.Check.{checkAnswer};
 ghost use Rattle.graph.specs.Successors.{linked};
 ghost use Rattle.graph.specs.Lookup.{lentOf, judgeAnswer};
-ghost use Rattle.graph_export.specs.Replies.{replyOf, limitsOf, sideOf, replied, repliedOf};
+ghost use Prim.Native.Nat.{_+_, _-_, _≤_, _<_};
+ghost use lib.ListN.{length, getD};
+ghost use Rattle.graph_export.specs.Replies.{replyOf, limitsOf, sideOf, replied, repliedOf, partIn};
 use task::Answer;
 use task::Limits;
 use task::Side;
@@ -99,4 +101,46 @@ pub extern "C" fn yolluvek_judge_lookup(
     let on = side_of(side);
     let named = TaskId::new(task);
     reply_of(lookup::judge(weights, pred_starts, preds, succ_starts, succs, on, named))
+}
+
+// Where a lookup's part stands in the table on the side named, and how many neighbours it has; 0 and 0 where the lookup is refused.
+#[repr(C)]
+pub struct Part {
+    pub place: u32,
+    pub count: u32,
+}
+
+fn part_at(starts: &[u32], t: usize) -> Part
+    requires { ⌜ (t + 1 < length (now starts)) × (getD (now starts) t 0 ≤ getD (now starts) (t + 1) 0) ⌝ }
+    ensures { λ r. ⌜ (r .place ≡ getD (now (starts .entry)) t 0) × (r .count ≡ getD (now (starts .entry)) (t + 1) 0 - getD (now (starts .entry)) t 0) ⌝ }
+{
+    let place = starts[t];
+    Part {
+        place,
+        count: starts[t + 1] - place,
+    }
+}
+
+#[no_mangle]
+pub extern "C" fn yolluvek_lookup(
+    weights: &[u32],
+    pred_starts: &[u32],
+    preds: &[u32],
+    succ_starts: &[u32],
+    succs: &[u32],
+    side: u32,
+    task: u32,
+) -> Part
+    ensures { λ r. ⌜ r ≡ partIn (sideOf side) (lentOf (now (weights .entry)) (now («pred_starts» .entry)) (now (preds .entry)) (now («succ_starts» .entry)) (now (succs .entry))) task ⌝ }
+{
+    let on = side_of(side);
+    let named = TaskId::new(task);
+    let answer = lookup::judge(weights, pred_starts, preds, succ_starts, succs, on, named);
+    let Answer::Accepted = answer else {
+        return Part { place: 0, count: 0 };
+    };
+    match on {
+        Side::Predecessors => part_at(pred_starts, task as usize),
+        Side::Successors => part_at(succ_starts, task as usize),
+    }
 }

@@ -20,3 +20,4 @@ pub mod Demand
 pub mod Corollaries
 pub mod Wrong
 pub mod Afterwards
+pub mod Hosted

@@ -4,3 +4,4 @@ pub mod Fairness
 pub mod Demand
 pub mod RunWords
 pub mod AtRest
+pub mod Hosted

@@ -2,6 +2,7 @@
 //! the limits, random texts, and each of those damaged at one place.
 
 pub mod bench;
+pub mod desk;
 mod fields;
 mod layout;
 mod limits;
@@ -45,7 +46,7 @@ pub fn further(seed: u64, count: usize) -> Vec<TextTrial> {
 }
 
 /// The text of the desk program's diamond.
-const DIAMOND: &[u8] = b"2\n0 0 0\n1 5 1 0\n2 3 1 0\n3 0 2 1 2\n";
+pub(crate) const DIAMOND: &[u8] = b"2\n0 0 0\n1 5 1 0\n2 3 1 0\n3 0 2 1 2\n";
 
 /// The least text that is accepted.
 const LEAST: &[u8] = b"0\n0 0 0\n1 0 0";

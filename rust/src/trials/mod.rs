@@ -1,10 +1,10 @@
 //! The trials, from fixed seeds: examples of document 01, every small table, the limits, damage of every kind, several
 //! defects at once, larger graphs, and lookups.
 
-mod damage;
+pub(crate) mod damage;
 mod limits;
 mod lookups;
-mod random;
+pub(crate) mod random;
 mod small;
 
 use crate::draw::Draw;

@@ -1,0 +1,157 @@
+-- The cases of begin: refused, and the lists stay; accepted, and what the check has shown lets them be laid down.
+use Prim.Native.Nat.{ℕ, _+_, _*_}
+use mathlib.Core.Path.{_≡_, sym, ap, _∙_}
+use mathlib.Core.List.{List, append-nil}
+use native.Mathlib.Omega.{arith}
+use lib.IntN.{ℤ, pos}
+use lib.ListN.{length, replicate, length-replicate}
+use lib.Seq.{drop-length}
+use Rattle.task.specs.Types.{idle, capped}
+use Rattle.task.specs.Refusals.{answerSays}
+use Rattle.task.specs.declared.Limits.{Limits}
+use Rattle.task.specs.declared.Answer.{Answer}
+use Rattle.task.specs.declared.Answer.the-variants.{Refused, Accepted}
+use Rattle.task.specs.declared.Row.{Row}
+use Rattle.graph.specs.Graph.{Graph, graphOf}
+use Rattle.graph.specs.Conditions.{Sound, GraphFits}
+use Rattle.graph.specs.Successors.{succStarts, succWords, degreeList}
+use Rattle.graph.proofs.Accepted.{fits-sound}
+use Rattle.graph.proofs.Reversed.{length-degrees}
+use Rattle.ring.specs.Ring.{ringWords, endWords}
+use Rattle.rules.specs.Memory.{Mem, memOf}
+use Rattle.rules.specs.Sizes.{Others, Fits}
+use Rattle.rules.specs.Begin.{cleared, begun, beginAnswer, beginResult, begin}
+use Rattle.rules.proofs.Begin.{begin-accepted}
+use Rattle.rows.specs.Rows.{clearedRows}
+use Rattle.admission.specs.Admission.{sizesOf}
+use Rattle.admission.specs.declared.Sizes.{Sizes}
+use Rattle.roots.specs.Laying.{Placed, Job, Room}
+use Rattle.roots.proofs.Laying.{roots-below}
+use Rattle.begin_check.specs.Judging.{Judges}
+use Rattle.begin.specs.Begin.{resultOf, Begins}
+
+rows-cleared : (p : ℕ) (rs : List Row) → length rs ≡ p → clearedRows p rs ≡ replicate (length rs) idle
+unfolding clearedRows
+rows-cleared p rs e = rw (← e, drop-length rs) (append-nil (replicate (length rs) idle))
+
+-- the lent lengths in the memory's order, as the lists are below; the first three are those of the lists that are read
+abbrev lent : (w s e : List ℕ) (ss sc d r n c b x u rows : ℕ) → Sizes
+lent w s e ss sc d r n c b x u rows =
+    record {
+      weights = length w;
+      «pred_starts» = length s;
+      preds = length e;
+      «succ_starts» = ss;
+      succs = sc;
+      degrees = d;
+      rings = r;
+      ends = n;
+      counters = c;
+      buffers = b;
+      executed = x;
+      run = u;
+      rows = rows;
+    }
+
+-- what an accepted begin shows of the lengths and of the graph
+module _ (limits : Limits) (p k : ℕ) (w s e : List ℕ) (ss sc d r n c b x u rows : ℕ) (a : Answer)
+    (judged : Judges limits p k (lent w s e ss sc d r n c b x u rows) w s e a) (q : a ≡ Accepted) where
+  abbrev g : Graph
+  g = graphOf (length w) s e
+
+  -- the answer is that of any memory of these lengths
+  abbrev some : Mem
+  some =
+      memOf w s e (replicate ss 0) (replicate sc 0) (replicate d 0) (replicate r 0) (replicate n 0) (replicate c (pos 0)) (replicate b 0) (replicate x 0)
+      (replicate u 0) (replicate rows idle)
+
+  some-sizes : sizesOf some ≡ lent w s e ss sc d r n c b x u rows
+  some-sizes = simp length-replicate
+
+  fits : Fits limits p k some × GraphFits limits w s e
+  unfolding begin
+  fits =
+      let f = begin-accepted limits p k some .0 (ap (λ (z : Answer). answerSays (beginResult z p k some .answer)) (sym (judged some some-sizes) ∙ q)) in
+      (f .0, f .1)
+
+  others : Others p k some
+  others = fits .0 .lengths .others
+
+  pub fillable : Sound g × ((ss ≡ length w + 1) × ((sc ≡ length e) × (d ≡ length w)))
+  fillable = (
+    fits-sound (fits .1),
+    (sym (length-replicate ss 0) ∙ others .succStarts, (sym (length-replicate sc 0) ∙ others .succs, sym (length-replicate d 0) ∙ others .degrees)),
+  )
+
+  rings-are : r ≡ p * p * ringWords k
+  rings-are = sym (length-replicate r 0) ∙ others .rings
+
+  ends-are : n ≡ p * p * endWords
+  ends-are = sym (length-replicate n 0) ∙ others .ends
+
+  counters-are : c ≡ p * p
+  counters-are = sym (length-replicate c (pos 0)) ∙ others .counters
+
+  rows-are : rows ≡ p
+  rows-are = sym (length-replicate rows idle) ∙ others .rows
+
+  pub layable : (d′ rings ends : List ℕ) (counters : List ℤ) → d′ ≡ degreeList g → length rings ≡ r → length ends ≡ n → length counters ≡ c
+      → Job p k w d′ × Room p k rings ends counters
+  unfolding capped
+  layable d′ rings ends counters hd hr hn hc = (
+    record {
+      oneWorker = fits .0 .oneWorker;
+      fewWorkers = omega (arith, fits .0 .fewWorkers);
+      oneSlot = omega (arith, fits .0 .twoSlots);
+      fewSlots = omega (arith, fits .0 .fewSlots);
+      fewTasks = omega (arith, fits .0 .fewTasks, ap length hd, length-degrees g);
+      weighed = sym (ap length hd ∙ length-degrees g);
+      light = fits .1 .light;
+    },
+    record { rings = hr ∙ rings-are; ends = hn ∙ ends-are; counters = hc ∙ counters-are },
+  )
+
+module _ (limits : Limits) (p k rows : ℕ) (w s e ss sc d r n : List ℕ) (c : List ℤ) (b x u : List ℕ) (a : Answer)
+    (judged : Judges limits p k
+    (lent w s e (length ss) (length sc) (length d) (length r) (length n) (length c) (length b) (length x) (length u) rows) w s e a) where
+  abbrev before : List Row → Mem
+  before rs = memOf w s e ss sc d r n c b x u rs
+
+  answer-is : (rs : List Row) → length rs ≡ rows → beginAnswer limits p k (before rs) ≡ a
+  answer-is rs h = sym (judged (before rs) (rw h))
+
+  pub begin-refused : (i j : ℕ) → a ≡ Refused i j → Begins limits p k rows before before (record { answer = a; rows = 0 })
+  unfolding begin clearedRows
+  begin-refused i j q = (λ rs h. rw (answer-is rs h, q), omega arith)
+
+  module _ (q : a ≡ Accepted) (ss′ sc′ d′ r′ n′ : List ℕ) (c′ : List ℤ) (b′ x′ u′ : List ℕ)
+      (hs : ss′ ≡ succStarts (graphOf (length w) s e)) (hw : sc′ ≡ succWords (graphOf (length w) s e)) (hd : d′ ≡ degreeList (graphOf (length w) s e))
+      (placed : Placed p k w d′ (length d′) r′ n′ c′)
+      (hb : b′ ≡ replicate (length b) 0) (hx : x′ ≡ replicate (length x) 0) (hu : u′ ≡ replicate (length u) 0) where
+    abbrev after : List Row → Mem
+    after rs = memOf w s e ss′ sc′ d′ r′ n′ c′ b′ x′ u′ rs
+
+    rows-fit : rows ≡ p
+    rows-fit = rows-are limits p k w s e _ _ _ _ _ _ _ _ _ _ a judged q
+
+    laid-down : (rs : List Row) → length rs ≡ rows → after (clearedRows p rs) ≡ begun p k (before rs)
+    unfolding begun cleared
+    laid-down rs h =
+        placed (after (clearedRows p rs))
+        ∙ rw (
+          hs,
+          hw,
+          hd,
+          hb,
+          hx,
+          hu,
+          roots-below (graphOf (length w) s e),
+          ← rings-are limits p k w s e _ _ _ _ _ _ _ _ _ _ a judged q,
+          ← ends-are limits p k w s e _ _ _ _ _ _ _ _ _ _ a judged q,
+          ← counters-are limits p k w s e _ _ _ _ _ _ _ _ _ _ a judged q,
+          rows-cleared p rs (h ∙ rows-fit),
+        )
+
+    pub begin-laid : Begins limits p k rows before after (record { answer = a; rows = p })
+    unfolding begin
+    begin-laid = (λ rs h. rw (answer-is rs h, q) (ap (resultOf Accepted) (laid-down rs h)), omega (arith, rows-fit))

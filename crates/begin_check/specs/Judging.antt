@@ -1,0 +1,20 @@
+-- What begin's answer depends on: the lent lengths, weights and predecessor tables.
+use Prim.Native.Nat.{ℕ}
+use mathlib.Core.Path.{_≡_}
+use mathlib.Core.List.{List}
+use Rattle.task.specs.declared.Limits.{Limits}
+use Rattle.task.specs.declared.Answer.{Answer}
+use Rattle.rules.specs.Memory.{Mem, memOf}
+use Rattle.rules.specs.Begin.{beginAnswer}
+use Rattle.admission.specs.Admission.{sizesOf}
+use Rattle.admission.specs.declared.Sizes.{Sizes}
+
+-- a memory with other weights and predecessor tables
+abbrev pub readIn : Mem → List ℕ → List ℕ → List ℕ → Mem
+readIn m weights starts preds =
+    memOf weights starts preds (m .succStarts) (m .succs) (m .degrees) (m .rings) (m .ends) (m .counters) (m .buffers) (m .executed) (m .run) (m .rows)
+
+-- begin's answer in every memory that has these and these lengths
+abbrev pub Judges : Limits → ℕ → ℕ → Sizes → List ℕ → List ℕ → List ℕ → Answer → Type 0
+Judges limits p k sizes weights starts preds a =
+    (m : Mem) → sizesOf (readIn m weights starts preds) ≡ sizes → a ≡ beginAnswer limits p k (readIn m weights starts preds)

@@ -1,0 +1,203 @@
+-- The cases of Complete's plan, in the order of its rule; what its reads and writes ask; the step's result in each case.
+use Prim.Native.Nat.{ℕ, _+_, _-_, _*_, _≤_, _<_}
+use mathlib.Core.Path.{_≡_, refl, ap, _∙_}
+use mathlib.Core.Bool.{Bool, true, false, cond, not, _&&_, _||_}
+use mathlib.Core.List.{List}
+use native.Mathlib.Omega.{arith}
+use lib.Dec.{ltb, leb, eqb}
+use lib.ListN.{length, getD, set}
+use borrow.Author.Tests.{ltb-true, leb-true, lt-ltb, le-ltb, le-leb, lt-leb, eq-eqb, ne-eqb, not-true, not-false}
+use Rattle.lists.proofs.Apart.{unequal}
+use Rattle.lists.proofs.Places.{place-lt}
+use Rattle.lists.proofs.Told.{and-true, or-false, cond-either}
+use Rattle.task.specs.Types.{engine}
+use Rattle.task.specs.Refusals.{recordFull}
+use Rattle.task.specs.declared.Limits.{Limits}
+use Rattle.task.specs.declared.Row.{Row}
+use Rattle.task.specs.declared.Step.the-variants.{Complete}
+use Rattle.task.specs.declared.StepAnswer.the-variants as answer
+use Rattle.task.specs.declared.StepOutcome.the-variants.{Moved}
+use Rattle.rules.specs.Memory.{Mem, allEntries, allSteps, rowIn}
+use Rattle.rules.specs.Updates.{updated, written}
+use Rattle.rules.specs.Plans.{Plan, refuse, refuseIf, checked, counted}
+use Rattle.rules.specs.Steps.{completeSink, completeInner, completeRule, ruleOf}
+use Rattle.admission.specs.Admission.{sizesOf, Enters, Measured, Admits}
+use Rattle.admission.specs.declared.Sizes.{Sizes}
+use Rattle.admission.specs.declared.Stepped.{Stepped}
+use Rattle.admission.specs.declared.Admitted.{Admitted}
+use Rattle.admission.specs.declared.Admitted.the-variants as admission
+use Rattle.admission.specs.declared.Admitted.the-variants.{To}
+use Rattle.admission.proofs.Laws.{few-places}
+use Rattle.admission.proofs.Rows.{admission-refused, admission-enters, refused-result, rule-refused, rule-accepted}
+use Rattle.complete.specs.Complete.{lent, Completes}
+use Rattle.complete.specs.Planned.{planOf, Plans, Room, Decides, Recordable, Records, Leaves}
+use Rattle.complete.specs.declared.CompletePlan.{CompletePlan}
+use Rattle.complete.specs.declared.CompletePlan.the-variants.{Refused, Sink, Inner}
+
+-- a place that isn't below n: whether it is n or beyond, the answer is the same
+unplaced : (a b c : Bool) (rest : Plan) → a && c ≡ false → checked (a && b) (checked c rest) ≡ refuse 8 0
+unplaced true true c rest e = rw e
+unplaced true false c rest e = refl
+unplaced false b c rest e = refl
+
+-- a range that passes: its length is a difference
+pub range-rises : (first past e : ℕ) → not (leb first past && leb past e) ≡ false → first ≤ past
+range-rises first past e d = leb-true first past (and-true (leb first past) (leb past e) (not-false (leb first past && leb past e) d) .0)
+
+-- one of two tests passed, and not the first
+other : (a b : Bool) → not (a || b) ≡ false → a ≡ false → b ≡ true
+other true b e q = unequal cc
+other false b e q = not-false b e
+
+module _ (n e : ℕ) (row : Row) (succStarts run : List ℕ) where
+  abbrev first : ℕ
+  first = getD succStarts (row .held .0) 0
+
+  abbrev past : ℕ
+  past = getD succStarts (row .held .0 + 1) 0
+
+  abbrev ranged : Bool
+  ranged = leb first past && leb past e
+
+  abbrev sink : Bool
+  sink = eqb (past - first) 0
+
+  abbrev placed : Bool
+  placed = leb (row .read) (row .write) && ltb (row .write) n
+
+  -- the accepted word comes last
+  abbrev steady : Plan → Plan
+  steady rest = checked (ltb (getD run 1 0) (3 * n + e)) rest
+
+  -- the places of a task that joins the buffer
+  abbrev joins : Plan → Plan
+  joins rest = checked (leb (row .read) (row .write) && leb (row .write) n) (checked (ltb (row .write) n) (steady rest))
+
+  -- the rule in the words that are read, by what it comes to for a sink and for a task with successors
+  abbrev ruled : Plan → Plan → Plan
+  ruled alone joined =
+      checked (leb (getD run 0 0) n)
+      (refuseIf (eqb (getD run 0 0) n) recordFull 0
+      (checked (ltb (row .held .0) n)
+      (checked ranged
+      (cond sink (steady alone) (joins joined)))))
+
+  planned : (plan : CompletePlan) → ((i : ℕ) (m : Mem) → ruled (planOf i m Sink) (planOf i m Inner) ≡ planOf i m plan) → Plans n e row succStarts run plan
+  unfolding completeRule completeSink completeInner counted allEntries allSteps
+  planned plan f i m hn he hr hs hu = rw (← hn, ← he, ← hr, ← hs, ← hu) at f i m
+
+  pub plan-over : n < getD run 0 0 → Plans n e row succStarts run (Refused 8 0)
+  plan-over h = planned (Refused 8 0) (λ i m. simp (lt-leb _ _ h))
+
+  module _ (a : getD run 0 0 ≤ n) where
+    pub plan-full : getD run 0 0 ≡ n → Plans n e row succStarts run (Refused 12 0)
+    plan-full h = planned (Refused 12 0) (λ i m. simp (le-leb _ _ a, eq-eqb _ _ h))
+
+    module _ (b : ¬ (getD run 0 0 ≡ n)) where
+      pub plan-held : n ≤ row .held .0 → Plans n e row succStarts run (Refused 8 0)
+      plan-held h = planned (Refused 8 0) (λ i m. simp (le-leb _ _ a, ne-eqb _ _ b, le-ltb _ _ h))
+
+      module _ (c : row .held .0 < n) where
+        pub plan-range : not ranged ≡ true → Plans n e row succStarts run (Refused 8 0)
+        plan-range h = planned (Refused 8 0) (λ i m. simp (le-leb _ _ a, ne-eqb _ _ b, lt-ltb _ _ c, not-true ranged h))
+
+        module _ (d : not ranged ≡ false) where
+          -- what the tests up to here leave of the rule
+          later : (plan : CompletePlan) → ((i : ℕ) (m : Mem) → cond sink (steady (planOf i m Sink)) (joins (planOf i m Inner)) ≡ planOf i m plan)
+              → Plans n e row succStarts run plan
+          later plan f = planned plan (λ i m. simp (le-leb _ _ a, ne-eqb _ _ b, lt-ltb _ _ c, not-false ranged d) (f i m))
+
+          pub plan-places : not (sink || placed) ≡ true → Plans n e row succStarts run (Refused 8 0)
+          plan-places h =
+              let (s, j) = or-false sink placed (not-true (sink || placed) h) in
+              later (Refused 8 0) (λ i m. rw s (unplaced (leb (row .read) (row .write)) (leb (row .write) n) (ltb (row .write) n) _ j))
+
+          module _ (f : not (sink || placed) ≡ false) where
+            pub plan-counted : 3 * n + e ≤ getD run 1 0 → Plans n e row succStarts run (Refused 8 0)
+            plan-counted h = later (Refused 8 0) (λ i m. simp (le-ltb _ _ h, cond-either))
+
+            module _ (g : getD run 1 0 < 3 * n + e) where
+              pub plan-sink : sink ≡ true → Decides n e row succStarts run Sink
+              plan-sink s = (later Sink (λ i m. simp (s, lt-ltb _ _ g)), (omega arith, g))
+
+              pub plan-inner : sink ≡ false → Decides n e row succStarts run Inner
+              plan-inner s =
+                  let (r, w) = and-true (leb (row .read) (row .write)) (ltb (row .write) n) (other sink placed f s) in
+                  let x : row .write < n = ltb-true (row .write) n w in
+                  let y : row .write ≤ n = omega arith in
+                  (later Inner (λ i m. simp (s, r, le-leb _ _ y, w, lt-ltb _ _ g)), ((omega arith, g), x))
+
+-- What an admitted step's lengths let the plan read and its writes store.
+module _ (p k i : ℕ) (sizes : Sizes) (f : Measured p k i sizes) where
+  pub plan-asks : (starts words : ℕ) → starts ≡ sizes .«succ_starts» → words ≡ sizes .run
+      → (sizes .weights ≤ engine .tasks) × ((sizes .preds ≤ engine .edges) × ((starts ≡ sizes .weights + 1) × (words ≡ 2)))
+  plan-asks starts words s r = (f .fewTasks, (f .fewEdges, (s ∙ f .succStarts, r ∙ f .run)))
+
+  pub record-asks : (places words entries accepted : ℕ) → places ≡ sizes .executed → words ≡ sizes .run
+      → Room (sizes .weights) (sizes .preds) entries accepted → Recordable places words entries accepted
+  record-asks places words entries accepted x r (a, b) =
+      (r ∙ f .run, (omega (arith, f .executed), (omega (arith, f .fewTasks), omega (arith, f .fewTasks, f .fewEdges))))
+
+  pub buffer-asks : (places write : ℕ) → places ≡ sizes .buffers → write < sizes .weights
+      → (i * sizes .weights + write < places) × (places ≤ engine .workers * engine .tasks)
+  buffer-asks places write b h =
+      let few = few-places p k (sizes .weights) (f .fewWorkers, (f .fewSlots, f .fewTasks)) in
+      let lies = place-lt (sizes .weights) p i write (f .worker) h in
+      (omega (arith, f .buffers), omega (arith, f .buffers))
+
+  pub place-asks : (write : ℕ) → write < sizes .weights → write < engine .tasks
+  place-asks write h = omega (arith, f .fewTasks)
+
+-- an accepted plan can be written
+pub sink-writable : (n e : ℕ) (row : Row) (succStarts run : List ℕ) (plan : CompletePlan) → Decides n e row succStarts run plan → plan ≡ Sink
+    → Room n e (getD run 0 0) (getD run 1 0)
+sink-writable n e row succStarts run plan d w = rw w at d .1
+
+pub inner-writable : (n e : ℕ) (row : Row) (succStarts run : List ℕ) (plan : CompletePlan) → Decides n e row succStarts run plan → plan ≡ Inner
+    → Room n e (getD run 0 0) (getD run 1 0) × (row .write < n)
+inner-writable n e row succStarts run plan d w = rw w at d .1
+
+-- The step by value: its admission and its plan, then the result.
+module _ (limits : Limits) (p k i : ℕ) (sizes : Sizes) (row : Row) (succStarts buffers executed run : List ℕ) (admitted : Admitted)
+    (told : Admits limits p k i (row .phase) Complete sizes admitted) where
+  abbrev before : Mem → Mem
+  before m = lent m succStarts buffers executed run (m .rows)
+
+  pub row-refused : (n d : ℕ) → admitted ≡ admission.Refused n d → (r : Stepped) → (r .answer ≡ answer.Refused n d) × (r .row ≡ row)
+      → Completes limits p k i sizes row succStarts buffers buffers executed executed run run r
+  row-refused n d v r a m e h =
+      refused-result limits p k i Complete (before m) row h n d
+      (admission-refused limits p k i (row .phase) Complete sizes admitted told (before m) e (ap (λ (x : Row). x .phase) h) n d v)
+      (r .answer) (r .row) a
+
+  module _ (phase : ℕ) (v : admitted ≡ To phase) (plan : CompletePlan) (decided : Decides (sizes .weights) (sizes .preds) row succStarts run plan) where
+    module _ (m : Mem) (e : sizesOf (before m) ≡ sizes) (h : rowIn m i ≡ row) where
+      enters : Enters limits p k i Complete (before m) phase
+      enters = admission-enters limits p k i (row .phase) Complete sizes admitted told (before m) e (ap (λ (x : Row). x .phase) h) phase v
+
+      tasks-are : length (m .weights) ≡ sizes .weights
+      tasks-are = ap (λ (x : Sizes). x .weights) e
+
+      follows : (q : CompletePlan) → plan ≡ q → completeRule i (before m) ≡ planOf i (before m) q
+      follows q w = rw (← w) (decided .0 i (before m) tasks-are (ap (λ (x : Sizes). x .preds) e) h refl refl)
+
+    pub rule-refuses : (n d : ℕ) → plan ≡ Refused n d → (r : Stepped) → (r .answer ≡ answer.Refused n d) × (r .row ≡ row)
+        → Completes limits p k i sizes row succStarts buffers buffers executed executed run run r
+    unfolding ruleOf
+    rule-refuses n d w r a m e h =
+        rule-refused limits p k i Complete (before m) phase (enters m e h) row h n d (follows m e h (Refused n d) w) (r .answer) (r .row) a
+
+    pub sink-made : plan ≡ Sink → (executed' run' : List ℕ) → Records (row .held .0) i executed executed' run run' → (r : Stepped)
+        → Leaves phase (row .write) row r → Completes limits p k i sizes row succStarts buffers buffers executed executed' run run' r
+    unfolding ruleOf written updated
+    sink-made w executed' run' (hx, hn) r (a, o) m e h =
+        rw (a, o, hx, hn, enters m e h .leads, ← h)
+        (rule-accepted limits p k i Complete (before m) phase (enters m e h) Moved _ (follows m e h Sink w))
+
+    pub inner-made : plan ≡ Inner → (executed' run' : List ℕ) → Records (row .held .0) i executed executed' run run'
+        → (buffers' : List ℕ) → buffers' ≡ set buffers (i * sizes .weights + row .write) (row .held .0) → (r : Stepped)
+        → Leaves phase (row .write + 1) row r → Completes limits p k i sizes row succStarts buffers buffers' executed executed' run run' r
+    unfolding ruleOf written updated
+    inner-made w executed' run' (hx, hn) buffers' hb r (a, o) m e h =
+        rw (a, o, hx, hn, hb, enters m e h .leads, ← tasks-are m e h, ← h)
+        (rule-accepted limits p k i Complete (before m) phase (enters m e h) Moved _ (follows m e h Inner w))

@@ -1,0 +1,143 @@
+use Rattle.complete.proofs.Laws.{plan-over, plan-full, plan-held, plan-range, range-rises, plan-places, plan-counted, plan-sink, plan-inner}
+use Prim.Native.Nat.{_+_}
+use native.Mathlib.Omega.{arith}
+use borrow.Author.Needs.{needs}
+use Rattle.complete.proofs.plan_complete.Statement.{statement}
+use Rattle.complete.proofs.plan_complete.Tie as tie
+
+shared-slice-read-entries : tie.Need-shared-slice-read-entries
+shared-slice-read-entries c = search needs
+
+cast-entries : tie.Need-cast-entries
+cast-entries c = omega (arith, c .shared-slice-known .given 0)
+
+returns : tie.Need-returns
+returns c = (plan-over _ _ _ _ _ (c .if1 .taken), tt)
+
+returns-2 : tie.Need-returns-2
+returns-2 c = (plan-full _ _ _ _ _ (c .before .if1 .left) (c .if2 .taken), tt)
+
+cast-held : tie.Need-cast-held
+cast-held c = search needs
+
+returns-3 : tie.Need-returns-3
+returns-3 c = (plan-held _ _ _ _ _ (c .before .before .before .if1 .left) (c .before .before .if2 .left) (c .if3 .taken), tt)
+
+mul-first : tie.Need-mul-first
+mul-first c = search needs
+
+shared-slice-read-first : tie.Need-shared-slice-read-first
+shared-slice-read-first c = search needs
+
+add-past : tie.Need-add-past
+add-past c = search needs
+
+mul-past : tie.Need-mul-past
+mul-past c = search needs
+
+shared-slice-read-past : tie.Need-shared-slice-read-past
+shared-slice-read-past c = search needs
+
+cast-if4 : tie.Need-cast-if4
+cast-if4 c = omega (arith, c .shared-slice-known3 .given (c .before .before .before .before .before .before .before .args .row .held .0 + 1))
+
+returns-4 : tie.Need-returns-4
+returns-4 c = (
+  plan-range _ _ _ _ _
+      (c .before .before .before .before .before .before .if1 .left)
+      (c .before .before .before .before .before .if2 .left)
+      (c .before .before .before .if3 .left)
+      (c .if4 .taken),
+  tt,
+)
+
+sub-sink : tie.Need-sub-sink
+sub-sink c = range-rises _ _ _ (c .if4 .left)
+
+cast-joins : tie.Need-cast-joins
+cast-joins c = search needs
+
+returns-5 : tie.Need-returns-5
+returns-5 c = (
+  plan-places _ _ _ _ _
+      (c .before .before .before .before .before .before .before .before .before .if1 .left)
+      (c .before .before .before .before .before .before .before .before .if2 .left)
+      (c .before .before .before .before .before .before .if3 .left)
+      (c .before .before .before .if4 .left)
+      (c .if5 .taken),
+  tt,
+)
+
+mul-if6 : tie.Need-mul-if6
+mul-if6 c = search needs
+
+add-if6 : tie.Need-add-if6
+add-if6 c = search needs
+
+shared-slice-read-if6 : tie.Need-shared-slice-read-if6
+shared-slice-read-if6 c = search needs
+
+cast-if6 : tie.Need-cast-if6
+cast-if6 c = omega (arith, c .shared-slice-known4 .given 1)
+
+returns-6 : tie.Need-returns-6
+returns-6 c = (
+  plan-counted _ _ _ _ _
+      (c .before .before .before .before .before .before .before .before .before .before .before .if1 .left)
+      (c .before .before .before .before .before .before .before .before .before .before .if2 .left)
+      (c .before .before .before .before .before .before .before .before .if3 .left)
+      (c .before .before .before .before .before .if4 .left)
+      (c .before .before .if5 .left)
+      (c .if6 .taken),
+  tt,
+)
+
+returns-7 : tie.Need-returns-7
+returns-7 c =
+    plan-sink _ _ _ _ _
+    (c .before .before .before .before .before .before .before .before .before .before .before .before .if1 .left)
+    (c .before .before .before .before .before .before .before .before .before .before .before .if2 .left)
+    (c .before .before .before .before .before .before .before .before .before .if3 .left)
+    (c .before .before .before .before .before .before .if4 .left)
+    (c .before .before .before .if5 .left)
+    (c .before .if6 .left)
+    (c .if7 .taken)
+
+returns-8 : tie.Need-returns-8
+returns-8 c =
+    plan-inner _ _ _ _ _
+    (c .before .before .before .before .before .before .before .before .before .before .before .before .if1 .left)
+    (c .before .before .before .before .before .before .before .before .before .before .before .if2 .left)
+    (c .before .before .before .before .before .before .before .before .before .if3 .left)
+    (c .before .before .before .before .before .before .if4 .left)
+    (c .before .before .before .if5 .left)
+    (c .before .if6 .left)
+    (c .if7 .left)
+
+pub plan-complete-spec : {M : Type 1} → statement M
+plan-complete-spec =
+    tie.close
+    (tie.spec
+    shared-slice-read-entries
+    cast-entries
+    returns
+    returns-2
+    cast-held
+    returns-3
+    mul-first
+    shared-slice-read-first
+    add-past
+    mul-past
+    shared-slice-read-past
+    cast-if4
+    returns-4
+    sub-sink
+    cast-joins
+    returns-5
+    mul-if6
+    add-if6
+    shared-slice-read-if6
+    cast-if6
+    returns-6
+    returns-7
+    returns-8)

@@ -1,0 +1,4 @@
+pub mod Finishes
+pub mod Printed
+pub mod Examples
+pub mod Cut

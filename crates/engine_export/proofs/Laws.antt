@@ -1,0 +1,28 @@
+-- A reply is what its answer says, whatever the answer comes from.
+use Prim.Native.Nat.{ℕ}
+use mathlib.Core.Path.{_≡_, ap}
+use Rattle.task.specs.Types.{engine}
+use Rattle.task.specs.declared.Answer.{Answer}
+use Rattle.task.specs.declared.Limits.{Limits}
+use Rattle.task.specs.declared.Step.{Step}
+use Rattle.task.specs.declared.StepAnswer.{StepAnswer}
+use Rattle.rules.specs.Memory.{Mem}
+use Rattle.rules.specs.Begin.{begin}
+use Rattle.rules.specs.Steps.{step}
+use Rattle.engine.specs.Engine.{result}
+use Rattle.engine_export.specs.declared.Reply.{Reply}
+use Rattle.engine_export.specs.declared.StepReply.{StepReply}
+use Rattle.engine_export.specs.Replies.{replyOf, stepReplyOf, replied}
+
+-- what a function gives in a case that its argument is in
+pub in-case : {A R : Type 0} (f : A → R) (r : R) (a b : A) → a ≡ b → r ≡ f b → r ≡ f a
+in-case f r a b e q = rw e q
+
+-- the calls are made with the engine's limits
+module _ (limits : Limits) (own : limits ≡ engine) (p k : ℕ) (m m′ : Mem) where
+  pub begin-reply : (r : Reply) (a : Answer) → r ≡ replyOf a → result a m′ ≡ begin limits p k m → result r m′ ≡ replied replyOf (begin engine p k m)
+  begin-reply r a e q = rw (e, ← own) (ap (replied replyOf) q)
+
+  pub step-reply : (s : Step) (i j : ℕ) (r : StepReply) (a : StepAnswer) → j ≡ i → r ≡ stepReplyOf a → result a m′ ≡ step limits p k j s m
+      → result r m′ ≡ replied stepReplyOf (step engine p k i s m)
+  step-reply s i j r a z e q = rw (e, ← own, ← z) (ap (replied stepReplyOf) q)

@@ -1,0 +1,79 @@
+use Rattle.fetch.proofs.Laws.{fetch-refused, fetch-filler, fetch-ready, fetch-taken}
+use borrow.Author.Needs.{needs}
+use Rattle.fetch.proofs.fetch_admitted.Statement.{statement}
+use Rattle.fetch.proofs.fetch_admitted.Tie as tie
+
+plan-fetch-requires : tie.Need-plan-fetch-requires
+plan-fetch-requires c κs = search needs
+
+enum-known-plan : tie.Need-enum-known-plan
+enum-known-plan c = search needs
+
+refused-requires : tie.Need-refused-requires
+refused-requires c κs = search needs
+
+enum-known-plan-2 : tie.Need-enum-known-plan-2
+enum-known-plan-2 c = search needs
+
+take-task-requires : tie.Need-take-task-requires
+take-task-requires c κs =
+    fetch-ready _ _ _ _ _ _ _ _ _ _ _ (c .before .before .before .before .before .before .plan-fetch .ensures) _ _
+    (c .before .before .before .before .plan2 .given .1)
+    (c .before .before .before .before .before .before .before .before .before .before .before .before .before .before .pre .0)
+    (c .before .before .before .before .before .before .before .before .before .before .before .before .before .before .pre .1)
+
+after-worker-requires : tie.Need-after-worker-requires
+after-worker-requires c κs = (
+  fetch-filler _ _ _ _ _ _ _ _ _ _ _ (c .before .before .before .before .before .before .before .before .before .before .before .before .plan-fetch .ensures) _ _
+      (c .before .before .before .before .before .before .before .before .before .before .plan2 .given .1),
+  c .before .before .before .before .before .before .before .before .before .before .before .before .before .before .before .before .before .before .before .before .pre .0 .fewWorkers,
+)
+
+same-length : tie.Need-same-length
+same-length c = search needs
+
+same-length-2 : tie.Need-same-length-2
+same-length-2 c = search needs
+
+same-length-3 : tie.Need-same-length-3
+same-length-3 c = search needs
+
+returns : tie.Need-returns
+returns c =
+    fetch-refused _ _ _ _ _ _ _ _ _ _ _ _ (c .before .before .before .before .plan-fetch .ensures) _ _ (c .before .before .plan .given .1) _
+    (c .refused .ensures)
+
+same-length-4 : tie.Need-same-length-4
+same-length-4 c = search needs
+
+same-length-5 : tie.Need-same-length-5
+same-length-5 c = search needs
+
+same-length-6 : tie.Need-same-length-6
+same-length-6 c = search needs
+
+returns-2 : tie.Need-returns-2
+returns-2 c =
+    fetch-taken _ _ _ _ _ _ _ _ _ _ _ _
+    (c .before .before .before .before .before .before .before .before .before .before .before .before .before .plan-fetch .ensures) _ _
+    (c .before .before .before .before .before .before .before .before .before .before .before .plan2 .given .1)
+    _ _ _ _ _ (c .before .before .before .before .before .before .take-task .ensures) (c .after-worker .ensures)
+
+pub fetch-admitted-spec : {M : Type 1} → statement M
+fetch-admitted-spec =
+    tie.close
+    (tie.spec
+    plan-fetch-requires
+    enum-known-plan
+    refused-requires
+    enum-known-plan-2
+    take-task-requires
+    after-worker-requires
+    same-length
+    same-length-2
+    same-length-3
+    returns
+    same-length-4
+    same-length-5
+    same-length-6
+    returns-2)

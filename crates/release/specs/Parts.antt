@@ -1,0 +1,74 @@
+-- What the parts of Release do once the successor is picked.
+use Prim.Native.Nat.{ℕ, _+_, _*_, _≤_, _<_}
+use mathlib.Core.Path.{_≡_}
+use mathlib.Core.List.{List}
+use lib.ListN.{length, set}
+use Rattle.task.specs.Types.{engine}
+use Rattle.task.specs.Phases.{leadsTo}
+use Rattle.task.specs.declared.Limits.{Limits}
+use Rattle.task.specs.declared.Row.{Row}
+use Rattle.task.specs.declared.Step.the-variants as step-name
+use Rattle.choice.specs.Search.{at}
+use Rattle.rules.specs.Memory.{Mem, memOf, tasks, edges, rowIn}
+use Rattle.rules.specs.Plans.{Plan}
+use Rattle.rules.specs.Steps.{releaseTo, releaseReady, releaseWaiting, stepPlan, step}
+use Rattle.admission.specs.Admission.{resultOf}
+use Rattle.admission.specs.declared.Stepped.{Stepped}
+use Rattle.release_plan.specs.Picks.{Next}
+use Rattle.release_plan.specs.declared.Successor.{Successor}
+use Rattle.release.specs.Release.{Words, wordsOf}
+
+-- what a Release knows of its numbers: a run has n tasks and a steps (at most 3·1,024 + 8,192), and `words` are its run words
+pub record Goes (a : ℕ) (r : Row) (s : Successor) (n : ℕ) (words : List ℕ) : Type 0 where
+  pub steps : a ≤ 11264
+  pub place : r .read < r .write
+  pub cursor : r .cursor < s .count
+  pub task : s .task .0 < n
+  pub run : _≡_ {A = ℕ} (length words) 2
+
+-- worker i's rings and the words lie within their lists
+pub record Sized (p k i n : ℕ) (x : Words) : Type 0 where
+  pub worker : i < p
+  pub fewWorkers : p ≤ engine .workers
+  pub fewSlots : k ≤ engine .slots
+  pub degrees : length (x .degrees) ≡ n
+  pub rings : length (x .rings) ≡ p * p * k
+  pub ends : length (x .ends) ≡ p * p * 2
+  pub counters : length (x .counters) ≡ p * p
+
+-- a memory with that row of worker i and that successor, where a steps are a run, in a Release that leads to phase q
+pub record Stands (i a q : ℕ) (r : Row) (s : Successor) (m : Mem) : Type 0 where
+  pub steps : 3 * tasks m + edges m ≡ a
+  pub phase : q ≡ leadsTo step-name.Release
+  pub row : rowIn m i ≡ r
+  pub next : Next i m s
+
+-- a memory with these words and rows
+abbrev pub withWords : Mem → Words → List Row → Mem
+withWords m x rows =
+    memOf (m .weights) (m .predStarts) (m .preds) (m .succStarts) (m .succs) (x .degrees) (x .rings) (x .ends) (x .counters) (m .buffers) (m .executed) (x .run) rows
+
+-- a Release by worker i that has come to the plan `rest` ends so, its words x become x′
+abbrev pub Finishes : Limits → (p k i : ℕ) → (Mem → Plan) → Mem → Words → Words → Stepped → Type 0
+Finishes limits p k i rest m x x′ r =
+    stepPlan limits p k i step-name.Release (withWords m x (m .rows)) ≡ rest (withWords m x (m .rows))
+    → resultOf (r .answer) (withWords m x′ (set (m .rows) i (r .row)))
+    ≡ step limits p k i step-name.Release (withWords m x (m .rows))
+
+-- whatever the other lists hold: the degree stays above 0
+abbrev pub Lowers : (a q : ℕ) → Row → Successor → (d run d′ run′ : List ℕ) → Stepped → Type 0
+Lowers a q row next d run d′ run′ r =
+    (limits : Limits) (p k i : ℕ) (m : Mem) → Stands i a q row next m
+    → Finishes limits p k i (releaseWaiting i) m
+    (wordsOf d (m .rings) (m .ends) (m .counters) run) (wordsOf d′ (m .rings) (m .ends) (m .counters) run′) r
+
+-- the task joins the ring of owner o
+abbrev pub Places : (p k i a q : ℕ) → Row → Successor → ℕ → List ℕ → Words → Words → Stepped → Type 0
+Places p k i a q row next o weights x x′ r =
+    (limits : Limits) (m : Mem) → Stands i a q row next m → m .weights ≡ weights
+    → Finishes limits p k i (λ m. releaseTo p k i m (at o)) m x x′ r
+
+-- the degree becomes 0
+abbrev pub PlacesReady : (p k i a q : ℕ) → Row → Successor → List ℕ → Words → Words → Stepped → Type 0
+PlacesReady p k i a q row next weights x x′ r =
+    (limits : Limits) (m : Mem) → Stands i a q row next m → m .weights ≡ weights → Finishes limits p k i (releaseReady p k i) m x x′ r

@@ -1,0 +1,59 @@
+-- What Release by value does to the memory whose lists it is lent: worker i's row goes in and comes back.
+use Prim.Native.Nat.{ℕ}
+use mathlib.Core.Path.{_≡_}
+use mathlib.Core.List.{List}
+use lib.ListN.{length, set}
+use lib.IntN.{ℤ}
+use Rattle.task.specs.declared.Limits.{Limits}
+use Rattle.task.specs.declared.Row.{Row}
+use Rattle.task.specs.declared.Step.the-variants as step-name
+use Rattle.rules.specs.Memory.{Mem, memOf, rowIn}
+use Rattle.rules.specs.Steps.{step}
+use Rattle.admission.specs.Admission.{sizesOf, resultOf}
+use Rattle.admission.specs.declared.Sizes.{Sizes}
+use Rattle.admission.specs.declared.Stepped.{Stepped}
+
+-- the lists that Release reads alone
+pub record Tables : Type 0 where
+  pub weights : List ℕ
+  pub succStarts : List ℕ
+  pub succs : List ℕ
+  pub buffers : List ℕ
+
+abbrev pub tablesOf : List ℕ → List ℕ → List ℕ → List ℕ → Tables
+tablesOf w ss s b = record { weights = w; succStarts = ss; succs = s; buffers = b }
+
+-- those that it writes
+pub record Words : Type 0 where
+  pub degrees : List ℕ
+  pub rings : List ℕ
+  pub ends : List ℕ
+  pub counters : List ℤ
+  pub run : List ℕ
+
+abbrev pub wordsOf : List ℕ → List ℕ → List ℕ → List ℤ → List ℕ → Words
+wordsOf d r e c n = record { degrees = d; rings = r; ends = e; counters = c; run = n }
+
+-- a memory with these lists
+abbrev pub lent : Mem → Tables → Words → List Row → Mem
+lent m t x rows =
+    memOf (t .weights) (m .predStarts) (m .preds) (t .succStarts) (t .succs) (x .degrees) (x .rings) (x .ends) (x .counters) (t .buffers) (m .executed) (x .run) rows
+
+-- whatever the other lists hold
+abbrev pub Releases : Limits → ℕ → ℕ → ℕ → Sizes → Row → Tables → Words → Words → Stepped → Type 0
+Releases limits p k i sizes row t x x' r =
+    (m : Mem) → sizesOf (lent m t x (m .rows)) ≡ sizes → rowIn m i ≡ row
+    → resultOf (r .answer) (lent m t x' (set (m .rows) i (r .row)))
+    ≡ step limits p k i step-name.Release (lent m t x (m .rows))
+
+-- the lists are of the lengths that `sizes` has for them
+pub record Lent (sizes : Sizes) (t : Tables) (x : Words) : Type 0 where
+  pub weights : length (t .weights) ≡ sizes .weights
+  pub succStarts : length (t .succStarts) ≡ sizes .«succ_starts»
+  pub succs : length (t .succs) ≡ sizes .succs
+  pub buffers : length (t .buffers) ≡ sizes .buffers
+  pub degrees : length (x .degrees) ≡ sizes .degrees
+  pub rings : length (x .rings) ≡ sizes .rings
+  pub ends : length (x .ends) ≡ sizes .ends
+  pub counters : length (x .counters) ≡ sizes .counters
+  pub run : length (x .run) ≡ sizes .run

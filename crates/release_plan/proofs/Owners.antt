@@ -1,0 +1,87 @@
+-- The counters, the target and the search from it on, and what they leave.
+use Prim.Native.Nat.{ℕ, zero, suc, _+_, _*_, _%_, _<_}
+use mathlib.Core.Path.{_≡_, sym, subst, _∙_}
+use mathlib.Core.Bool.{true, not}
+use mathlib.Core.List.{List, [], _∷_}
+use native.Mathlib.Omega.{arith}
+use native.Mathlib.Nat.{mod-lt}
+use lib.ListN.{length, getD}
+use lib.IntN.{ℤ, pos}
+use Rattle.lists.proofs.Told.{and-true}
+use Rattle.lists.specs.Circles.{around}
+use Rattle.ring.specs.Ring.{Sound, Full, sound, full, endsAt}
+use Rattle.ring.proofs.Ends.{full-told}
+use Rattle.choice.specs.Least.{target}
+use Rattle.choice.specs.Search.{at, search}
+use Rattle.choice.specs.Search as rules
+use Rattle.choice.proofs.Least.{target-is}
+use Rattle.rules.specs.Memory.{Mem}
+use Rattle.rules.specs.Words.{counterFits, countersFit}
+use Rattle.rules.specs.Steps.{findRoom, releaseTo, releaseReady}
+use Rattle.rules.proofs.Searches.{Looked, search-looked}
+use Rattle.task.specs.declared.WorkerId.{WorkerId}
+use Rattle.counters.specs.Choice.{Chosen}
+use Rattle.counters.specs.declared.Choice.{Choice}
+use Rattle.counters.specs.declared.Choice.the-variants as choice
+use Rattle.searches.specs.Searches.{foundOf}
+use Rattle.searches.specs.declared.Found.{Found}
+use Rattle.searches.specs.declared.Found.the-variants as found
+use Rattle.release_plan.specs.Owners.{Offers, Takes, Owned}
+use Rattle.release_plan.specs.declared.Owner.the-variants.{Refused}
+
+-- one of the counters that all fit
+counter-among : (c : List ℤ) → countersFit c ≡ true → (q : ℕ) → q < length c → counterFits (getD c q (pos 0)) ≡ true
+unfolding countersFit
+counter-among [] e q h = absurd (omega arith)
+counter-among (x ∷ c) e zero h = and-true (counterFits x) (countersFit c) e .0
+counter-among (x ∷ c) e (suc q) h = counter-among c (and-true (counterFits x) (countersFit c) e .1) q (omega arith)
+
+module _ (p k i j : ℕ) (e : List ℕ) where
+  -- the search from owner j on
+  abbrev room : rules.Found
+  room = search (λ o. sound k (endsAt e (o * p + i))) (λ o. not (full k (endsAt e (o * p + i)))) (around p j)
+
+  module _ (r : Found) (hr : foundOf r ≡ room) (o : WorkerId) (g : r ≡ found.At o) where
+    looked : Looked p k (Full k) (λ d. endsAt e ((j + d) % p * p + i)) j (at (o .0))
+    looked = rw (← hr, g) at (search-looked p k j (Full k) (full k) (full-told k) (λ o. endsAt e (o * p + i)))
+
+    found-below : i < p → o .0 < p
+    found-below h = rw (looked .2) (mod-lt (j + looked .0) (omega arith))
+
+    found-sound : Sound k (endsAt e (o .0 * p + i))
+    found-sound = subst (λ (x : ℕ). Sound k (endsAt e (x * p + i))) (sym (looked .2)) (looked .1 .sound)
+
+module _ (p : ℕ) (c : List ℤ) (x : Choice) (hx : Chosen p c x) where
+  module _ (j : WorkerId) (t : x ≡ choice.Target j) where
+    chosen : (countersFit c ≡ true) × (j .0 ≡ target p c)
+    chosen = rw t at hx
+
+    pub target-below : 0 < p → j .0 < p
+    target-below h = rw (chosen .1) (target-is p c h .worker)
+
+  module _ (k i s : ℕ) (e : List ℕ) where
+    pub owner-damaged : x ≡ choice.Damaged → Owned p k i s e c (Refused 8 0)
+    unfolding releaseReady
+    owner-damaged g m v = rw (v .counters, rw g at hx)
+
+    module _ (j : WorkerId) (t : x ≡ choice.Target j) (r : Found) (hr : foundOf r ≡ room p k i (j .0) e) where
+      goes-to : (m : Mem) → Offers i s e c m → releaseReady p k i m ≡ releaseTo p k i m (foundOf r)
+      unfolding releaseReady findRoom
+      goes-to m v = rw (v .counters, v .ends, chosen j t .0, ← (chosen j t .1), ← hr)
+
+      pub owner-unsound : r ≡ found.Unsound → Owned p k i s e c (Refused 8 0)
+      unfolding releaseTo
+      owner-unsound g m v = goes-to m v ∙ rw g
+
+      pub owner-none : r ≡ found.None → Owned p k i s e c (Refused 11 s)
+      unfolding releaseTo
+      owner-none g m v = goes-to m v ∙ rw (g, v .task)
+
+      pub owner-at : (o : WorkerId) → r ≡ found.At o → i < p → Takes p k i s e c (o .0)
+      owner-at o g h =
+          record {
+            owner = found-below p k i (j .0) e r hr o g h;
+            sound = found-sound p k i (j .0) e r hr o g;
+            counters = counter-among c (chosen j t .0);
+            follows = λ m v. goes-to m v ∙ rw g;
+          }

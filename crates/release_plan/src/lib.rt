@@ -1,0 +1,106 @@
+// What Release reads before it writes: the successor at the cursor, and the owner whose ring takes it.
+ghost use mathlib.Core.Path.{_≡_};
+ghost use Prim.Native.Nat.{_+_, _*_, _≤_, _<_};
+ghost use lib.ListN.{length};
+ghost use Rattle.task.specs.Types.{engine};
+ghost use Rattle.ring.specs.Ring.{endWords};
+ghost use Rattle.release_plan.specs.Picks.{Picked};
+ghost use Rattle.release_plan.specs.Owners.{Owned};
+use counters::Choice;
+use searches::Found;
+use task::Row;
+use task::TaskId;
+use task::WorkerId;
+use task::refusal;
+
+// The successor at the cursor, and how many successors the completed task has.
+pub struct Successor {
+    pub task: TaskId,
+    pub count: u32,
+}
+
+// Refused; or a successor that waits on, with the degree left to it; or one that is ready.
+pub enum Pick {
+    Refused(u32, u32),
+    Waiting(Successor, u32),
+    Ready(Successor),
+}
+
+// The oldest task in the worker's buffer, and its successor at the cursor.
+pub fn pick_next(
+    succ_starts: &[u32],
+    succs: &[u32],
+    degrees: &[u32],
+    buffers: &[u32],
+    worker: WorkerId,
+    row: Row,
+) -> Pick
+    requires { ⌜ (length (now «succ_starts») ≡ length (now degrees) + 1) × (worker .0 * length (now degrees) + length (now degrees) ≤ length (now buffers)) ⌝ }
+    ensures { λ r. ⌜ Picked (worker .0) row (now («succ_starts» .entry)) (now (succs .entry)) (now (degrees .entry)) (now (buffers .entry)) r ⌝ }
+{
+    let n = degrees.len();
+    if !((row.read <= row.write) & (row.write as usize <= n)) {
+        return Pick::Refused(refusal::DAMAGED, 0);
+    }
+    if row.read == row.write {
+        return Pick::Refused(refusal::NOTHING_THERE, 0);
+    }
+    let done = buffers[worker.0 as usize * n + row.read as usize] as usize;
+    if n <= done {
+        return Pick::Refused(refusal::DAMAGED, 0);
+    }
+    let first = succ_starts[done];
+    let past = succ_starts[done + 1];
+    if !((first <= past) & (past as usize <= succs.len())) {
+        return Pick::Refused(refusal::DAMAGED, 0);
+    }
+    if past - first <= row.cursor {
+        return Pick::Refused(refusal::DAMAGED, 0);
+    }
+    let task = succs[first as usize + row.cursor as usize];
+    if n <= task as usize {
+        return Pick::Refused(refusal::DAMAGED, 0);
+    }
+    let degree = degrees[task as usize];
+    if !((1 <= degree) & (degree as usize <= n)) {
+        return Pick::Refused(refusal::DAMAGED, 0);
+    }
+    let next = Successor {
+        task: TaskId(task),
+        count: past - first,
+    };
+    if degree == 1 {
+        return Pick::Ready(next);
+    }
+    Pick::Waiting(next, degree - 1)
+}
+
+// Refused, or the worker whose ring takes the task.
+pub enum Owner {
+    Refused(u32, u32),
+    At(WorkerId),
+}
+
+// The first ring filled by the worker that isn't full, its owners from the target upward, modulo p.
+pub fn find_owner(
+    ends: &[u32],
+    counters: &[i32],
+    p: usize,
+    k: usize,
+    worker: WorkerId,
+    task: TaskId,
+) -> Owner
+    requires { ⌜ (worker .0 < p) × ((p ≤ engine .workers) × ((k ≤ engine .slots) × ((length (now ends) ≡ p * p * endWords) × (length (now counters) ≡ p * p)))) ⌝ }
+    ensures { λ r. ⌜ Owned p k (worker .0) (task .0) (now (ends .entry)) (now (counters .entry)) r ⌝ }
+{
+    let choice = counters::choose(counters, p);
+    let Choice::Target(target) = choice else {
+        return Owner::Refused(refusal::DAMAGED, 0);
+    };
+    let found = searches::find_room(ends, p, k, worker, target);
+    match found {
+        Found::Unsound => Owner::Refused(refusal::DAMAGED, 0),
+        Found::None => Owner::Refused(refusal::RINGS_FULL, task.0),
+        Found::At(owner) => Owner::At(owner),
+    }
+}

@@ -1,0 +1,201 @@
+-- One task after the other laid down: what lets the next one be, and what it makes of the rings.
+use Prim.Native.Nat.{ℕ, _+_, _*_, _%_, _≤_, _<_}
+use mathlib.Core.Path.{_≡_, sym, ap, _∙_}
+use mathlib.Core.Bool.{true, cond}
+use mathlib.Core.List.{List, [], _∷_, _++_, append-nil}
+use native.Mathlib.Omega.{arith}
+use native.Mathlib.Decide.{ℕ-discrete}
+use native.Mathlib.Numerals.{add-one}
+use native.Mathlib.Nat.{mod-lt, mod-eq-of-lt, mod-add-mod}
+use lib.IntN.{ℤ, pos, _+ℤ_}
+use lib.ListN.{length, getD, set, replicate, length-set, length-append, length-replicate}
+use lib.Seq.{getD-set-same, getD-set-other}
+use borrow.Author.Tests.{le-leb}
+use Rattle.lists.specs.Circles.{after}
+use Rattle.lists.specs.Decided.{holds}
+use Rattle.lists.specs.Lists.{joined}
+use Rattle.lists.proofs.Decided.{yes-holds, no-holds}
+use Rattle.lists.proofs.Prefixes.{getD-equals, zeros}
+use Rattle.lists.proofs.Blocks.{joined-same, getD-tabulate}
+use Rattle.lists.proofs.Places.{place-end}
+use Rattle.task.specs.Types.{engine}
+use Rattle.graph.specs.Graph.{Graph, predsOf}
+use Rattle.graph.specs.Successors.{degreeList, roots}
+use Rattle.graph.proofs.Reversed.{length-degrees}
+use Rattle.ring.specs.Ring.{Sound, slotAt, endsAt, storeEnds, tailOn, Rings, ringsOf, appendedAt, Inside}
+use Rattle.ring.proofs.Ends.{length-stored, ends-cleared, stored-sound, sound-append}
+use Rattle.rules.specs.Memory.{Mem}
+use Rattle.rules.specs.Words.{counterFits}
+use Rattle.rules.specs.Updates.{updated, written}
+use Rattle.rules.specs.Steps.{join}
+use Rattle.rules.specs.Begin.{rootsPlaced}
+use Rattle.roots.specs.Laying.{rootsBelow, laidIn, Placed, Job, Room, Laid}
+
+module _ (degrees : List ℕ) (t : ℕ) where
+  below-skip : ¬ (getD degrees t 0 ≡ 0) → rootsBelow degrees (t + 1) ≡ rootsBelow degrees t
+  unfolding rootsBelow joined
+  below-skip n = ap (rootsBelow degrees) (add-one t) ∙ rw (no-holds (ℕ-discrete (getD degrees t 0) 0) n) (append-nil (rootsBelow degrees t))
+
+  below-root : getD degrees t 0 ≡ 0 → rootsBelow degrees (t + 1) ≡ rootsBelow degrees t ++ (t ∷ [])
+  unfolding rootsBelow joined
+  below-root e = ap (rootsBelow degrees) (add-one t) ∙ rw (yes-holds (ℕ-discrete (getD degrees t 0) 0) e)
+
+-- one root more is placed
+placed-snoc : (p k n : ℕ) (ts : List ℕ) (t : ℕ) (m : Mem)
+    → rootsPlaced p k n (ts ++ (t ∷ [])) m
+    ≡ written (join p k ((n + length ts) % p) ((n + length ts) % p) t (rootsPlaced p k n ts m)) (rootsPlaced p k n ts m)
+unfolding rootsPlaced
+placed-snoc p k n [] t m = ap (λ (x : ℕ). written (join p k (x % p) (x % p) t m) m) (omega arith)
+placed-snoc p k n (x ∷ ts) t m =
+    placed-snoc p k (n + 1) ts t (written (join p k (n % p) (n % p) x m) m)
+    ∙ ap (λ (y : ℕ). written (join p k (y % p) (y % p) t b) b) (omega arith)
+  where
+    b : Mem
+    b = rootsPlaced p k (n + 1) ts (written (join p k (n % p) (n % p) x m) m)
+
+laid-same : (m : Mem) (w : List ℕ) {r r′ e e′ : List ℕ} {c c′ : List ℤ} → r ≡ r′ → e ≡ e′ → c ≡ c′ → laidIn m w r e c ≡ laidIn m w r′ e′ c′
+laid-same m w a b d = rw (a, b, d)
+
+counter-fits : (x : ℕ) → x ≤ 1073741824 → counterFits (pos x) ≡ true
+counter-fits x h = le-leb x 1073741824 h
+
+-- cleared lists, before any task
+pub laid-none : (p k : ℕ) (weights degrees rings ends rings′ ends′ : List ℕ) (counters counters′ : List ℤ)
+    → Job p k weights degrees → Room p k rings ends counters
+    → rings′ ≡ replicate (length rings) 0 → ends′ ≡ replicate (length ends) 0 → counters′ ≡ replicate (length counters) (pos 0)
+    → Laid p k weights degrees 0 0 rings′ ends′ counters′
+unfolding rootsBelow joined rootsPlaced
+laid-none p k weights degrees rings ends rings′ ends′ counters counters′ job room r e c =
+    record {
+      job = job;
+      room =
+          record {
+            rings = ap length r ∙ length-replicate _ _ ∙ room .rings;
+            ends = ap length e ∙ length-replicate _ _ ∙ room .ends;
+            counters = ap length c ∙ length-replicate _ _ ∙ room .counters;
+          };
+      upto = omega arith;
+      next = sym (mod-eq-of-lt (job .oneWorker));
+      sound = λ q h.
+          rw (e, ends-cleared (replicate (length ends) 0) q (zeros (length ends) (q * 2)) (zeros (length ends) (q * 2 + 1))) (job .oneSlot, job .oneSlot);
+      small = λ q h. (0, (rw c (getD-equals (length counters) q (pos 0)), omega arith));
+      placed = λ m.
+          laid-same m weights (r ∙ ap (λ (n : ℕ). replicate n 0) (room .rings)) (e ∙ ap (λ (n : ℕ). replicate n 0) (room .ends))
+          (c ∙ ap (λ (n : ℕ). replicate n (pos 0)) (room .counters));
+    }
+
+module _ (p k : ℕ) (weights degrees : List ℕ) (t owner : ℕ) (rings ends : List ℕ) (counters : List ℤ)
+    (l : Laid p k weights degrees t owner rings ends counters) (h : t < length degrees) where
+  pub laid-skip : ¬ (getD degrees t 0 ≡ 0) → Laid p k weights degrees (t + 1) owner rings ends counters
+  laid-skip n =
+      record {
+        job = l .job;
+        room = l .room;
+        upto = omega arith;
+        next = rw (below-skip degrees t n) (l .next);
+        sound = l .sound;
+        small = λ q i. let (x, (e, b)) = l .small q i in (x, (e, omega arith));
+        placed = rw (below-skip degrees t n) (l .placed);
+      }
+
+  pub owner-ready : (owner < p) × ((owner < p) × (p ≤ engine .workers))
+  owner-ready = (fits, (fits, l .job .fewWorkers))
+    where
+      fits : owner < p
+      fits = rw (l .next) (mod-lt (length (rootsBelow degrees t)) (l .job .oneWorker))
+
+  module _ (q : ℕ) (inside : q < p * p) where
+    pub ring-ready : Inside k q (ringsOf rings ends) × Sound k (endsAt ends q)
+    unfolding slotAt
+    ring-ready = (
+      record {
+        few = l .job .fewSlots;
+        slots = rw (l .room .rings) (place-end k (p * p) q inside);
+        ends = omega (arith, l .room .ends);
+      },
+      l .sound q inside,
+    )
+
+    light : getD weights t 0 ≤ 65535
+    light = l .job .light t (omega (arith, l .job .weighed))
+
+    pub counter-ready : (q < length counters) × ((counterFits (getD counters q (pos 0)) ≡ true) × (getD weights t 0 ≤ 65535))
+    counter-ready =
+        let (x, (e, b)) = l .small q inside in
+        (omega (arith, l .room .counters), (rw e (counter-fits x (omega (arith, l .job .fewTasks))), light))
+
+    -- a root in its owner's own ring
+    module _ (own : q ≡ owner * p + owner) (root : getD degrees t 0 ≡ 0) (rings′ ends′ : List ℕ) (counters′ : List ℤ)
+        (appends : ringsOf rings′ ends′ ≡ appendedAt k q t (ringsOf rings ends))
+        (raises : counters′ ≡ set counters q (getD counters q (pos 0) +ℤ pos (getD weights t 0))) where
+      new-rings : rings′ ≡ set rings (slotAt k q (endsAt ends q .tail)) t
+      unfolding appendedAt
+      new-rings = ap (λ (r : Rings ℕ). r .slots) appends
+
+      new-ends : ends′ ≡ storeEnds ends q (tailOn k (endsAt ends q))
+      unfolding appendedAt
+      new-ends = ap (λ (r : Rings ℕ). r .ends) appends
+
+      small-after : (r : ℕ) → r < p * p → Dec (r ≡ q) → (x : ℕ) × ((getD counters′ r (pos 0) ≡ pos x) × (x ≤ (t + 1) * 65535))
+      small-after r i (yes e) =
+          let (x, (a, b)) = l .small q inside in
+          (x + getD weights t 0, (rw (raises, e) (getD-set-same counters q _ (pos 0) (omega (arith, l .room .counters)) ∙ rw a), omega (arith, light)))
+      small-after r i (no n) =
+          let (x, (a, b)) = l .small r i in
+          (x, (ap (λ (c : List ℤ). getD c r (pos 0)) raises ∙ getD-set-other counters q r _ (pos 0) n ∙ a, omega arith))
+
+      joins : (m : Mem) → laidIn m weights rings′ ends′ counters′
+          ≡ written (join p k owner owner t (laidIn m weights rings ends counters)) (laidIn m weights rings ends counters)
+      unfolding written updated
+      joins m = rw (← own) (laid-same m weights new-rings new-ends raises)
+
+      placed-after : Placed p k weights degrees (t + 1) rings′ ends′ counters′
+      placed-after m =
+          joins m
+          ∙ ap (λ (b : Mem). written (join p k owner owner t b) b) (l .placed m)
+          ∙ ap (λ (o : ℕ). written (join p k o o t before) before) (l .next ∙ ap (λ (n : ℕ). n % p) (omega arith))
+          ∙ sym (placed-snoc p k 0 (rootsBelow degrees t) t start)
+          ∙ ap (λ (ts : List ℕ). rootsPlaced p k 0 ts start) (sym (below-root degrees t root))
+        where
+          start : Mem
+          start = laidIn m weights (replicate (p * p * k) 0) (replicate (p * p * 2) 0) (replicate (p * p) (pos 0))
+
+          before : Mem
+          before = rootsPlaced p k 0 (rootsBelow degrees t) start
+
+      pub laid-root : (next : ℕ) → next ≡ after p owner → Laid p k weights degrees (t + 1) next rings′ ends′ counters′
+      unfolding after
+      laid-root next e =
+          record {
+            job = l .job;
+            room =
+                record {
+                  rings = ap length new-rings ∙ length-set rings (slotAt k q (endsAt ends q .tail)) t ∙ l .room .rings;
+                  ends = ap length new-ends ∙ length-stored ends q (tailOn k (endsAt ends q)) ∙ l .room .ends;
+                  counters = ap length raises ∙ length-set counters q _ ∙ l .room .counters;
+                };
+            upto = omega arith;
+            next =
+                e ∙ ap (λ (o : ℕ). (o + 1) % p) (l .next) ∙ mod-add-mod (length (rootsBelow degrees t)) p 1
+                ∙ ap (λ (n : ℕ). n % p) (omega (arith, ap length (below-root degrees t root), length-append (rootsBelow degrees t) (t ∷ [])));
+            sound = rw new-ends
+                (stored-sound k (p * p) ends q (tailOn k (endsAt ends q)) (l .room .ends) (l .sound) (sound-append k (endsAt ends q) (l .sound q inside)));
+            small = λ r i. small-after r i (ℕ-discrete r q);
+            placed = placed-after;
+          }
+
+pub laid-whole : (p k : ℕ) (weights degrees : List ℕ) (t owner : ℕ) (rings ends : List ℕ) (counters : List ℤ)
+    → Laid p k weights degrees t owner rings ends counters → length degrees ≤ t → Placed p k weights degrees (length degrees) rings ends counters
+laid-whole p k weights degrees t owner rings ends counters l h = rw (← at (l .upto)) (l .placed)
+  where
+    at : t ≤ length degrees → t ≡ length degrees
+    at u = omega arith
+
+-- by a graph's degrees, the roots below N are its roots
+pub roots-below : (g : Graph) → rootsBelow (degreeList g) (length (degreeList g)) ≡ roots g
+unfolding rootsBelow degreeList roots
+roots-below g =
+    ap (rootsBelow (degreeList g)) (length-degrees g)
+    ∙ joined-same (g .tasks) (λ t. cond (holds (ℕ-discrete (length (predsOf g t)) 0)) (t ∷ []) [])
+    (λ t. cond (holds (ℕ-discrete (getD (degreeList g) t 0) 0)) (t ∷ []) [])
+    (λ t h. ap (λ (x : ℕ). cond (holds (ℕ-discrete x 0)) (t ∷ []) []) (getD-tabulate (g .tasks) (λ t. length (predsOf g t)) 0 t h))

@@ -1,0 +1,58 @@
+-- The rings as begin lays them down, task by task.
+use Prim.Native.Nat.{ℕ, _*_, _%_, _≤_, _<_}
+use mathlib.Core.Path.{_≡_}
+use mathlib.Core.Bool.{cond}
+use mathlib.Core.List.{List, [], _∷_}
+use native.Mathlib.Decide.{ℕ-discrete}
+use lib.IntN.{ℤ, pos}
+use lib.ListN.{length, getD, replicate}
+use Rattle.lists.specs.Decided.{holds}
+use Rattle.lists.specs.Lists.{joined}
+use Rattle.task.specs.Types.{engine}
+use Rattle.graph.specs.Conditions.{Light}
+use Rattle.ring.specs.Ring.{ringWords, endWords, endsAt, Sound}
+use Rattle.rules.specs.Memory.{Mem, memOf}
+use Rattle.rules.specs.Begin.{rootsPlaced}
+
+-- the tasks below t whose degree is 0, rising
+unfoldable pub rootsBelow : List ℕ → ℕ → List ℕ
+rootsBelow degrees t = joined t (λ u. cond (holds (ℕ-discrete (getD degrees u 0) 0)) (u ∷ []) [])
+
+-- a memory with other weights, rings, ends and counters
+abbrev pub laidIn : Mem → List ℕ → List ℕ → List ℕ → List ℤ → Mem
+laidIn m w r e c =
+    memOf w (m .predStarts) (m .preds) (m .succStarts) (m .succs) (m .degrees) r e c (m .buffers) (m .executed) (m .run) (m .rows)
+
+-- in any memory the roots below t are placed, from cleared lists
+abbrev pub Placed : ℕ → ℕ → List ℕ → List ℕ → ℕ → List ℕ → List ℕ → List ℤ → Type 0
+Placed p k weights degrees t rings ends counters =
+    (m : Mem)
+    → laidIn m weights rings ends counters
+    ≡ rootsPlaced p k 0 (rootsBelow degrees t)
+    (laidIn m weights (replicate (p * p * ringWords k) 0) (replicate (p * p * endWords) 0) (replicate (p * p) (pos 0)))
+
+-- numbers within the engine's limits, and a weight within its limit for each task
+pub record Job (p k : ℕ) (weights degrees : List ℕ) : Type 0 where
+  pub oneWorker : 1 ≤ p
+  pub fewWorkers : p ≤ engine .workers
+  pub oneSlot : 1 ≤ k
+  pub fewSlots : k ≤ engine .slots
+  pub fewTasks : length degrees ≤ engine .tasks
+  pub weighed : length weights ≡ length degrees
+  pub light : Light weights
+
+pub record Room (p k : ℕ) (r e : List ℕ) (c : List ℤ) : Type 0 where
+  pub rings : length r ≡ p * p * ringWords k
+  pub ends : length e ≡ p * p * endWords
+  pub counters : length c ≡ p * p
+
+-- the roots below t are laid down, and the next one goes to the owner: what lets the next task be laid down
+pub record Laid (p k : ℕ) (weights degrees : List ℕ) (t owner : ℕ) (rings ends : List ℕ) (counters : List ℤ) : Type 0 where
+  pub job : Job p k weights degrees
+  pub room : Room p k rings ends counters
+  pub upto : t ≤ length degrees
+  pub next : owner ≡ length (rootsBelow degrees t) % p
+  pub sound : (q : ℕ) → q < p * p → Sound k (endsAt ends q)
+  -- no counter is above the weights of t tasks
+  pub small : (q : ℕ) → q < p * p → (x : ℕ) × ((getD counters q (pos 0) ≡ pos x) × (x ≤ t * 65535))
+  pub placed : Placed p k weights degrees t rings ends counters

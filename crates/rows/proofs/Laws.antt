@@ -1,0 +1,91 @@
+-- Laws over plain lists and numbers that the functions' proofs cite, and what rows that are read say of their words.
+use Prim.Native.Nat.{ℕ, zero, suc, _+_, _≤_, _<_}
+use mathlib.Core.Path.{_≡_, refl, ap, _∙_}
+use mathlib.Core.List.{List, [], _∷_, _++_}
+use native.Mathlib.Omega.{arith}
+use native.Mathlib.Numerals.{add-one}
+use lib.ListN.{length, getD, set, drop, replicate, length-set, List·getD-eq-default}
+use lib.Seq.{set-out, ext-getD}
+use Rattle.task.specs.Types.{idle}
+use Rattle.task.specs.declared.Row.{Row}
+use Rattle.rows.specs.Rows.{rowOf, rowsOf, clearedRows}
+
+pub length-rows : (l : List (List ℕ)) → length (rowsOf l) ≡ length l
+unfolding rowsOf
+length-rows [] = refl
+length-rows (a ∷ l) = ap suc (length-rows l)
+
+pub rows-at : (l : List (List ℕ)) (i : ℕ) (d : List ℕ) (r : Row) → i < length l → r ≡ rowOf (getD l i d) → r ≡ getD (rowsOf l) i idle
+unfolding rowsOf
+rows-at [] i d r h e = absurd (omega arith)
+rows-at (a ∷ l) zero d r h e = e
+rows-at (a ∷ l) (suc i) d r h e = rows-at l i d r (omega arith) e
+
+rows-set : (l : List (List ℕ)) (i : ℕ) (a : List ℕ) → rowsOf (set l i a) ≡ set (rowsOf l) i (rowOf a)
+unfolding rowsOf
+rows-set [] i a = refl
+rows-set (b ∷ l) zero a = refl
+rows-set (b ∷ l) (suc i) a = ap (λ (t : List Row). rowOf b ∷ t) (rows-set l i a)
+
+module _ (l : List (List ℕ)) (i : ℕ) (r : Row) where
+  pub rows-stored : (a : List ℕ) → rowOf a ≡ r → rowsOf (set l i a) ≡ set (rowsOf l) i r
+  rows-stored a e = rw (← e) (rows-set l i a)
+
+  -- there is no such row
+  module _ (h : length l ≤ i) where
+    pub rows-out : r ≡ idle → r ≡ getD (rowsOf l) i idle
+    rows-out e = rw (List·getD-eq-default (rowsOf l) idle {n = i} (rw (length-rows l) h)) e
+
+    pub rows-kept : rowsOf l ≡ set (rowsOf l) i r
+    rows-kept = rw (set-out (rowsOf l) i r (rw (length-rows l) h))
+
+cleared-more : (n : ℕ) (rows : List Row) → n < length rows → set (replicate n idle ++ drop n rows) n idle ≡ replicate (suc n) idle ++ drop (suc n) rows
+cleared-more n [] h = absurd (omega arith)
+cleared-more zero (r ∷ rows) h = refl
+cleared-more (suc n) (r ∷ rows) h = ap (λ (t : List Row). idle ∷ t) (cleared-more n rows (omega arith))
+
+module _ (before : List (List ℕ)) where
+  pub cleared-none : (length before ≡ length before) × (rowsOf before ≡ clearedRows 0 (rowsOf before))
+  unfolding clearedRows
+  cleared-none = (refl, refl)
+
+  module _ (l : List (List ℕ)) (i : ℕ) (inv : (length l ≡ length before) × (rowsOf l ≡ clearedRows i (rowsOf before))) where
+    -- one row more
+    pub cleared-next : (a : List ℕ) (r : Row) → i < length before → rowOf a ≡ r → r ≡ idle
+        → (length (set l i a) ≡ length before) × (rowsOf (set l i a) ≡ clearedRows (i + 1) (rowsOf before))
+    unfolding clearedRows
+    cleared-next a r h e d = (
+      length-set l i a ∙ inv .0,
+      rw (rows-set l i a, e, d, inv .1, add-one i) (cleared-more i (rowsOf before) (rw (length-rows before) h)),
+    )
+
+    pub cleared-all : (n : ℕ) → i ≡ n → rowsOf l ≡ clearedRows n (rowsOf before)
+    cleared-all n e = rw (← e) (inv .1)
+
+-- six words are determined by the row they are read as
+pub row-words : (a b : List ℕ) → length a ≡ 6 → length b ≡ 6 → rowOf a ≡ rowOf b → a ≡ b
+row-words a b ha hb e = ext-getD 0 a b (omega (arith, ha, hb)) (λ i h. at i (omega (arith, ha, h)))
+  where
+    at : (i : ℕ) → i < 6 → getD a i 0 ≡ getD b i 0
+    at zero h = ap (λ (r : Row). r .phase) e
+    at (suc zero) h = ap (λ (r : Row). r .held .0) e
+    at (suc (suc zero)) h = ap (λ (r : Row). r .pointer) e
+    at (suc (suc (suc zero))) h = ap (λ (r : Row). r .read) e
+    at (suc (suc (suc (suc zero)))) h = ap (λ (r : Row). r .write) e
+    at (suc (suc (suc (suc (suc zero))))) h = ap (λ (r : Row). r .cursor) e
+    at (suc (suc (suc (suc (suc (suc i)))))) h = absurd (omega arith)
+
+-- every row has six words, as the type of the lent list says
+abbrev pub Sixes : List (List ℕ) → Type 0
+Sixes [] = Unit {0}
+Sixes (a ∷ l) = (_≡_ {A = ℕ} (length a) 6) × Sixes l
+
+-- lent rows are determined by the rows that they are read as
+pub rows-words : (l k : List (List ℕ)) → Sixes l → Sixes k → rowsOf l ≡ rowsOf k → l ≡ k
+unfolding rowsOf
+rows-words [] [] s t e = refl
+rows-words [] (b ∷ k) s t e = absurd (omega (arith, ap length e))
+rows-words (a ∷ l) [] s t e = absurd (omega (arith, ap length e))
+rows-words (a ∷ l) (b ∷ k) s t e =
+    ap (λ (x : List ℕ). x ∷ l) (row-words a b (s .0) (t .0) (ap (λ (r : List Row). getD r 0 idle) e))
+    ∙ ap (λ (x : List (List ℕ)). b ∷ x) (rows-words l k (s .1) (t .1) (ap (drop 1) e))

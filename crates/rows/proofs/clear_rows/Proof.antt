@@ -1,0 +1,66 @@
+-- The rows before row i are cleared, and the others are as they were.
+use Rattle.rows.proofs.Laws.{cleared-none, cleared-next, cleared-all}
+use Rattle.rows.specs.Rows.{rowsOf, clearedRows}
+use Prim.Native.Nat.{_-_, _≤_}
+use mathlib.Core.Path.{_≡_}
+use native.Mathlib.Omega.{arith}
+use borrow.Author.Needs.{needs}
+use lib.ListN.{length}
+use Rattle.rows.proofs.clear_rows.Statement.{statement}
+use Rattle.rows.proofs.clear_rows.Tie as tie
+
+abbrev Inv-loop : tie.InvT-loop
+Inv-loop rows₀ n cells i₀ rows i = (i ≤ n) × ((length rows ≡ length rows₀) × (rowsOf rows ≡ clearedRows i (rowsOf rows₀)))
+
+abbrev μ-loop : tie.MeasureT-loop
+μ-loop rows₀ n cells i₀ rows i = n - i
+
+idle-requires : tie.Need-idle-requires Inv-loop μ-loop
+idle-requires c κs = search needs
+
+cells-of-requires : tie.Need-cells-of-requires Inv-loop μ-loop
+cells-of-requires c κs = search needs
+
+loop-holds : tie.Need-loop-holds Inv-loop μ-loop
+loop-holds c = (omega arith, cleared-none _)
+
+mul-cells : tie.Need-mul-cells Inv-loop μ-loop
+mul-cells c = search needs
+
+slice-set-from-cells : tie.Need-slice-set-from-cells Inv-loop μ-loop
+slice-set-from-cells c = omega arith
+
+add-i : tie.Need-add-i Inv-loop μ-loop
+add-i c = omega arith
+
+loop-less : tie.Need-loop-less Inv-loop μ-loop
+loop-less c = omega arith
+
+loop-again : tie.Need-loop-again Inv-loop μ-loop
+loop-again c = (
+  omega arith,
+  cleared-next _ _ _ (c .before .loop .inv .1) _ _ (omega arith) (c .before .before .cells-of .ensures) (c .before .before .before .idle .ensures),
+)
+
+same-length : tie.Need-same-length Inv-loop μ-loop
+same-length c = c .before .loop .inv .1 .0
+
+returns : tie.Need-returns Inv-loop μ-loop
+returns c = cleared-all _ _ _ (c .before .loop .inv .1) _ (omega arith)
+
+pub clear-rows-spec : {M : Type 1} → statement M
+clear-rows-spec =
+    tie.close
+    (tie.spec
+    Inv-loop
+    μ-loop
+    idle-requires
+    cells-of-requires
+    loop-holds
+    mul-cells
+    slice-set-from-cells
+    add-i
+    loop-less
+    loop-again
+    same-length
+    returns)

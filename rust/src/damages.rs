@@ -1,0 +1,124 @@
+//! Every word of small runs damaged in turn: on the way through a run, each word of each list takes values at and around
+//! the limits that document 01 names, and then every step of every worker is made.
+
+use crate::engine;
+use crate::memory::{List, Memory, Step, ACCEPTED, ROW_WORDS};
+use crate::model::Table;
+use crate::runs::{Call, Case};
+use std::collections::BTreeSet;
+
+/// In this order a worker's steps are tried.
+const ORDER: [Step; 4] = [Step::Release, Step::Fetch, Step::Start, Step::Complete];
+
+/// A small graph, with weights from 1 up, with P and K.
+struct Run {
+    lists: &'static [&'static [u32]],
+    p: usize,
+    k: usize,
+}
+
+/// A task with more successors than its worker's rings hold, the diamond, and one worker with a ring of one task.
+const RUNS: [Run; 3] = [
+    Run {
+        lists: &[&[], &[0], &[0], &[0], &[1, 2]],
+        p: 2,
+        k: 2,
+    },
+    Run {
+        lists: &[&[], &[0], &[0], &[1, 2]],
+        p: 2,
+        k: 4,
+    },
+    Run {
+        lists: &[&[], &[0], &[0]],
+        p: 1,
+        k: 2,
+    },
+];
+
+impl Run {
+    fn memory(&self) -> Memory {
+        let lists: Vec<Vec<u32>> = self.lists.iter().map(|list| list.to_vec()).collect();
+        let table = Table::of(&lists);
+        let weights = (1..).take(lists.len()).collect();
+        Memory::sized(weights, table.starts, table.words, self.p, self.k, 0)
+    }
+
+    /// What the lists hold after begin and after each accepted step. The lowest worker that can move does, which fills the
+    /// rings.
+    fn states(&self) -> Vec<Memory> {
+        let mut memory = self.memory();
+        engine::begin(&mut memory, self.p, self.k).expect("the graph is sound and has one root");
+        let mut states = vec![memory.clone()];
+        while self.moves(&mut memory) {
+            states.push(memory.clone());
+        }
+        states
+    }
+
+    fn moves(&self, memory: &mut Memory) -> bool {
+        let workers = 0..self.p as u32;
+        let mut calls = workers.flat_map(|worker| ORDER.map(|step| (worker, step)));
+        calls.any(|(worker, step)| engine::step(memory, self.p, self.k, worker, step).is_ok())
+    }
+
+    /// The case of one step on these words.
+    fn case(&self, memory: &Memory, worker: u32, step: Step) -> Case {
+        let (p, k) = (self.p, self.k);
+        let calls = vec![Call::Step { p, k, worker, step }];
+        let memory = memory.clone();
+        Case { memory, p, k, calls }
+    }
+
+    fn every_step(&self, memory: &Memory) -> Vec<Case> {
+        let workers = 0..self.p as u32;
+        let calls = workers.flat_map(|worker| Step::ALL.map(|step| (worker, step)));
+        calls.map(|(worker, step)| self.case(memory, worker, step)).collect()
+    }
+
+    /// "N", "E", "P", "K", "3N+E", "65,535" and "2^30", and what lies next to them.
+    fn values(&self, memory: &Memory) -> BTreeSet<u32> {
+        let (n, e) = (memory.n(), memory.e());
+        let limits = [0, 1, n, e, self.p, self.k, 3 * n + e, 65_535].map(|limit| limit as u32);
+        let beside = |limit: u32| [limit.wrapping_sub(1), limit, limit + 1];
+        // 0 and its neighbours are the signed words from -1 to 1
+        let signed = [1 << 30, -(1 << 30), i32::MAX].map(|limit: i32| limit as u32);
+        limits.into_iter().chain(signed).flat_map(beside).collect()
+    }
+}
+
+/// The words of a list, those of the rows counted through all records.
+fn words(memory: &mut Memory, list: List) -> usize {
+    match list {
+        List::Rows => memory.length(list) * ROW_WORDS,
+        _ => memory.length(list),
+    }
+}
+
+/// The cases of one word of each list damaged, with a sound accepted word and with a damaged one, which is read last.
+pub fn cases() -> impl Iterator<Item = Case> {
+    let runs = RUNS.iter();
+    let states = runs.flat_map(|run| run.states().into_iter().map(move |state| (run, state)));
+    states.flat_map(|(run, state)| {
+        let mut finished = state.clone();
+        finished.run[ACCEPTED] = u32::MAX;
+        let damaged = [damaged(run, state), damaged(run, finished)].into_iter().flatten();
+        damaged.flat_map(|memory| run.every_step(&memory))
+    })
+}
+
+/// The memory with each word in turn taking each value.
+fn damaged(run: &Run, mut memory: Memory) -> Vec<Memory> {
+    let values = run.values(&memory);
+    let mut all = Vec::new();
+    for list in List::ALL {
+        for place in 0..words(&mut memory, list) {
+            for &value in &values {
+                let mut changed = memory.clone();
+                changed.replace(list, place, value);
+                all.push(changed);
+            }
+        }
+    }
+    all
+}

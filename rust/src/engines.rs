@@ -1,0 +1,15 @@
+//! The engines that the examples and edges of document 01 are tried on.
+
+use crate::engine::{Engine, MODEL};
+use crate::plain_engine::PLAIN;
+#[cfg(feature = "linked")]
+use crate::proved_engine::PROVED;
+
+pub fn all() -> Vec<Engine> {
+    vec![
+        MODEL,
+        PLAIN,
+        #[cfg(feature = "linked")]
+        PROVED,
+    ]
+}

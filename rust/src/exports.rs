@@ -1,0 +1,101 @@
+//! The interface of the engine's exports: the lent lists in document 01's order, each as pointer and length, then P, K and, for a
+//! step, the worker; and their replies.
+
+use crate::memory::Outcome;
+use crate::model::Refusal;
+
+#[repr(C)]
+pub struct Reply {
+    pub number: u32,
+    pub detail: u32,
+}
+
+#[repr(C)]
+pub struct StepReply {
+    pub number: u32,
+    pub detail: u32,
+    pub kind: u32,
+    pub first: u32,
+    pub second: u32,
+}
+
+/// Begin's answer as the model gives it.
+impl From<Reply> for Result<(), Refusal> {
+    #[inline]
+    fn from(reply: Reply) -> Self {
+        match reply {
+            Reply { number: 0, detail } => {
+                assert_eq!(detail, 0, "an accepted begin has detail 0");
+                Ok(())
+            }
+            Reply { number, detail } => Err(Refusal { number, detail }),
+        }
+    }
+}
+
+/// The step's answer as the model gives it.
+impl From<StepReply> for Result<Outcome, Refusal> {
+    #[inline]
+    fn from(reply: StepReply) -> Self {
+        let StepReply {
+            number,
+            detail,
+            kind,
+            first,
+            second,
+        } = reply;
+        if number != 0 {
+            assert_eq!((kind, first, second), (0, 0, 0), "a refused step answers nothing else");
+            return Err(Refusal { number, detail });
+        }
+        assert_eq!(detail, 0, "an accepted step has detail 0");
+        Ok(match (kind, first, second) {
+            (0, 0, 0) => Outcome::Moved,
+            (1, task, 0) => Outcome::Fetched { task },
+            (2, degree, 0) => Outcome::DegreeLeft { degree },
+            (3, task, owner) => Outcome::Placed { task, owner },
+            answer => panic!("{answer:?} is no answer of a step"),
+        })
+    }
+}
+
+/// Calls an export on the lent lists.
+macro_rules! call {
+    ($export:ident, $lent:expr, $($number:expr),*) => {{
+        let lent: &mut Lent = $lent;
+        // each pointer and length is that of a list that lives through the call; those that are written are lent alone
+        unsafe {
+            $export(
+                lent.weights.as_ptr(),
+                lent.weights.len(),
+                lent.pred_starts.as_ptr(),
+                lent.pred_starts.len(),
+                lent.preds.as_ptr(),
+                lent.preds.len(),
+                lent.succ_starts.as_mut_ptr(),
+                lent.succ_starts.len(),
+                lent.succs.as_mut_ptr(),
+                lent.succs.len(),
+                lent.degrees.as_mut_ptr(),
+                lent.degrees.len(),
+                lent.rings.as_mut_ptr(),
+                lent.rings.len(),
+                lent.ends.as_mut_ptr(),
+                lent.ends.len(),
+                lent.counters.as_mut_ptr(),
+                lent.counters.len(),
+                lent.buffers.as_mut_ptr(),
+                lent.buffers.len(),
+                lent.executed.as_mut_ptr(),
+                lent.executed.len(),
+                lent.run.as_mut_ptr(),
+                lent.run.len(),
+                lent.rows.as_mut_ptr(),
+                lent.rows.len(),
+                $($number),*
+            )
+        }
+    }};
+}
+
+pub(crate) use call;

@@ -1,0 +1,77 @@
+//! The runs that the engines are measured on: a random graph in layers, from a fixed seed, and the accepted steps of one run.
+
+use crate::draw::Draw;
+use crate::memory::{Memory, Step};
+use crate::model::{word, Table};
+use crate::plain_engine::{self, Lent};
+use crate::runs::{Call, Case};
+
+pub const SLOTS: usize = 64;
+pub const EDGES_PER_TASK: usize = 8;
+
+/// The tasks and workers of each run.
+pub const RUNS: [(usize, usize); 6] = [(1_024, 1), (1_024, 2), (1_024, 4), (1_024, 16), (64, 4), (256, 4)];
+
+const SEED: u64 = 700;
+/// Tasks in a layer. The roots are those of the first one, few enough for one worker's ring.
+const WIDTH: usize = 16;
+const MAX_WEIGHT: usize = 65_535;
+/// What the lists hold before begin, which has to write over it.
+const FILL: u32 = 0xfeed_beef;
+
+/// The lent memory of the graph with that many tasks, above 16, before begin.
+pub fn memory(tasks: usize, workers: usize) -> Memory {
+    let mut draw = Draw::new(SEED);
+    let table = Table::of(&layers(&mut draw, tasks));
+    let weights = (0..tasks).map(|_| word(draw.between(0, MAX_WEIGHT))).collect();
+    Memory::sized(weights, table.starts, table.words, workers, SLOTS, FILL)
+}
+
+/// Each task's predecessors: one from the layer before, the others from any layer before.
+fn layers(draw: &mut Draw, tasks: usize) -> Vec<Vec<u32>> {
+    let first_of_layer = |task: usize| task - task % WIDTH;
+    let mut lists: Vec<Vec<u32>> = vec![Vec::new(); tasks];
+    for (task, list) in lists.iter_mut().enumerate().skip(WIDTH) {
+        let first = first_of_layer(task);
+        list.push(word(draw.between(first - WIDTH, first - 1)));
+    }
+    let mut edges = tasks - WIDTH;
+    while edges < EDGES_PER_TASK * tasks {
+        let task = draw.between(WIDTH, tasks - 1);
+        let pred = word(draw.below(first_of_layer(task)));
+        if !lists[task].contains(&pred) {
+            lists[task].push(pred);
+            edges += 1;
+        }
+    }
+    lists
+}
+
+/// The accepted steps of one run: turns go round the workers, and each takes the first accepted of Release, Fetch, Start,
+/// Complete, or nothing.
+pub fn accepted_steps(mut memory: Memory, workers: usize) -> Vec<(u32, Step)> {
+    let due = 3 * memory.n() + memory.e();
+    let mut lent = Lent::of(&mut memory);
+    plain_engine::begin(&mut lent, workers, SLOTS).expect("the graph is sound and has few roots");
+    let mut steps = Vec::with_capacity(due);
+    for worker in (0..word(workers)).cycle() {
+        if steps.len() == due {
+            break;
+        }
+        let mut order = [Step::Release, Step::Fetch, Step::Start, Step::Complete].into_iter();
+        let taken = order.find(|&step| plain_engine::step(&mut lent, workers, SLOTS, worker, step).is_ok());
+        steps.extend(taken.map(|step| (worker, step)));
+    }
+    steps
+}
+
+/// The run as a list of calls: begin and the accepted steps.
+pub fn case(tasks: usize, workers: usize) -> Case {
+    let memory = memory(tasks, workers);
+    let (p, k) = (workers, SLOTS);
+    let begin = Call::Begin { p, k };
+    let steps = accepted_steps(memory.clone(), workers).into_iter();
+    let steps = steps.map(|(worker, step)| Call::Step { p, k, worker, step });
+    let calls = std::iter::once(begin).chain(steps).collect();
+    Case { memory, p, k, calls }
+}

@@ -1,0 +1,437 @@
+//! The engine as one would write it in plain Rust: the same refusals in the same order and the same words written as document
+//! 01 says, over lent slices, without allocation in a step and with a begin that is linear in tasks and edges. The cost of
+//! the proved engine is compared with its own.
+//!
+//! Each step reads all its words before it writes one, so that a refused call writes nothing. The calls are inlined where they are
+//! made, so that one which is handed pointers and lengths need not store them as slices first.
+
+mod graph;
+
+use crate::engine::Engine;
+use crate::memory::{
+    Memory, Outcome, Step, ACCEPTED, CURSOR, ENTRIES, HELD, NIL, PHASE, POINTER, READ, ROW_WORDS, WRITE,
+};
+use crate::model::{refused, Refusal, MAX_EDGES, MAX_TASKS};
+use graph::Preds;
+use std::ops::{Range, RangeInclusive};
+
+const WORKERS: RangeInclusive<usize> = 1..=16;
+const SLOTS: RangeInclusive<usize> = 2..=64;
+const MAX_WEIGHT: u32 = 65_535;
+/// "counter beyond ±2^30"
+const COUNTERS: RangeInclusive<i32> = -(1 << 30)..=1 << 30;
+
+/// "Phases: 0 idle, 1 fetched, 2 running."
+const IDLE: u32 = 0;
+const FETCHED: u32 = 1;
+const RUNNING: u32 = 2;
+
+/// The engine of this file, lent the lists of a `Memory`.
+pub const PLAIN: Engine = Engine {
+    name: "plain",
+    begin: |memory, p, k| begin(&mut Lent::of(memory), p, k),
+    step: |memory, p, k, worker, which| step(&mut Lent::of(memory), p, k, worker, which),
+};
+
+/// One slice for each lent list of document 01, in its order.
+#[derive(Debug)]
+pub struct Lent<'a> {
+    pub weights: &'a [u32],
+    pub pred_starts: &'a [u32],
+    pub preds: &'a [u32],
+    pub succ_starts: &'a mut [u32],
+    pub succs: &'a mut [u32],
+    pub degrees: &'a mut [u32],
+    pub rings: &'a mut [u32],
+    /// P·P pairs, head first.
+    pub ends: &'a mut [u32],
+    pub counters: &'a mut [i32],
+    pub buffers: &'a mut [u32],
+    /// The record: task and worker of each entry.
+    pub executed: &'a mut [u32],
+    pub run: &'a mut [u32],
+    pub rows: &'a mut [[u32; ROW_WORDS]],
+}
+
+impl<'a> Lent<'a> {
+    pub fn of(memory: &'a mut Memory) -> Lent<'a> {
+        Lent {
+            weights: &memory.weights,
+            pred_starts: &memory.pred_starts,
+            preds: &memory.preds,
+            succ_starts: &mut memory.succ_starts,
+            succs: &mut memory.succs,
+            degrees: &mut memory.degrees,
+            rings: &mut memory.rings,
+            ends: &mut memory.ends,
+            counters: &mut memory.counters,
+            buffers: &mut memory.buffers,
+            executed: &mut memory.executed,
+            run: &mut memory.run,
+            rows: &mut memory.rows,
+        }
+    }
+
+    /// "N and E are the lengths of weights and predecessors": N.
+    fn n(&self) -> usize {
+        self.weights.len()
+    }
+
+    /// "N and E are the lengths of weights and predecessors": E.
+    fn e(&self) -> usize {
+        self.preds.len()
+    }
+
+    /// 2: "N, E, P, K or (begin) a weight beyond its limit", without the weights.
+    #[inline(always)]
+    fn judge_limits(&self, p: usize, k: usize) -> Result<(), Refusal> {
+        if self.n() > MAX_TASKS || self.e() > MAX_EDGES || !WORKERS.contains(&p) || !SLOTS.contains(&k) {
+            return refused(2, 0);
+        }
+        Ok(())
+    }
+
+    /// 1: "Each length is exact." The limits hold, so no product overflows.
+    #[inline(always)]
+    fn judge_lengths(&self, p: usize, k: usize) -> Result<(), Refusal> {
+        let (n, e) = (self.n(), self.e());
+        let right = self.pred_starts.len() == n + 1
+            && self.succ_starts.len() == n + 1
+            && self.succs.len() == e
+            && self.degrees.len() == n
+            && self.rings.len() == p * p * k
+            && self.ends.len() == 2 * p * p
+            && self.counters.len() == p * p
+            && self.buffers.len() == p * n
+            && self.executed.len() == 2 * n
+            && self.run.len() == 2
+            && self.rows.len() == p;
+        if right {
+            Ok(())
+        } else {
+            refused(1, 0)
+        }
+    }
+
+    /// "In a step: 2, 1, 7, phase word (8), 9": the worker's place among the rows, and the row.
+    #[inline]
+    fn judge_step(&self, p: usize, k: usize, worker: u32, suits: u32) -> Result<(usize, [u32; ROW_WORDS]), Refusal> {
+        self.judge_limits(p, k)?;
+        self.judge_lengths(p, k)?;
+        let i = worker as usize;
+        let Some(&row) = self.rows.get(i) else {
+            return refused(7, worker);
+        };
+        match row[PHASE] {
+            phase if phase > RUNNING => damaged(),
+            phase if phase != suits => refused(9, phase),
+            _ => Ok((i, row)),
+        }
+    }
+
+    /// "the accepted word is read last of all", and "accepted word 3N+E or more" is damaged: the word with 1 added.
+    #[inline]
+    fn next_accepted(&self) -> Result<u32, Refusal> {
+        let accepted = self.run[ACCEPTED];
+        if accepted >= word(3 * self.n() + self.e()) {
+            return damaged();
+        }
+        Ok(accepted + 1)
+    }
+
+    /// "head or tail ≥ K" is damaged: head and tail of a ring.
+    #[inline]
+    fn ends_of(&self, ring: usize, k: usize) -> Result<(usize, usize), Refusal> {
+        let (head, tail) = (self.ends[2 * ring] as usize, self.ends[2 * ring + 1] as usize);
+        if head >= k || tail >= k {
+            return damaged();
+        }
+        Ok((head, tail))
+    }
+
+    /// "ring, buffer, held or successor word ≥ N" is damaged: the word as a place.
+    #[inline]
+    fn task(&self, word: u32) -> Result<usize, Refusal> {
+        let task = word as usize;
+        if task >= self.n() {
+            return damaged();
+        }
+        Ok(task)
+    }
+
+    /// "weight over 65,535" is damaged: the weight, which a counter takes without overflow.
+    #[inline]
+    fn weight(&self, task: usize) -> Result<i32, Refusal> {
+        match self.weights[task] {
+            weight if weight > MAX_WEIGHT => damaged(),
+            weight => Ok(weight as i32),
+        }
+    }
+
+    /// "successor range without start t ≤ start t+1 ≤ E" is damaged: the places of the task's successors.
+    #[inline]
+    fn successors(&self, task: usize) -> Result<Range<usize>, Refusal> {
+        let (start, end) = (self.succ_starts[task] as usize, self.succ_starts[task + 1] as usize);
+        if start > end || end > self.e() {
+            return damaged();
+        }
+        Ok(start..end)
+    }
+
+    /// "buffer places (where one is read, both are) not read ≤ write ≤ N" are damaged: both places.
+    #[inline]
+    fn places(&self, row: [u32; ROW_WORDS]) -> Result<(usize, usize), Refusal> {
+        let (read, write) = (row[READ] as usize, row[WRITE] as usize);
+        if read > write || write > self.n() {
+            return damaged();
+        }
+        Ok((read, write))
+    }
+
+    /// "target j is the worker with the least sum of its P counters, the lowest number on equal sums"
+    #[inline(always)]
+    fn target(&self, p: usize) -> Result<usize, Refusal> {
+        // all counters are looked at, which the compiler does several at a time
+        let sound = self
+            .counters
+            .iter()
+            .fold(true, |sound, counter| sound & COUNTERS.contains(counter));
+        if !sound {
+            return damaged();
+        }
+        let sum = |counters: &[i32]| counters.iter().map(|&counter| i64::from(counter)).sum::<i64>();
+        let sums = self.counters.chunks_exact(p).map(sum);
+        // the first of equal sums
+        let least = sums.enumerate().min_by_key(|&(_, sum)| sum);
+        Ok(least.map_or(0, |(j, _)| j))
+    }
+
+    /// "the first ring filled by i that isn't full, owners taken j, j+1, … modulo P": its owner and tail; none if all are full.
+    #[inline]
+    fn free_ring(&self, p: usize, k: usize, i: usize, j: usize) -> Result<Option<(usize, usize)>, Refusal> {
+        let mut owner = j;
+        for _ in 0..p {
+            let (head, tail) = self.ends_of(owner * p + i, k)?;
+            if after(tail, k) != head {
+                return Ok(Some((owner, tail)));
+            }
+            owner = after(owner, p);
+        }
+        Ok(None)
+    }
+
+    /// "scan the rings of owner i from the ring pointer upward, modulo P; the scan stops at the first ring that isn't empty":
+    /// its filler and head; none if all are empty.
+    #[inline]
+    fn waiting_ring(&self, p: usize, k: usize, i: usize, pointer: usize) -> Result<Option<(usize, usize)>, Refusal> {
+        let mut filler = pointer;
+        for _ in 0..p {
+            let (head, tail) = self.ends_of(i * p + filler, k)?;
+            if head != tail {
+                return Ok(Some((filler, head)));
+            }
+            filler = after(filler, p);
+        }
+        Ok(None)
+    }
+}
+
+/// 8: "a damaged word", detail 0.
+fn damaged<T>() -> Result<T, Refusal> {
+    refused(8, 0)
+}
+
+/// A place or a number as a word: once the limits hold, all of them are far below 2^32.
+fn word(value: usize) -> u32 {
+    value as u32
+}
+
+/// The number after this one, modulo `bound`, which is above both.
+fn after(number: usize, bound: usize) -> usize {
+    if number + 1 == bound {
+        0
+    } else {
+        number + 1
+    }
+}
+
+/// "Order in begin: 2, 1, 3, 4, 5, 6." Accepted, everything is laid down as "Begin" says.
+#[inline(always)]
+pub fn begin(lent: &mut Lent, p: usize, k: usize) -> Result<(), Refusal> {
+    lent.judge_limits(p, k)?;
+    if lent.weights.iter().any(|&weight| weight > MAX_WEIGHT) {
+        return refused(2, 0);
+    }
+    lent.judge_lengths(p, k)?;
+    let preds = Preds::new(lent.pred_starts, lent.preds);
+    let counts = preds.judge()?;
+    let roots = preds.roots().count();
+    if roots > p * (k - 1) {
+        return refused(6, word(roots));
+    }
+
+    preds.fill(counts, lent.succ_starts, lent.succs, lent.degrees);
+    for list in [&mut *lent.rings, lent.ends, lent.buffers, lent.executed, lent.run] {
+        list.fill(0);
+    }
+    lent.counters.fill(0);
+    lent.rows.fill([IDLE, NIL, 0, 0, 0, 0]);
+
+    // "root number m, from 0, goes to the ring of owner and filler m mod P, and its weight to that counter"
+    let mut owner = 0;
+    for root in preds.roots() {
+        let ring = owner * p + owner;
+        let tail = &mut lent.ends[2 * ring + 1];
+        lent.rings[ring * k + *tail as usize] = word(root);
+        *tail += 1;
+        lent.counters[ring] += lent.weights[root] as i32;
+        owner = after(owner, p);
+    }
+    Ok(())
+}
+
+pub fn step(lent: &mut Lent, p: usize, k: usize, worker: u32, step: Step) -> Result<Outcome, Refusal> {
+    match step {
+        Step::Fetch => fetch(lent, p, k, worker),
+        Step::Start => start(lent, p, k, worker),
+        Step::Complete => complete(lent, p, k, worker),
+        Step::Release => release(lent, p, k, worker),
+    }
+}
+
+/// "Take its head, which becomes the held task; the slot's word stays. The weight leaves counter (i, i) […]. The pointer
+/// becomes the ring after, modulo P."
+#[inline(always)]
+pub fn fetch(lent: &mut Lent, p: usize, k: usize, worker: u32) -> Result<Outcome, Refusal> {
+    let (i, row) = lent.judge_step(p, k, worker, IDLE)?;
+    let pointer = row[POINTER] as usize;
+    if pointer >= p {
+        return damaged();
+    }
+    let Some((filler, head)) = lent.waiting_ring(p, k, i, pointer)? else {
+        return refused(10, 0);
+    };
+    let ring = i * p + filler;
+    let task = lent.task(lent.rings[ring * k + head])?;
+    let weight = lent.weight(task)?;
+    let counter = lent.counters[i * p + i];
+    if !COUNTERS.contains(&counter) {
+        return damaged();
+    }
+    let accepted = lent.next_accepted()?;
+
+    let task = word(task);
+    lent.ends[2 * ring] = word(after(head, k));
+    lent.counters[i * p + i] = counter - weight;
+    let row = &mut lent.rows[i];
+    row[PHASE] = FETCHED;
+    row[HELD] = task;
+    row[POINTER] = word(after(filler, p));
+    lent.run[ACCEPTED] = accepted;
+    Ok(Outcome::Fetched { task })
+}
+
+/// "the phase alone"
+#[inline(always)]
+pub fn start(lent: &mut Lent, p: usize, k: usize, worker: u32) -> Result<Outcome, Refusal> {
+    let (i, _) = lent.judge_step(p, k, worker, FETCHED)?;
+    let accepted = lent.next_accepted()?;
+
+    lent.rows[i][PHASE] = RUNNING;
+    lent.run[ACCEPTED] = accepted;
+    Ok(Outcome::Moved)
+}
+
+/// "(task, i) joins the record; the task joins i's completed buffer if it has successors; held becomes NIL."
+#[inline(always)]
+pub fn complete(lent: &mut Lent, p: usize, k: usize, worker: u32) -> Result<Outcome, Refusal> {
+    let (i, row) = lent.judge_step(p, k, worker, RUNNING)?;
+    let n = lent.n();
+    let entries = lent.run[ENTRIES] as usize;
+    if entries > n {
+        return damaged();
+    }
+    if entries == n {
+        return refused(12, 0);
+    }
+    let task = lent.task(row[HELD])?;
+    let joins = !lent.successors(task)?.is_empty();
+    // the places are read only if the task joins the buffer
+    let place = if joins { lent.places(row)?.1 } else { 0 };
+    if joins && place == n {
+        return damaged();
+    }
+    let accepted = lent.next_accepted()?;
+
+    let task = word(task);
+    lent.executed[2 * entries] = task;
+    lent.executed[2 * entries + 1] = worker;
+    let row = &mut lent.rows[i];
+    row[PHASE] = IDLE;
+    row[HELD] = NIL;
+    if joins {
+        lent.buffers[i * n + place] = task;
+        row[WRITE] = word(place + 1);
+    }
+    lent.run[ENTRIES] = word(entries + 1);
+    lent.run[ACCEPTED] = accepted;
+    Ok(Outcome::Moved)
+}
+
+/// "the oldest task in i's buffer, its successor s at the cursor. The degree of s falls by one."
+#[inline(always)]
+pub fn release(lent: &mut Lent, p: usize, k: usize, worker: u32) -> Result<Outcome, Refusal> {
+    let (i, row) = lent.judge_step(p, k, worker, IDLE)?;
+    let n = lent.n();
+    let (read, write) = lent.places(row)?;
+    if read == write {
+        return refused(10, 0);
+    }
+    let task = lent.task(lent.buffers[i * n + read])?;
+    let range = lent.successors(task)?;
+    let cursor = row[CURSOR] as usize;
+    if cursor >= range.len() {
+        return damaged();
+    }
+    let successor = lent.task(lent.succs[range.start + cursor])?;
+    let degree = lent.degrees[successor];
+    if degree == 0 || degree as usize > n {
+        return damaged();
+    }
+
+    let outcome = if degree == 1 {
+        place(lent, p, k, i, successor)?
+    } else {
+        lent.run[ACCEPTED] = lent.next_accepted()?;
+        Outcome::DegreeLeft { degree: degree - 1 }
+    };
+    lent.degrees[successor] = degree - 1;
+    // "The cursor advances; after the last successor it returns to 0 and the read place advances."
+    let row = &mut lent.rows[i];
+    let next = after(cursor, range.len());
+    row[CURSOR] = word(next);
+    if next == 0 {
+        row[READ] = word(read + 1);
+    }
+    Ok(outcome)
+}
+
+/// "s is appended to the first ring filled by i that isn't full […]. The weight joins the counter of the ring really used."
+/// Everything that can still refuse the Release is judged before a word is written.
+#[inline(always)]
+fn place(lent: &mut Lent, p: usize, k: usize, i: usize, successor: usize) -> Result<Outcome, Refusal> {
+    let target = lent.target(p)?;
+    let Some((owner, tail)) = lent.free_ring(p, k, i, target)? else {
+        return refused(11, word(successor));
+    };
+    let weight = lent.weight(successor)?;
+    let accepted = lent.next_accepted()?;
+
+    let ring = owner * p + i;
+    lent.rings[ring * k + tail] = word(successor);
+    lent.ends[2 * ring + 1] = word(after(tail, k));
+    lent.counters[ring] += weight;
+    lent.run[ACCEPTED] = accepted;
+    let (task, owner) = (word(successor), word(owner));
+    Ok(Outcome::Placed { task, owner })
+}

@@ -1,0 +1,130 @@
+//! The refused calls in short, for docs/REFUSALS.md: what each number means, and which calls can answer it.
+
+use crate::memory::Step;
+use crate::pages::{table, Block};
+
+/// The calls that can be refused.
+#[derive(Clone, Copy, Debug, PartialEq, Eq, PartialOrd, Ord)]
+pub enum Caller {
+    Reader,
+    /// The graph check that begin makes, as a call of its own, with or without filling the successor table.
+    Check,
+    /// The lookup, through its judging call.
+    Lookup,
+    Begin,
+    Fetch,
+    Start,
+    Complete,
+    Release,
+}
+
+use Caller::{Begin, Check, Complete, Fetch, Lookup, Reader, Release, Start};
+
+impl From<Step> for Caller {
+    fn from(step: Step) -> Caller {
+        match step {
+            Step::Fetch => Fetch,
+            Step::Start => Start,
+            Step::Complete => Complete,
+            Step::Release => Release,
+        }
+    }
+}
+
+/// A row of document 01's table in short.
+pub struct Row {
+    pub number: u32,
+    pub meaning: &'static str,
+    pub detail: &'static str,
+    pub callers: &'static [Caller],
+}
+
+const STEPS: &[Caller] = &[Fetch, Start, Complete, Release];
+const ALL: &[Caller] = &[Reader, Check, Lookup, Begin, Fetch, Start, Complete, Release];
+
+/// "Order in begin: 2, 1, 3, 4, 5, 6. In a step: 2, 1, 7, phase word (8), 9; […] 8, 10, 11, 12 […]. In lookup: 2, 1, 3. In the
+/// reader: 1, text length, then line by line 13, or after it in that line 2".
+pub const ROWS: [Row; 13] = [
+    row(1, "a lent list has the wrong length", "0", ALL),
+    row(2, "a size, a weight or the text is beyond its limit", "0", ALL),
+    row(
+        3,
+        "a bad start or task number in a table",
+        "the smallest bad task, or N; lookup: the task",
+        &[Check, Lookup, Begin],
+    ),
+    row(
+        4,
+        "a predecessor stands twice in one task",
+        "the smallest such task",
+        &[Check, Begin],
+    ),
+    row(
+        5,
+        "the tasks form a cycle",
+        "the smallest task on a cycle",
+        &[Check, Begin],
+    ),
+    row(6, "too many roots for the rings", "the number of roots", &[Begin]),
+    row(7, "no such worker", "the number handed in", STEPS),
+    row(8, "a damaged word in the lent memory", "0", STEPS),
+    row(9, "the step doesn't suit the worker's phase", "the phase", STEPS),
+    row(10, "nothing there to fetch or to release", "0", &[Fetch, Release]),
+    row(11, "no room for the released task", "the task", &[Release]),
+    row(12, "the record is full", "0", &[Complete]),
+    row(13, "the text breaks the layout", "the line, from 1", &[Reader]),
+];
+
+const fn row(number: u32, meaning: &'static str, detail: &'static str, callers: &'static [Caller]) -> Row {
+    Row {
+        number,
+        meaning,
+        detail,
+        callers,
+    }
+}
+
+/// What stands in docs/REFUSALS.md.
+pub fn blocks() -> Vec<Block> {
+    let head = ["No.", "Meaning", "Detail", "Answered by"].map(String::from);
+    let rows: Vec<Vec<String>> = ROWS.iter().map(Row::cells).collect();
+    vec![Block {
+        name: "numbers",
+        text: table(&head, &rows),
+    }]
+}
+
+impl Row {
+    fn cells(&self) -> Vec<String> {
+        let number = self.number.to_string();
+        let texts = [self.meaning, self.detail].map(String::from);
+        [&[number][..], &texts, &[named(self.callers)]].concat()
+    }
+}
+
+fn named(callers: &[Caller]) -> String {
+    match callers {
+        ALL => String::from("every call"),
+        STEPS => String::from("every step"),
+        _ => callers
+            .iter()
+            .map(|caller| caller.name())
+            .collect::<Vec<_>>()
+            .join(", "),
+    }
+}
+
+impl Caller {
+    fn name(self) -> &'static str {
+        match self {
+            Reader => "reader",
+            Check => "graph check",
+            Lookup => "lookup",
+            Begin => "begin",
+            Fetch => "Fetch",
+            Start => "Start",
+            Complete => "Complete",
+            Release => "Release",
+        }
+    }
+}

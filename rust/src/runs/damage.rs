@@ -1,0 +1,274 @@
+//! Words damaged between the calls of a run: one or several, near the limits that document 01 names, mostly where the next
+//! step reads.
+
+use super::honest::{Manner, Recorder};
+use super::{graphs, lent_for, small_sizes, Case};
+use crate::draw::Draw;
+use crate::memory::{List, Memory, Step, CURSOR, HELD, PHASE, POINTER, READ, ROW_WORDS};
+
+/// Lists whose words the steps read come more often.
+const LISTS: [List; 18] = [
+    List::Rows,
+    List::Rows,
+    List::Rows,
+    List::Rows,
+    List::Run,
+    List::Run,
+    List::Ends,
+    List::Ends,
+    List::Counters,
+    List::Rings,
+    List::Buffers,
+    List::SuccStarts,
+    List::Succs,
+    List::Degrees,
+    List::Weights,
+    List::PredStarts,
+    List::Preds,
+    List::Executed,
+];
+
+/// A run of up to `most` tasks: a few accepted steps, damage, steps by all workers, and mostly the words put back; at the end
+/// of the run another begin.
+pub fn between_calls(draw: &mut Draw, most: usize) -> Case {
+    let graph = graphs::any(draw, most);
+    let (p, k) = small_sizes(draw, &graph);
+    let mut recorder = Recorder::new(lent_for(draw, graph, p, k), p, k);
+    recorder.begin();
+    let manner = Manner::drawn(draw);
+    for _ in 0..draw.between(4, 24) {
+        let steps = draw.below(12);
+        if !recorder.go(draw, &manner, steps) {
+            recorder.begin();
+        }
+        let mut old = match draw.below(8) {
+            0 => large_counters(draw, &mut recorder),
+            _ => several(draw, &mut recorder),
+        };
+        recorder.every_step(draw, 32);
+        if draw.below(16) == 0 {
+            recorder.begin();
+        }
+        if draw.below(8) != 0 {
+            while let Some((list, place, word)) = old.pop() {
+                recorder.write(list, place, word);
+            }
+        }
+    }
+    recorder.case()
+}
+
+/// Worker 0 has filled all its rings and meets 11; damage that comes before it or behind it, and its Release again.
+pub fn at_full_rings(draw: &mut Draw) -> Case {
+    let (p, k) = (draw.between(1, 4), draw.between(2, 3));
+    let full = p * (k - 1);
+    let root = vec![Vec::new()];
+    let successors = vec![vec![0]; full + draw.between(1, 3)];
+    let graph = graphs::weighed(draw, &[root, successors].concat());
+    let mut recorder = Recorder::new(lent_for(draw, graph, p, k), p, k);
+    recorder.begin();
+    for step in [Step::Fetch, Step::Start, Step::Complete] {
+        recorder.step(0, step);
+    }
+    for _ in 0..full {
+        recorder.step(0, Step::Release);
+    }
+    for _ in 0..16 {
+        recorder.step(0, Step::Release);
+        let list = draw.pick(&[
+            List::Weights,
+            List::Run,
+            List::Ends,
+            List::Counters,
+            List::Degrees,
+            List::Rows,
+        ]);
+        let old = damage_in(draw, &mut recorder, list);
+        recorder.step(0, Step::Release);
+        if let Some((list, place, word)) = old {
+            recorder.write(list, place, word);
+        }
+    }
+    recorder.every_step(draw, 16);
+    recorder.case()
+}
+
+/// No begin: every word is drawn, mostly within its limits, then steps by all workers.
+pub fn everywhere(draw: &mut Draw) -> Case {
+    let graph = graphs::any(draw, 12);
+    let (p, k) = small_sizes(draw, &graph);
+    let mut memory = lent_for(draw, graph, p, k);
+    if memory.n() > 0 {
+        draw_all(draw, &mut memory, p, k);
+    }
+    let mut recorder = Recorder::new(memory, p, k);
+    for _ in 0..draw.between(1, 6) {
+        recorder.every_step(draw, 64);
+        damage(draw, &mut recorder);
+    }
+    recorder.case()
+}
+
+/// A word that was written over, and its place.
+type Old = (List, usize, u32);
+
+fn several(draw: &mut Draw, recorder: &mut Recorder) -> Vec<Old> {
+    let words = draw.pick(&[1, 1, 1, 1, 2, 3, 20]);
+    (0..words).filter_map(|_| damage(draw, recorder)).collect()
+}
+
+/// Every counter is at or near its limit but within it, so that the sums pass 32 bits.
+fn large_counters(draw: &mut Draw, recorder: &mut Recorder) -> Vec<Old> {
+    let limit: i32 = 1 << 30;
+    let sign = draw.pick(&[1, 1, -1]);
+    let places = 0..recorder.memory.counters.len();
+    let mut write = |place| {
+        let value = draw.pick(&[limit, limit, limit, limit - 1, 0, -limit]) * sign;
+        let old = recorder.write(List::Counters, place, value as u32)?;
+        Some((List::Counters, place, old))
+    };
+    places.filter_map(&mut write).collect()
+}
+
+/// Writes one word, and answers where it stands and the one that was there.
+fn damage(draw: &mut Draw, recorder: &mut Recorder) -> Option<Old> {
+    let list = draw.pick(&LISTS);
+    damage_in(draw, recorder, list)
+}
+
+fn damage_in(draw: &mut Draw, recorder: &mut Recorder, list: List) -> Option<Old> {
+    let length = match list {
+        List::Rows => recorder.memory.length(list) * ROW_WORDS,
+        _ => recorder.memory.length(list),
+    };
+    if length == 0 {
+        return None;
+    }
+    let (p, k) = (recorder.p, recorder.k);
+    let place = place_in(draw, list, length, &recorder.memory, k);
+    let word = word_for(draw, list, place, &recorder.memory, p, k);
+    let old = recorder.write(list, place, word)?;
+    Some((list, place, old))
+}
+
+/// Any place, or one that a worker's next step may read.
+fn place_in(draw: &mut Draw, list: List, length: usize, memory: &Memory, k: usize) -> usize {
+    let any = draw.below(length);
+    if draw.below(4) == 0 {
+        return any;
+    }
+    let worker = draw.below(memory.rows.len().max(1));
+    let read_next = match list {
+        List::Rings => head_slot(draw, memory, k),
+        List::Buffers => memory
+            .rows
+            .get(worker)
+            .map(|row| worker * memory.n() + row[READ] as usize),
+        List::Succs => next_successor(memory, worker),
+        List::Degrees | List::Weights => {
+            let task = next_successor(memory, worker).and_then(|at| memory.succs.get(at));
+            task.map(|&task| task as usize)
+        }
+        List::SuccStarts => memory.rows.get(worker).map(|row| row[HELD] as usize),
+        _ => None,
+    };
+    read_next.filter(|&place| place < length).unwrap_or(any)
+}
+
+/// The head's slot of some ring, mostly of one that isn't empty.
+fn head_slot(draw: &mut Draw, memory: &Memory, k: usize) -> Option<usize> {
+    let rings = memory.ends.len() / 2;
+    let first = draw.below(rings.max(1));
+    let waiting = |ring: &usize| memory.ends[2 * ring] != memory.ends[2 * ring + 1];
+    let ring = (0..rings).map(|passed| (first + passed) % rings).find(waiting)?;
+    Some(ring * k + memory.ends[2 * ring] as usize)
+}
+
+/// The place of the successor that the worker would release next.
+fn next_successor(memory: &Memory, worker: usize) -> Option<usize> {
+    let row = memory.rows.get(worker)?;
+    let task = *memory.buffers.get(worker * memory.n() + row[READ] as usize)?;
+    let start = *memory.succ_starts.get(task as usize)?;
+    Some(start as usize + row[CURSOR] as usize)
+}
+
+/// A word near the limits of its list.
+fn word_for(draw: &mut Draw, list: List, place: usize, memory: &Memory, p: usize, k: usize) -> u32 {
+    let (n, e) = (memory.n(), memory.e());
+    let steps = 3 * n + e;
+    match list {
+        List::Weights => draw.pick(&[0, 1, 65_535, 65_536, 1 << 31, u32::MAX]),
+        List::Counters => counter(draw) as u32,
+        List::Ends => near(draw, k),
+        List::Degrees => draw.pick(&[0, 1, 1, 2, n as u32, n as u32 + 1, u32::MAX]),
+        List::SuccStarts | List::PredStarts => near(draw, e + 1),
+        List::Run if place == 0 => near(draw, n + 1),
+        List::Run => draw.pick(&[
+            0,
+            steps.saturating_sub(1) as u32,
+            steps as u32,
+            steps as u32 + 1,
+            u32::MAX,
+        ]),
+        List::Rows => match place % ROW_WORDS {
+            PHASE => draw.pick(&[0, 0, 1, 1, 2, 2, 3, 4, u32::MAX]),
+            POINTER => near(draw, p),
+            CURSOR => draw.pick(&[0, 1, 2, n as u32, u32::MAX]),
+            HELD => near(draw, n),
+            // read and write place
+            _ => near(draw, n + 1),
+        },
+        List::Preds | List::Succs | List::Rings | List::Buffers | List::Executed => near(draw, n),
+    }
+}
+
+/// Mostly below the bound, else at it or far above.
+fn near(draw: &mut Draw, bound: usize) -> u32 {
+    let inside = draw.below(bound.max(1)) as u32;
+    let at = bound as u32;
+    let last = at.saturating_sub(1);
+    draw.pick(&[inside, inside, last, at, at, at + 1, 65_535, 1 << 31, u32::MAX])
+}
+
+/// "counter beyond ±2^30", at that limit and within it.
+fn counter(draw: &mut Draw) -> i32 {
+    let limit = 1 << 30;
+    let small = draw.between(0, 200) as i32 - 100;
+    draw.pick(&[
+        0,
+        small,
+        small,
+        limit,
+        -limit,
+        limit + 1,
+        -limit - 1,
+        i32::MAX,
+        i32::MIN,
+    ])
+}
+
+/// Every word that begin would write is drawn within its limits; the steps' writes then keep them mostly so.
+fn draw_all(draw: &mut Draw, memory: &mut Memory, p: usize, k: usize) {
+    let (n, e) = (memory.n(), memory.e());
+    let below = |draw: &mut Draw, list: &mut [u32], bound: usize| {
+        list.iter_mut().for_each(|word| *word = draw.below(bound) as u32);
+    };
+    below(draw, &mut memory.succ_starts, e + 1);
+    memory.succ_starts.sort_unstable();
+    below(draw, &mut memory.succs, n);
+    below(draw, &mut memory.degrees, 4);
+    below(draw, &mut memory.rings, n);
+    below(draw, &mut memory.ends, k);
+    below(draw, &mut memory.buffers, n);
+    below(draw, &mut memory.executed, n);
+    memory.run = vec![draw.below(n) as u32, draw.below(3 * n + e) as u32];
+    for counter in &mut memory.counters {
+        *counter = draw.between(0, 1_000) as i32 - 500;
+    }
+    for row in &mut memory.rows {
+        let write = draw.below(n + 1);
+        let read = draw.below(write + 1);
+        let (phase, held, pointer) = (draw.below(3), draw.below(n), draw.below(p));
+        *row = [phase, held, pointer, read, write, draw.below(2)].map(|word| word as u32);
+    }
+}

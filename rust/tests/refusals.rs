@@ -1,0 +1,122 @@
+//! docs/REFUSALS.md: the calls that it names for a number answer it, and no others do.
+
+use engine_model::engine::MODEL;
+use engine_model::frames;
+use engine_model::model::{check, link, Answer, Lent};
+use engine_model::pages;
+use engine_model::reader;
+use engine_model::refusals::{Caller, ROWS};
+use engine_model::runs::{next_case, Call, Case, Reply};
+use engine_model::text::{GraphTrial, LookupTrial, Trial};
+use engine_model::{texts, trials};
+use std::collections::BTreeSet;
+
+type Answered = BTreeSet<(u32, Caller)>;
+
+fn note(answered: &mut Answered, caller: Caller, answer: Answer) {
+    answered.extend(answer.err().map(|refusal| (refusal.number, caller)));
+}
+
+fn read_texts(answered: &mut Answered) {
+    for trial in frames::texts(&texts::all()) {
+        let [mut weights, mut starts, mut preds] = trial.lent.map(|length| vec![0; length]);
+        let answer = reader::read(&trial.text, &mut weights, &mut starts, &mut preds);
+        note(answered, Caller::Reader, answer.map(|_| ()));
+    }
+}
+
+fn check_graphs_and_look_up(answered: &mut Answered) {
+    for trial in trials::all() {
+        match trial {
+            Trial::Graph(GraphTrial { limits, graph, lent }) => {
+                note(answered, Caller::Check, check(limits, &graph));
+                let [starts, succs, degrees] = lent.map(|length| vec![0; length]);
+                let mut lent = Lent { starts, succs, degrees };
+                note(answered, Caller::Check, link(limits, &graph, &mut lent));
+            }
+            Trial::Lookup(LookupTrial { lookup, questions }) => {
+                for (side, task) in questions {
+                    note(answered, Caller::Lookup, lookup.judge(side, task));
+                }
+            }
+            Trial::Note(_) | Trial::Unreadable(_) => {}
+        }
+    }
+}
+
+/// Begin and the steps of these cases.
+fn run(answered: &mut Answered, cases: impl Iterator<Item = Case>) {
+    for case in cases {
+        let mut memory = case.memory;
+        for call in case.calls {
+            match (call, call.make(&MODEL, &mut memory)) {
+                (Call::Begin { .. }, Reply::Begun(answer)) => note(answered, Caller::Begin, answer),
+                (Call::Step { step, .. }, Reply::Stepped(answer)) => note(answered, step.into(), answer.map(|_| ())),
+                _ => {}
+            }
+        }
+    }
+}
+
+#[test]
+fn the_table_of_the_page_is_the_one_here() {
+    assert_eq!(pages::refusals().check(), Ok(()));
+}
+
+/// Each number has its part of the page, under its meaning.
+#[test]
+fn every_number_is_explained() {
+    let page = pages::refusals().stored().unwrap_or_else(|wrong| panic!("{wrong}"));
+    let headings: Vec<&str> = page.lines().filter(|line| line.starts_with("## ")).collect();
+    let expected: Vec<String> = ROWS
+        .iter()
+        .map(|row| format!("## {}: {}", row.number, row.meaning))
+        .collect();
+    assert_eq!(headings, expected);
+}
+
+#[test]
+fn the_rows_are_numbered() {
+    let numbers: Vec<u32> = ROWS.iter().map(|row| row.number).collect();
+    assert_eq!(numbers, (1..=13).collect::<Vec<u32>>());
+}
+
+/// Each number by each call that is named for it, and by no other, in the stored texts and graphs and in drawn runs.
+#[test]
+fn the_calls_named_for_a_number_are_those_that_answer_it() {
+    let mut answered = Answered::new();
+    read_texts(&mut answered);
+    check_graphs_and_look_up(&mut answered);
+    run(&mut answered, (0..1_600).map(next_case));
+    let named = ROWS
+        .iter()
+        .flat_map(|row| row.callers.iter().map(|&caller| (row.number, caller)));
+    assert_eq!(answered, named.collect());
+}
+
+/// Of the steps of memory that only the engine has written since an accepted begin, none is refused with 8 or 12.
+#[test]
+fn honest_runs_meet_neither_8_nor_12() {
+    let mut answered = Answered::new();
+    let begun = |case: &Case| {
+        let Case { mut memory, p, k, .. } = case.clone();
+        (MODEL.begin)(&mut memory, p, k).is_ok()
+    };
+    let mut cases = 0;
+    let from_begin = |case: Case| {
+        let first = case
+            .calls
+            .iter()
+            .position(|&call| call == Call::Begin { p: case.p, k: case.k });
+        let calls = case.calls[first.unwrap_or(0)..].to_vec();
+        Case { calls, ..case }
+    };
+    let honest = (20_000..20_800).map(next_case).filter(Case::is_honest).filter(begun);
+    run(&mut answered, honest.map(from_begin).inspect(|_| cases += 1));
+    assert!(cases >= 200, "{cases} cases");
+    assert!(answered.iter().any(|&(number, _)| number == 11));
+    assert!(
+        answered.iter().all(|&(number, _)| number != 8 && number != 12),
+        "{answered:?}"
+    );
+}

@@ -1,0 +1,162 @@
+//! docs/RULE.md: its tables are the model's, and what it says can be foreseen is what every engine does.
+
+use engine_model::draw::Draw;
+use engine_model::engine::Engine;
+use engine_model::engines;
+use engine_model::memory::{Memory, Outcome, Step};
+use engine_model::model::{Refusal, Table};
+use engine_model::pages;
+use engine_model::rule::{diamond, fallback, tie, Example, View};
+use engine_model::runs::{next_case, Call, Case, Reply};
+
+#[test]
+fn the_tables_of_the_page_are_the_model_s() {
+    assert_eq!(pages::rule().check(), Ok(()));
+}
+
+/// Of a placement: the loads before it, the target, the task and its owner.
+type Expected<'a> = (&'a [i64], u32, u32, Option<u32>);
+
+fn assert_places(example: &Example, expected: &[Expected]) {
+    assert_eq!(example.placements.len(), expected.len());
+    for (placement, &(loads, target, task, owner)) in example.placements.iter().zip(expected) {
+        assert_eq!(placement.view.loads(), loads);
+        assert_eq!(placement.view.target(), target);
+        assert_eq!((placement.task, placement.owner), (task, owner));
+        assert_eq!(placement.view.foreseen(), owner);
+    }
+}
+
+/// Task 1 weighs 5, task 2 weighs 3; both are fetched, by workers 0 and 1, before worker 0 releases 3.
+#[test]
+fn the_diamond_s_placements() {
+    let expected: [Expected; 3] = [
+        (&[0, 0], 0, 1, Some(0)),
+        (&[5, 0], 1, 2, Some(1)),
+        (&[0, 0], 0, 3, Some(0)),
+    ];
+    assert_places(&diamond(), &expected);
+}
+
+/// Root 0 of weight 4 is fetched, the others of weights 12 and 9 wait. A ring holds one task, so 3 fills that of the target, 4
+/// that of worker 1 and 5 that of worker 2; there is no room for 6 until worker 2 has taken 5.
+#[test]
+fn the_placements_past_full_rings() {
+    let expected: [Expected; 5] = [
+        (&[0, 12, 9], 0, 3, Some(0)),
+        (&[1, 12, 9], 0, 4, Some(1)),
+        (&[1, 13, 9], 0, 5, Some(2)),
+        (&[1, 13, 10], 0, 6, None),
+        (&[1, 13, 9], 0, 6, Some(2)),
+    ];
+    assert_places(&fallback(), &expected);
+}
+
+/// Roots 0 and 3, of weights 2 and 7, go to worker 0, which fetches 0; 1 and 2, of weight 4, to workers 1 and 2.
+#[test]
+fn the_placements_with_ties() {
+    let expected: [Expected; 4] = [
+        (&[7, 4, 4], 1, 4, Some(1)),
+        (&[7, 5, 4], 2, 5, Some(2)),
+        (&[7, 5, 7], 1, 6, Some(1)),
+        (&[7, 7, 7], 0, 7, Some(0)),
+    ];
+    let example = tie();
+    assert_places(&example, &expected);
+    let least: Vec<Vec<u32>> = example.placements.iter().map(|each| each.view.least()).collect();
+    assert_eq!(least, [vec![1, 2], vec![2], vec![1], vec![0, 1, 2]]);
+}
+
+/// How often the drawn runs try each part of the rule.
+#[derive(Default)]
+struct Tried {
+    placed: usize,
+    ties: usize,
+    fallbacks: usize,
+    refused: usize,
+}
+
+impl Tried {
+    /// The answer of a Release is what could be foreseen; whatever leaves a degree or meets another number says nothing here.
+    fn release(&mut self, view: &View, answer: Result<Outcome, Refusal>) {
+        match answer {
+            Ok(Outcome::Placed { owner, .. }) => {
+                assert_eq!(view.foreseen(), Some(owner), "{view:?}");
+                self.placed += 1;
+                self.ties += usize::from(view.least().len() > 1);
+                self.fallbacks += usize::from(view.target() != owner);
+            }
+            Err(Refusal { number: 11, .. }) => {
+                assert_eq!(view.foreseen(), None, "{view:?}");
+                self.refused += 1;
+            }
+            _ => {}
+        }
+    }
+}
+
+/// Where the weights go: to the owner at a Release that places, from the worker at a Fetch, else nowhere.
+fn assert_loads(before: &[i64], after: &[i64], memory: &Memory, worker: u32, answer: Result<Outcome, Refusal>) {
+    let mut expected = before.to_vec();
+    let weight = |task: u32| i64::from(memory.weights[task as usize]);
+    match answer {
+        Ok(Outcome::Placed { task, owner }) => expected[owner as usize] += weight(task),
+        Ok(Outcome::Fetched { task }) => expected[worker as usize] -= weight(task),
+        _ => {}
+    }
+    assert_eq!(after, expected, "{answer:?} by {worker}");
+}
+
+/// A root for each worker and many successors, few slots, weights that differ much, calls in any order: rings are full while
+/// their owner has the least load.
+fn crowded(seed: u64) -> Case {
+    let mut draw = Draw::new(seed);
+    let (p, k, n) = (draw.between(2, 5), draw.between(2, 3), draw.between(10, 40));
+    let weights = (0..n).map(|_| draw.pick(&[0, 0, 1, 50])).collect();
+    let root = |task: usize| if task < p { vec![] } else { vec![(task % p) as u32] };
+    let Table { starts, words } = Table::of(&(0..n).map(root).collect::<Vec<_>>());
+    let memory = Memory::sized(weights, starts, words, p, k, 0);
+    let steps = (0..20 * n).map(|_| {
+        let worker = draw.below(p) as u32;
+        let step = draw.pick(&Step::ALL);
+        Call::Step { p, k, worker, step }
+    });
+    let calls = std::iter::once(Call::Begin { p, k }).chain(steps).collect();
+    Case { memory, p, k, calls }
+}
+
+/// Makes the calls of the case, and holds each step after begin to the page.
+fn watch(engine: &Engine, case: &Case, tried: &mut Tried) {
+    let mut memory = case.memory.clone();
+    let mut begun = false;
+    for call in &case.calls {
+        let before = memory.clone();
+        let reply = call.make(engine, &mut memory);
+        begun |= reply == Reply::Begun(Ok(()));
+        let (&Call::Step { p, k, worker, step }, Reply::Stepped(answer)) = (call, reply) else {
+            continue;
+        };
+        if !begun || (p, k) != (case.p, case.k) || worker as usize >= p {
+            continue;
+        }
+        let (view, next) = (View::of(&before, p, k, worker), View::of(&memory, p, k, worker));
+        assert_loads(&view.loads(), &next.loads(), &memory, worker, answer);
+        if step == Step::Release {
+            tried.release(&view, answer);
+        }
+    }
+}
+
+/// In drawn runs of every engine the owner of each placed task is the one that the page's rule names.
+#[test]
+fn every_placement_is_foreseen() {
+    for engine in engines::all() {
+        let mut tried = Tried::default();
+        let honest = (20_000..20_200).map(next_case).filter(Case::is_honest);
+        for case in honest.chain((0..200).map(crowded)) {
+            watch(&engine, &case, &mut tried);
+        }
+        let counts = [tried.placed, tried.ties, tried.fallbacks, tried.refused];
+        assert!(counts.iter().all(|&count| count >= 300), "{}: {counts:?}", engine.name);
+    }
+}

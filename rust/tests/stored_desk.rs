@@ -1,0 +1,70 @@
+//! The stored files of the program `desk_trials` are what the generator and the model write, and they try what they should.
+
+use engine_model::frames::{texts, Frame};
+use engine_model::texts::desk;
+use std::fs;
+use std::path::Path;
+
+/// What the program has room for.
+const INPUT: usize = 786_432;
+const PRINTED: usize = 32_768;
+
+fn stored(name: &str) -> Vec<u8> {
+    let folder = Path::new(env!("CARGO_MANIFEST_DIR")).join("../crates/desk_trials");
+    fs::read(folder.join(name)).expect("a stored file of the desk's texts")
+}
+
+fn made(part: impl Fn(&Frame) -> Vec<u8>) -> Vec<u8> {
+    desk::all().iter().flat_map(part).collect()
+}
+
+fn assert_same(name: &str, made: &[u8]) {
+    let stored = stored(name);
+    let differs = stored.iter().zip(made).position(|(stored, made)| stored != made);
+    assert_eq!(differs, None, "byte of {name}");
+    assert_eq!(stored.len(), made.len(), "{name} is longer or shorter");
+}
+
+#[test]
+fn the_cases_are_the_generated_ones() {
+    assert_same("stdin", &made(Frame::desk_case));
+}
+
+#[test]
+fn the_answers_are_the_model_s() {
+    assert_same("stdout", &made(Frame::desk_answer));
+}
+
+#[test]
+fn the_program_has_room_for_every_case() {
+    assert!(made(Frame::desk_case).len() < INPUT);
+    assert!(desk::all().iter().all(|frame| frame.desk_answer().len() <= PRINTED));
+    assert!(texts(&desk::all()).filter(|trial| trial.text.len() > 65_536).count() == 1);
+}
+
+/// Each refusal of the reader and of begin is there, and runs of all sizes.
+#[test]
+fn every_answer_is_tried() {
+    let answers = String::from_utf8(made(Frame::desk_answer)).expect("words");
+    let count = |words: &str| answers.lines().filter(|line| line.starts_with(words)).count();
+    for (words, least) in [
+        ("refused 2 0", 2),
+        ("refused 3 1", 2),
+        ("refused 4 2", 1),
+        ("refused 5 1", 2),
+        ("refused 6 7", 1),
+        ("refused 6 8", 1),
+        ("refused 13 1", 2),
+        ("refused 13 2", 2),
+        ("refused 13 3", 1),
+        ("refused 13 4", 1),
+        ("refused 13 6", 1),
+        ("2 6", 2),
+        ("2 7", 1),
+        ("4 16", 2),
+        ("6 18", 1),
+        ("1024 11264", 1),
+    ] {
+        assert!(count(words) >= least, "{words}: {}", count(words));
+    }
+}
