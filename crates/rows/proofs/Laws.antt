@@ -39,7 +39,7 @@ module _ (l : List (List ℕ)) (i : ℕ) (r : Row) where
     pub rows-kept : rowsOf l ≡ set (rowsOf l) i r
     rows-kept = rw (set-out (rowsOf l) i r (rw (length-rows l) h))
 
-cleared-more : (n : ℕ) (rows : List Row) → n < length rows → set (replicate n idle ++ drop n rows) n idle ≡ replicate (suc n) idle ++ drop (suc n) rows
+pub cleared-more : (n : ℕ) (rows : List Row) → n < length rows → set (replicate n idle ++ drop n rows) n idle ≡ replicate (suc n) idle ++ drop (suc n) rows
 cleared-more n [] h = absurd (omega arith)
 cleared-more zero (r ∷ rows) h = refl
 cleared-more (suc n) (r ∷ rows) h = ap (λ (t : List Row). idle ∷ t) (cleared-more n rows (omega arith))
