@@ -11,11 +11,11 @@ use task::WorkerId;
 pub fn row_at(rows: &[Row], worker: WorkerId) -> Row
     ensures { λ r. ⌜ r ≡ getD (now (rows .entry)) (worker .0) idle ⌝ }
 {
-    let at = worker.0 as usize;
-    if rows.len() <= at {
+    let i = worker.0 as usize;
+    if rows.len() <= i {
         return Row::idle();
     }
-    rows[at]
+    rows[i]
 }
 
 // The worker's row is stored, where there is one.
