@@ -61,7 +61,7 @@ use Rattle.task.proofs.Row.idle.Met as row-idle-thm
 use Rattle.rows.specs.Rows.{clearedRows}
 use Rattle.row_list.proofs.Laws.{R, vals, scaled, cleared-none, cleared-next, length-cleared, row-idle-triple, to-row-idle, said-row-idle}
 use Rattle.row_list.proofs.clear_rows as fn
-use Rattle.row_list.proofs.clear_rows.Key.{name as #row_list·clear-rows}
+use Rattle.row_list.proofs.clear_rows.Key.{name as #row-list·clear-rows}
 use Rattle.row_list.proofs.clear_rows.Statement as stated
 use Rattle.row_list.proofs.clear_rows.Code as code
 use Rattle.row_list.proofs.clear_rows.Code.Mir as pieces
@@ -251,6 +251,6 @@ pub clear-rows-spec : {M : Type 1} → stated.statement M
 unfolding code.routine tablesOf
 clear-rows-spec 𝓤 H 𝓜 𝓖 𝓡 =
     entered 𝓤 H (tripleOf 𝓤 H (𝓖 .A) fn.signature (fn.spec 𝓤 H (𝓖 .A) (𝓜 .mem) (𝓡 .run)))
-    (tables 𝓤 H 𝓜 𝓡 code.env .C) (tables 𝓤 H 𝓜 𝓡 code.env .Λ) #row_list·clear-rows code.function (code.unfolded 𝓤 H 𝓜 𝓡)
+    (tables 𝓤 H 𝓜 𝓡 code.env .C) (tables 𝓤 H 𝓜 𝓡 code.env .Λ) #row-list·clear-rows code.function (code.unfolded 𝓤 H 𝓜 𝓡)
     (meets 𝓤 H (𝓖 .A) (givenOf 𝓤 H 𝓜 𝓖) (𝓜 .mem) (𝓡 .run) (tablesOf 𝓤 H 𝓜 (tables 𝓤 H 𝓜 𝓡 code.env))
     (cited 𝓤 H (row-idle-triple 𝓤 H (𝓖 .A) (𝓜 .mem) (𝓡 .run)) 𝓜 𝓡 code.env #task·Row·idle row-idle-def.routine code.calls-task·Row·idle (row-idle-thm.met 𝓤 H 𝓜 𝓖 𝓡)))

@@ -55,7 +55,7 @@ use Rattle.task.proofs.Row.idle.Symbol.{name as #task·Row·idle}
 use Rattle.task.proofs.Row.idle.Met as row-idle-thm
 use Rattle.row_list.proofs.Laws.{R, vals, worker-val, worker-is, scaled, row-idle-triple, to-row-idle, said-row-idle}
 use Rattle.row_list.proofs.row_at as fn
-use Rattle.row_list.proofs.row_at.Key.{name as #row_list·row-at}
+use Rattle.row_list.proofs.row_at.Key.{name as #row-list·row-at}
 use Rattle.row_list.proofs.row_at.Statement as stated
 use Rattle.row_list.proofs.row_at.Code as code
 use Rattle.row_list.proofs.row_at.Code.Mir as pieces
@@ -221,6 +221,6 @@ pub row-at-spec : {M : Type 1} → stated.statement M
 unfolding code.routine tablesOf
 row-at-spec 𝓤 H 𝓜 𝓖 𝓡 =
     entered 𝓤 H (tripleOf 𝓤 H (𝓖 .A) fn.signature (fn.spec 𝓤 H (𝓖 .A) (𝓜 .mem) (𝓡 .run)))
-    (tables 𝓤 H 𝓜 𝓡 code.env .C) (tables 𝓤 H 𝓜 𝓡 code.env .Λ) #row_list·row-at code.function (code.unfolded 𝓤 H 𝓜 𝓡)
+    (tables 𝓤 H 𝓜 𝓡 code.env .C) (tables 𝓤 H 𝓜 𝓡 code.env .Λ) #row-list·row-at code.function (code.unfolded 𝓤 H 𝓜 𝓡)
     (meets 𝓤 H (𝓖 .A) (givenOf 𝓤 H 𝓜 𝓖) (𝓜 .mem) (𝓡 .run) (tablesOf 𝓤 H 𝓜 (tables 𝓤 H 𝓜 𝓡 code.env))
     (cited 𝓤 H (row-idle-triple 𝓤 H (𝓖 .A) (𝓜 .mem) (𝓡 .run)) 𝓜 𝓡 code.env #task·Row·idle row-idle-def.routine code.calls-task·Row·idle (row-idle-thm.met 𝓤 H 𝓜 𝓖 𝓡)))

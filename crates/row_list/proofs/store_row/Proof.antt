@@ -49,7 +49,7 @@ use Rattle.task.proofs.WorkerId as Wk
 use Rattle.task.proofs.WorkerId.Laws as Wk′
 use Rattle.row_list.proofs.Laws.{R, vals, worker-val, worker-is, scaled}
 use Rattle.row_list.proofs.store_row as fn
-use Rattle.row_list.proofs.store_row.Key.{name as #row_list·store-row}
+use Rattle.row_list.proofs.store_row.Key.{name as #row-list·store-row}
 use Rattle.row_list.proofs.store_row.Statement as stated
 use Rattle.row_list.proofs.store_row.Code as code
 use Rattle.row_list.proofs.store_row.Code.Mir as pieces
@@ -206,5 +206,5 @@ pub store-row-spec : {M : Type 1} → stated.statement M
 unfolding code.routine tablesOf
 store-row-spec 𝓤 H 𝓜 𝓖 𝓡 =
     entered 𝓤 H (tripleOf 𝓤 H (𝓖 .A) fn.signature (fn.spec 𝓤 H (𝓖 .A) (𝓜 .mem) (𝓡 .run)))
-    (tables 𝓤 H 𝓜 𝓡 code.env .C) (tables 𝓤 H 𝓜 𝓡 code.env .Λ) #row_list·store-row code.function (code.unfolded 𝓤 H 𝓜 𝓡)
+    (tables 𝓤 H 𝓜 𝓡 code.env .C) (tables 𝓤 H 𝓜 𝓡 code.env .Λ) #row-list·store-row code.function (code.unfolded 𝓤 H 𝓜 𝓡)
     (meets 𝓤 H (𝓖 .A) (givenOf 𝓤 H 𝓜 𝓖) (𝓜 .mem) (𝓡 .run) (tablesOf 𝓤 H 𝓜 (tables 𝓤 H 𝓜 𝓡 code.env)))
