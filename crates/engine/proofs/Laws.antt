@@ -1,4 +1,4 @@
--- A step by value between the load and the store of the worker's row, over the lent lists.
+-- A step by value between the load and the store of the worker's row, and begin before the rows are cleared, over all lists.
 use Prim.Native.Nat.{ℕ}
 use mathlib.Core.Path.{_≡_, refl, sym}
 use mathlib.Core.List.{List}
@@ -24,11 +24,8 @@ use Rattle.begin.specs.Begin.{Begins}
 use Rattle.begin.specs.declared.Begun.{Begun}
 use Rattle.engine.specs.Engine.{lentOf, result}
 
+-- a row is six words
 module _ (w ps p′ ss s d r e : List ℕ) (c : List ℤ) (b x n : List ℕ) (cells : List (List ℕ)) where
-  abbrev lent : Mem
-  lent = lentOf w ps p′ ss s d r e c b x n cells
-
-  -- a row is six words
   pub sizes-made :
       record {
         weights = length w;
@@ -45,8 +42,12 @@ module _ (w ps p′ ss s d r e : List ℕ) (c : List ℤ) (b x n : List ℕ) (ce
         run = length n;
         rows = length cells;
       }
-      ≡ sizesOf lent
+      ≡ sizesOf (lentOf w ps p′ ss s d r e c b x n cells)
   sizes-made = rw (length-rows cells)
+
+module _ (w ps p′ ss s d r e : List ℕ) (c : List ℤ) (b x n : List ℕ) (rows : List Row) where
+  abbrev lent : Mem
+  lent = memOf w ps p′ ss s d r e c b x n rows
 
   module _ (sizes : Sizes) (measured : sizes ≡ sizesOf lent) where
     -- the lengths of the lists that a step is lent
@@ -76,27 +77,27 @@ module _ (w ps p′ ss s d r e : List ℕ) (c : List ℤ) (b x n : List ℕ) (ce
           run = refl;
         })
 
-    module _ (limits : Limits) (p k i : ℕ) (cells′ : List (List ℕ)) (row : Row) (a : Stepped)
-        (loaded : row ≡ getD (rowsOf cells) i idle) (stored : rowsOf cells′ ≡ set (rowsOf cells) i (a .row)) where
+    module _ (limits : Limits) (p k i : ℕ) (rows′ : List Row) (row : Row) (a : Stepped)
+        (loaded : row ≡ getD rows i idle) (stored : rows′ ≡ set rows i (a .row)) where
       pub start-made : (n′ : List ℕ) → Starts limits p k i sizes row n n′ a
-          → result (a .answer) (lentOf w ps p′ ss s d r e c b x n′ cells′) ≡ step limits p k i Start lent
+          → result (a .answer) (memOf w ps p′ ss s d r e c b x n′ rows′) ≡ step limits p k i Start lent
       start-made n′ f = rw stored (f lent (sym measured) (sym loaded))
 
       pub fetch-made : (e′ : List ℕ) (c′ : List ℤ) (n′ : List ℕ) → Fetches limits p k i sizes row w r e e′ c c′ n n′ a
-          → result (a .answer) (lentOf w ps p′ ss s d r e′ c′ b x n′ cells′) ≡ step limits p k i Fetch lent
+          → result (a .answer) (memOf w ps p′ ss s d r e′ c′ b x n′ rows′) ≡ step limits p k i Fetch lent
       fetch-made e′ c′ n′ f = rw stored (f lent (sym measured) (sym loaded))
 
       pub complete-made : (b′ x′ n′ : List ℕ) → Completes limits p k i sizes row ss b b′ x x′ n n′ a
-          → result (a .answer) (lentOf w ps p′ ss s d r e c b′ x′ n′ cells′) ≡ step limits p k i Complete lent
+          → result (a .answer) (memOf w ps p′ ss s d r e c b′ x′ n′ rows′) ≡ step limits p k i Complete lent
       complete-made b′ x′ n′ f = rw stored (f lent (sym measured) (sym loaded))
 
       pub release-made : (d′ r′ e′ : List ℕ) (c′ : List ℤ) (n′ : List ℕ)
           → Releases limits p k i sizes row (tablesOf w ss s b) (wordsOf d r e c n) (wordsOf d′ r′ e′ c′ n′) a
-          → result (a .answer) (lentOf w ps p′ ss s d′ r′ e′ c′ b x n′ cells′) ≡ step limits p k i Release lent
+          → result (a .answer) (memOf w ps p′ ss s d′ r′ e′ c′ b x n′ rows′) ≡ step limits p k i Release lent
       release-made d′ r′ e′ c′ n′ f = rw stored (f lent (sym measured) (sym loaded))
 
-  pub begin-made : (limits : Limits) (p k : ℕ) (cells′ : List (List ℕ)) (a : Begun) (ss′ s′ d′ r′ e′ : List ℕ) (c′ : List ℤ) (b′ x′ n′ : List ℕ)
-      → rowsOf cells′ ≡ clearedRows (a .rows) (rowsOf cells)
-      → Begins limits p k (length cells) (memOf w ps p′ ss s d r e c b x n) (memOf w ps p′ ss′ s′ d′ r′ e′ c′ b′ x′ n′) a
-      → result (a .answer) (lentOf w ps p′ ss′ s′ d′ r′ e′ c′ b′ x′ n′ cells′) ≡ begin limits p k lent
-  begin-made limits p k cells′ a ss′ s′ d′ r′ e′ c′ b′ x′ n′ cleared f = rw cleared (f .0 (rowsOf cells) (length-rows cells))
+  pub begin-made : (limits : Limits) (p k : ℕ) (rows′ : List Row) (a : Begun) (ss′ s′ d′ r′ e′ : List ℕ) (c′ : List ℤ) (b′ x′ n′ : List ℕ) (count : ℕ) → length rows ≡ count
+      → rows′ ≡ clearedRows (a .rows) rows
+      → Begins limits p k count (memOf w ps p′ ss s d r e c b x n) (memOf w ps p′ ss′ s′ d′ r′ e′ c′ b′ x′ n′) a
+      → result (a .answer) (memOf w ps p′ ss′ s′ d′ r′ e′ c′ b′ x′ n′ rows′) ≡ begin limits p k lent
+  begin-made limits p k rows′ a ss′ s′ d′ r′ e′ c′ b′ x′ n′ count counted cleared f = rw cleared (f .0 rows counted)

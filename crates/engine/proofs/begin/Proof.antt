@@ -1,4 +1,6 @@
 use Rattle.engine.proofs.Laws.{begin-made}
+use Rattle.rows.specs.Rows.{rowsOf}
+use Rattle.rows.proofs.Laws.{length-rows}
 use borrow.Author.Needs.{needs}
 use Rattle.engine.proofs.begin.Statement.{statement}
 use Rattle.engine.proofs.begin.Tie as tie
@@ -42,9 +44,9 @@ same-length-10 c = search needs
 returns : tie.Need-returns
 returns c =
     let a = c .before .before .before .before .before .before .before .before .before .before .before .before .before .before .before .before .before .before .before .before .before .before .before .before .before .before .before .before .before .before .before .before .before .before .before .before .before .before .before .before .before .args in
-    begin-made (a .weights .now) (a .pred-starts .now) (a .preds .now) (a .succ-starts .now) (a .succs .now) (a .degrees .now) (a .rings .now) (a .ends .now) (a .counters .now) (a .buffers .now) (a .executed .now) (a .run .now) (a .rows .now)
+    begin-made (a .weights .now) (a .pred-starts .now) (a .preds .now) (a .succ-starts .now) (a .succs .now) (a .degrees .now) (a .rings .now) (a .ends .now) (a .counters .now) (a .buffers .now) (a .executed .now) (a .run .now) (rowsOf (a .rows .now))
     (a .limits) (a .p) (a .k) _ (c .before .before .before .before .before .before .before .before .before .before .before .before .before .before .before .before .before .before .before .before .begin-lists .result)
-    _ _ _ _ _ _ _ _ _
+    _ _ _ _ _ _ _ _ _ _ (length-rows (a .rows .now))
     (c .before .clear-rows .ensures)
     (c .before .before .before .before .before .before .before .before .before .before .before .before .before .before .before .before .before .before .before .before .begin-lists .ensures)
 

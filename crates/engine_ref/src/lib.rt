@@ -1,0 +1,208 @@
+// The product's calls, lent all lists of a run and the numbers P and K, the worker rows as one list of records: a step reads the worker's
+// row, takes the step by value, and stores the row back; begin clears all rows. A call lends mutably what its rule writes; the other lists
+// keep their words by their type.
+ghost use mathlib.Core.Path.{_≡_};
+ghost use Rattle.task.specs.declared.Step.{Step};
+ghost use Rattle.rules.specs.Memory.{memOf};
+ghost use Rattle.rules.specs.Begin.{begin};
+ghost use Rattle.rules.specs.Steps.{step};
+ghost use Rattle.engine.specs.Engine.{result};
+use admission::Sizes;
+use task::Answer;
+use task::Limits;
+use task::Row;
+use task::StepAnswer;
+use task::WorkerId;
+
+pub fn fetch(
+    limits: Limits,
+    weights: &[u32],
+    pred_starts: &[u32],
+    preds: &[u32],
+    succ_starts: &[u32],
+    succs: &[u32],
+    degrees: &[u32],
+    rings: &[u32],
+    ends: &mut [u32],
+    counters: &mut [i32],
+    buffers: &[u32],
+    executed: &[u32],
+    run: &mut [u32],
+    rows: &mut [Row],
+    p: usize,
+    k: usize,
+    worker: WorkerId,
+) -> StepAnswer
+    ensures { λ r. ⌜ result r (memOf (now (weights .entry)) (now («pred_starts» .entry)) (now (preds .entry)) (now («succ_starts» .entry)) (now (succs .entry)) (now (degrees .entry)) (now (rings .entry)) (now (ends .exit)) (now (counters .exit)) (now (buffers .entry)) (now (executed .entry)) (now (run .exit)) (now (rows .exit))) ≡ step limits p k (worker .0) Step.Fetch (memOf (now (weights .entry)) (now («pred_starts» .entry)) (now (preds .entry)) (now («succ_starts» .entry)) (now (succs .entry)) (now (degrees .entry)) (now (rings .entry)) (now (ends .entry)) (now (counters .entry)) (now (buffers .entry)) (now (executed .entry)) (now (run .entry)) (now (rows .entry))) ⌝ }
+{
+    let sizes = Sizes {
+        weights: weights.len(),
+        pred_starts: pred_starts.len(),
+        preds: preds.len(),
+        succ_starts: succ_starts.len(),
+        succs: succs.len(),
+        degrees: degrees.len(),
+        rings: rings.len(),
+        ends: ends.len(),
+        counters: counters.len(),
+        buffers: buffers.len(),
+        executed: executed.len(),
+        run: run.len(),
+        rows: rows.len(),
+    };
+    let row = row_list::row_at(rows, worker);
+    let stepped = fetch::fetch_row(limits, sizes, p, k, worker, row, weights, rings, ends, counters, run);
+    row_list::store_row(rows, worker, stepped.row);
+    stepped.answer
+}
+
+pub fn start(
+    limits: Limits,
+    weights: &[u32],
+    pred_starts: &[u32],
+    preds: &[u32],
+    succ_starts: &[u32],
+    succs: &[u32],
+    degrees: &[u32],
+    rings: &[u32],
+    ends: &[u32],
+    counters: &[i32],
+    buffers: &[u32],
+    executed: &[u32],
+    run: &mut [u32],
+    rows: &mut [Row],
+    p: usize,
+    k: usize,
+    worker: WorkerId,
+) -> StepAnswer
+    ensures { λ r. ⌜ result r (memOf (now (weights .entry)) (now («pred_starts» .entry)) (now (preds .entry)) (now («succ_starts» .entry)) (now (succs .entry)) (now (degrees .entry)) (now (rings .entry)) (now (ends .entry)) (now (counters .entry)) (now (buffers .entry)) (now (executed .entry)) (now (run .exit)) (now (rows .exit))) ≡ step limits p k (worker .0) Step.Start (memOf (now (weights .entry)) (now («pred_starts» .entry)) (now (preds .entry)) (now («succ_starts» .entry)) (now (succs .entry)) (now (degrees .entry)) (now (rings .entry)) (now (ends .entry)) (now (counters .entry)) (now (buffers .entry)) (now (executed .entry)) (now (run .entry)) (now (rows .entry))) ⌝ }
+{
+    let sizes = Sizes {
+        weights: weights.len(),
+        pred_starts: pred_starts.len(),
+        preds: preds.len(),
+        succ_starts: succ_starts.len(),
+        succs: succs.len(),
+        degrees: degrees.len(),
+        rings: rings.len(),
+        ends: ends.len(),
+        counters: counters.len(),
+        buffers: buffers.len(),
+        executed: executed.len(),
+        run: run.len(),
+        rows: rows.len(),
+    };
+    let row = row_list::row_at(rows, worker);
+    let stepped = start::start_row(limits, sizes, p, k, worker, row, run);
+    row_list::store_row(rows, worker, stepped.row);
+    stepped.answer
+}
+
+pub fn complete(
+    limits: Limits,
+    weights: &[u32],
+    pred_starts: &[u32],
+    preds: &[u32],
+    succ_starts: &[u32],
+    succs: &[u32],
+    degrees: &[u32],
+    rings: &[u32],
+    ends: &[u32],
+    counters: &[i32],
+    buffers: &mut [u32],
+    executed: &mut [u32],
+    run: &mut [u32],
+    rows: &mut [Row],
+    p: usize,
+    k: usize,
+    worker: WorkerId,
+) -> StepAnswer
+    ensures { λ r. ⌜ result r (memOf (now (weights .entry)) (now («pred_starts» .entry)) (now (preds .entry)) (now («succ_starts» .entry)) (now (succs .entry)) (now (degrees .entry)) (now (rings .entry)) (now (ends .entry)) (now (counters .entry)) (now (buffers .exit)) (now (executed .exit)) (now (run .exit)) (now (rows .exit))) ≡ step limits p k (worker .0) Step.Complete (memOf (now (weights .entry)) (now («pred_starts» .entry)) (now (preds .entry)) (now («succ_starts» .entry)) (now (succs .entry)) (now (degrees .entry)) (now (rings .entry)) (now (ends .entry)) (now (counters .entry)) (now (buffers .entry)) (now (executed .entry)) (now (run .entry)) (now (rows .entry))) ⌝ }
+{
+    let sizes = Sizes {
+        weights: weights.len(),
+        pred_starts: pred_starts.len(),
+        preds: preds.len(),
+        succ_starts: succ_starts.len(),
+        succs: succs.len(),
+        degrees: degrees.len(),
+        rings: rings.len(),
+        ends: ends.len(),
+        counters: counters.len(),
+        buffers: buffers.len(),
+        executed: executed.len(),
+        run: run.len(),
+        rows: rows.len(),
+    };
+    let row = row_list::row_at(rows, worker);
+    let stepped = complete::complete_row(limits, sizes, p, k, worker, row, succ_starts, buffers, executed, run);
+    row_list::store_row(rows, worker, stepped.row);
+    stepped.answer
+}
+
+pub fn release(
+    limits: Limits,
+    weights: &[u32],
+    pred_starts: &[u32],
+    preds: &[u32],
+    succ_starts: &[u32],
+    succs: &[u32],
+    degrees: &mut [u32],
+    rings: &mut [u32],
+    ends: &mut [u32],
+    counters: &mut [i32],
+    buffers: &[u32],
+    executed: &[u32],
+    run: &mut [u32],
+    rows: &mut [Row],
+    p: usize,
+    k: usize,
+    worker: WorkerId,
+) -> StepAnswer
+    ensures { λ r. ⌜ result r (memOf (now (weights .entry)) (now («pred_starts» .entry)) (now (preds .entry)) (now («succ_starts» .entry)) (now (succs .entry)) (now (degrees .exit)) (now (rings .exit)) (now (ends .exit)) (now (counters .exit)) (now (buffers .entry)) (now (executed .entry)) (now (run .exit)) (now (rows .exit))) ≡ step limits p k (worker .0) Step.Release (memOf (now (weights .entry)) (now («pred_starts» .entry)) (now (preds .entry)) (now («succ_starts» .entry)) (now (succs .entry)) (now (degrees .entry)) (now (rings .entry)) (now (ends .entry)) (now (counters .entry)) (now (buffers .entry)) (now (executed .entry)) (now (run .entry)) (now (rows .entry))) ⌝ }
+{
+    let sizes = Sizes {
+        weights: weights.len(),
+        pred_starts: pred_starts.len(),
+        preds: preds.len(),
+        succ_starts: succ_starts.len(),
+        succs: succs.len(),
+        degrees: degrees.len(),
+        rings: rings.len(),
+        ends: ends.len(),
+        counters: counters.len(),
+        buffers: buffers.len(),
+        executed: executed.len(),
+        run: run.len(),
+        rows: rows.len(),
+    };
+    let row = row_list::row_at(rows, worker);
+    let stepped = release::release_row(limits, sizes, p, k, worker, row, weights, succ_starts, succs, degrees, rings, ends, counters, buffers, run);
+    row_list::store_row(rows, worker, stepped.row);
+    stepped.answer
+}
+
+pub fn begin(
+    limits: Limits,
+    weights: &[u32],
+    pred_starts: &[u32],
+    preds: &[u32],
+    succ_starts: &mut [u32],
+    succs: &mut [u32],
+    degrees: &mut [u32],
+    rings: &mut [u32],
+    ends: &mut [u32],
+    counters: &mut [i32],
+    buffers: &mut [u32],
+    executed: &mut [u32],
+    run: &mut [u32],
+    rows: &mut [Row],
+    p: usize,
+    k: usize,
+) -> Answer
+    ensures { λ r. ⌜ result r (memOf (now (weights .entry)) (now («pred_starts» .entry)) (now (preds .entry)) (now («succ_starts» .exit)) (now (succs .exit)) (now (degrees .exit)) (now (rings .exit)) (now (ends .exit)) (now (counters .exit)) (now (buffers .exit)) (now (executed .exit)) (now (run .exit)) (now (rows .exit))) ≡ begin limits p k (memOf (now (weights .entry)) (now («pred_starts» .entry)) (now (preds .entry)) (now («succ_starts» .entry)) (now (succs .entry)) (now (degrees .entry)) (now (rings .entry)) (now (ends .entry)) (now (counters .entry)) (now (buffers .entry)) (now (executed .entry)) (now (run .entry)) (now (rows .entry))) ⌝ }
+{
+    let begun = begin::begin_lists(limits, rows.len(), p, k, weights, pred_starts, preds, succ_starts, succs, degrees, rings, ends, counters, buffers, executed, run);
+    row_list::clear_rows(rows, begun.rows);
+    begun.answer
+}
