@@ -107,6 +107,13 @@ appended a r = ringOf (set (r .slots) (r .ends .tail) a) (tailOn (length (r .slo
 unfoldable pub taken : {A : Type 0} → A → Ring A → Taken A Ends
 taken default r = takenOf (getD (r .slots) (r .ends .head) default) (headOn (length (r .slots)) (r .ends))
 
+-- what one ring's append and take leave, with its ends stored as those of ring q
+unfoldable pub storeRing : {A : Type 0} → List ℕ → ℕ → Ring A → Rings A
+storeRing words q r = ringsOf (r .slots) (storeEnds words q (r .ends))
+
+unfoldable pub storeTaken : {A : Type 0} → List ℕ → ℕ → Taken A Ends → Taken A (List ℕ)
+storeTaken words q t = takenOf (t .item) (storeEnds words q (t .ends))
+
 -- ring q and its ends lie within the lists, and its slots are at most the engine's
 pub record Inside {A : Type 0} (k q : ℕ) (r : Rings A) : Type 0 where
   pub few : k ≤ engine .slots

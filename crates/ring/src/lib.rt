@@ -1,4 +1,5 @@
-// Rings of tasks: a ring's ends by value, append and take on one ring's slots, and both on the lent lists of all rings.
+// Rings of tasks: append and take on one ring's slots, with its ends by value and lent by `&mut`, and both on the lent lists of
+// all rings.
 use task::Ends;
 use task::TaskId;
 ghost use mathlib.Core.Path.{_≡_};
@@ -6,7 +7,7 @@ ghost use Prim.Native.Nat.{ℕ, _+_, _*_, _≤_, _<_};
 ghost use lib.ListN.{length};
 ghost use Rattle.lists.specs.Circles.{after};
 ghost use Rattle.task.specs.Types.{engine};
-ghost use Rattle.ring.specs.Ring.{endWords, Sound, sound, empty, full, endsAt, storeEnds, ringOf, appended, takenOf, taken, ringsOf, appendedAt, takenAt, Inside};
+ghost use Rattle.ring.specs.Ring.{endWords, Sound, sound, empty, full, endsAt, storeEnds, ringOf, appended, takenOf, taken, ringsOf, appendedAt, takenAt, Inside, storeRing, storeTaken};
 
 // The slot after a slot, modulo k.
 fn after_slot(x: u32, k: usize) -> u32
@@ -55,8 +56,8 @@ pub fn store_ends(words: &mut [u32], q: usize, ends: Ends)
     words[q * 2 + 1] = ends.tail;
 }
 
-// A task joins the ring that has these slots.
-pub fn append(slots: &mut [u32], ends: Ends, task: TaskId) -> Ends
+// A task joins the ring that has these slots; the ends after it.
+pub fn append_by_value(slots: &mut [u32], ends: Ends, task: TaskId) -> Ends
     requires { ⌜ Sound (length (now slots)) ends × (length (now slots) ≤ engine .slots) ⌝ }
     ensures { λ r. ⌜ ringOf (now (slots .exit)) r ≡ appended (task .0) (ringOf (now (slots .entry)) ends) ⌝ }
 {
@@ -75,7 +76,7 @@ pub struct Taken {
     pub ends: Ends,
 }
 
-pub fn take(slots: &[u32], ends: Ends) -> Taken
+pub fn take_by_value(slots: &[u32], ends: Ends) -> Taken
     requires { ⌜ Sound (length (now slots)) ends × (length (now slots) ≤ engine .slots) ⌝ }
     ensures { λ r. ⌜ takenOf (r .task .0) (r .ends) ≡ taken 0 (ringOf (now (slots .entry)) ends) ⌝ }
 {
@@ -91,16 +92,53 @@ pub fn take(slots: &[u32], ends: Ends) -> Taken
     }
 }
 
+// "A ring's head and tail form one record, which append and fetch advance themselves": the tail.
+pub fn append(slots: &mut [u32], ends: &mut Ends, task: TaskId)
+    requires { ⌜ Sound (length (now slots)) (now ends) × (length (now slots) ≤ engine .slots) ⌝ }
+    ensures { λ r. ⌜ ringOf (now (slots .exit)) (now (ends .exit)) ≡ appended (task .0) (ringOf (now (slots .entry)) (now (ends .entry))) ⌝ }
+{
+    *ends = append_by_value(slots, *ends, task);
+}
+
+// The same of the head.
+pub fn take(slots: &[u32], ends: &mut Ends) -> TaskId
+    requires { ⌜ Sound (length (now slots)) (now ends) × (length (now slots) ≤ engine .slots) ⌝ }
+    ensures { λ r. ⌜ takenOf (r .0) (now (ends .exit)) ≡ taken 0 (ringOf (now (slots .entry)) (now (ends .entry))) ⌝ }
+{
+    let found = take_by_value(slots, *ends);
+    *ends = found.ends;
+    found.task
+}
+
+// A task joins ring q, whose slots are lent alone and whose ends stand among all rings' ends.
+fn append_part(slots: &mut [u32], ends: &mut [u32], q: usize, task: TaskId)
+    requires { ⌜ (q * endWords + endWords ≤ length (now ends)) × Sound (length (now slots)) (endsAt (now ends) q) × (length (now slots) ≤ engine .slots) ⌝ }
+    ensures { λ r. ⌜ ringsOf (now (slots .exit)) (now (ends .exit)) ≡ storeRing (now (ends .entry)) q (appended (task .0) (ringOf (now (slots .entry)) (endsAt (now (ends .entry)) q))) ⌝ }
+{
+    let mut pair = ends_at(ends, q);
+    append(slots, &mut pair, task);
+    store_ends(ends, q, pair);
+}
+
+// The task at the head of ring q, lent likewise, is taken.
+fn take_part(slots: &[u32], ends: &mut [u32], q: usize) -> TaskId
+    requires { ⌜ (q * endWords + endWords ≤ length (now ends)) × Sound (length (now slots)) (endsAt (now ends) q) × (length (now slots) ≤ engine .slots) ⌝ }
+    ensures { λ r. ⌜ takenOf (r .0) (now (ends .exit)) ≡ storeTaken (now (ends .entry)) q (taken 0 (ringOf (now (slots .entry)) (endsAt (now (ends .entry)) q))) ⌝ }
+{
+    let mut pair = ends_at(ends, q);
+    let task = take(slots, &mut pair);
+    store_ends(ends, q, pair);
+    task
+}
+
 // A task joins ring q of all rings.
 pub fn append_in(rings: &mut [u32], ends: &mut [u32], k: usize, q: usize, task: TaskId)
     requires { ⌜ Inside k q (ringsOf (now rings) (now ends)) × Sound k (endsAt (now ends) q) ⌝ }
     ensures { λ r. ⌜ ringsOf (now (rings .exit)) (now (ends .exit)) ≡ appendedAt k q (task .0) (ringsOf (now (rings .entry)) (now (ends .entry))) ⌝ }
 {
-    let old = ends_at(ends, q);
     let first = q * k;
     let last = first + k;
-    let new = append(&mut rings[first..last], old, task);
-    store_ends(ends, q, new);
+    append_part(&mut rings[first..last], ends, q, task);
 }
 
 // The task at the head of ring q is taken.
@@ -108,11 +146,7 @@ pub fn take_in(rings: &[u32], ends: &mut [u32], k: usize, q: usize) -> TaskId
     requires { ⌜ Inside k q (ringsOf (now rings) (now ends)) × Sound k (endsAt (now ends) q) ⌝ }
     ensures { λ r. ⌜ takenOf (r .0) (now (ends .exit)) ≡ takenAt 0 k q (ringsOf (now (rings .entry)) (now (ends .entry))) ⌝ }
 {
-    let old = ends_at(ends, q);
     let first = q * k;
     let last = first + k;
-    let found = take(&rings[first..last], old);
-    let new = found.ends;
-    store_ends(ends, q, new);
-    found.task
+    take_part(&rings[first..last], ends, q)
 }
