@@ -10,13 +10,10 @@ use Rattle.rules.specs.Memory.{Mem}
 use Rattle.rules.specs.Begin.{begin}
 use Rattle.rules.specs.Steps.{step}
 use Rattle.engine.specs.Engine.{result}
-use Rattle.engine_export.specs.declared.Reply.{Reply}
-use Rattle.engine_export.specs.declared.StepReply.{StepReply}
-use Rattle.engine_export.specs.Replies.{replyOf, stepReplyOf, replied}
-
--- what a function gives in a case that its argument is in
-pub in-case : {A R : Type 0} (f : A → R) (r : R) (a b : A) → a ≡ b → r ≡ f b → r ≡ f a
-in-case f r a b e q = rw e q
+use Rattle.replies.specs.declared.Reply.{Reply}
+use Rattle.replies.specs.declared.StepReply.{StepReply}
+use Rattle.replies.specs.Replies.{replyOf, stepReplyOf}
+use Rattle.engine_export.specs.Replies.{replied}
 
 -- the calls are made with the engine's limits
 module _ (limits : Limits) (own : limits ≡ engine) (p k : ℕ) (m m′ : Mem) where

@@ -15,7 +15,7 @@ use Rattle.rules.specs.Steps.{step}
 use Rattle.rules.specs.Tables.{beginRows, stepRows}
 use Rattle.rules.proofs.Begin.{begin-follows}
 use Rattle.rules.proofs.Follows.{step-follows}
-use Rattle.engine_export.specs.Replies.{replyOf, stepReplyOf}
+use Rattle.replies.specs.Replies.{replyOf, stepReplyOf}
 
 -- no row has the number 0
 abbrev Numbered : List Refusal → Type 0

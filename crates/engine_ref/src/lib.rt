@@ -51,7 +51,19 @@ pub fn fetch(
         rows: rows.len(),
     };
     let row = row_list::row_at(rows, worker);
-    let stepped = fetch::fetch_row(limits, sizes, p, k, worker, row, weights, rings, ends, counters, run);
+    let stepped = fetch::fetch_row(
+        limits,
+        sizes,
+        p,
+        k,
+        worker,
+        row,
+        weights,
+        rings,
+        ends,
+        counters,
+        run,
+    );
     row_list::store_row(rows, worker, stepped.row);
     stepped.answer
 }
@@ -135,7 +147,18 @@ pub fn complete(
         rows: rows.len(),
     };
     let row = row_list::row_at(rows, worker);
-    let stepped = complete::complete_row(limits, sizes, p, k, worker, row, succ_starts, buffers, executed, run);
+    let stepped = complete::complete_row(
+        limits,
+        sizes,
+        p,
+        k,
+        worker,
+        row,
+        succ_starts,
+        buffers,
+        executed,
+        run,
+    );
     row_list::store_row(rows, worker, stepped.row);
     stepped.answer
 }
@@ -177,7 +200,23 @@ pub fn release(
         rows: rows.len(),
     };
     let row = row_list::row_at(rows, worker);
-    let stepped = release::release_row(limits, sizes, p, k, worker, row, weights, succ_starts, succs, degrees, rings, ends, counters, buffers, run);
+    let stepped = release::release_row(
+        limits,
+        sizes,
+        p,
+        k,
+        worker,
+        row,
+        weights,
+        succ_starts,
+        succs,
+        degrees,
+        rings,
+        ends,
+        counters,
+        buffers,
+        run,
+    );
     row_list::store_row(rows, worker, stepped.row);
     stepped.answer
 }
@@ -202,7 +241,24 @@ pub fn begin(
 ) -> Answer
     ensures { λ r. ⌜ result r (memOf (now (weights .entry)) (now («pred_starts» .entry)) (now (preds .entry)) (now («succ_starts» .exit)) (now (succs .exit)) (now (degrees .exit)) (now (rings .exit)) (now (ends .exit)) (now (counters .exit)) (now (buffers .exit)) (now (executed .exit)) (now (run .exit)) (now (rows .exit))) ≡ begin limits p k (memOf (now (weights .entry)) (now («pred_starts» .entry)) (now (preds .entry)) (now («succ_starts» .entry)) (now (succs .entry)) (now (degrees .entry)) (now (rings .entry)) (now (ends .entry)) (now (counters .entry)) (now (buffers .entry)) (now (executed .entry)) (now (run .entry)) (now (rows .entry))) ⌝ }
 {
-    let begun = begin::begin_lists(limits, rows.len(), p, k, weights, pred_starts, preds, succ_starts, succs, degrees, rings, ends, counters, buffers, executed, run);
+    let begun = begin::begin_lists(
+        limits,
+        rows.len(),
+        p,
+        k,
+        weights,
+        pred_starts,
+        preds,
+        succ_starts,
+        succs,
+        degrees,
+        rings,
+        ends,
+        counters,
+        buffers,
+        executed,
+        run,
+    );
     row_list::clear_rows(rows, begun.rows);
     begun.answer
 }

@@ -15,9 +15,10 @@ use Rattle.graph.specs.Successors.{linkedOf, linked}
 use Rattle.graph.specs.Graph.{part}
 use Rattle.graph.specs.Lookup.{Lent, startsOn, wordsOn, judgeAnswer, handed, neighboursOf}
 use Rattle.lookup.proofs.Laws.{range-on}
-use Rattle.graph_export.specs.declared.Reply.{Reply}
+use Rattle.replies.specs.declared.Reply.{Reply}
+use Rattle.replies.specs.Replies.{replyOf}
 use Rattle.graph_export.specs.declared.Part.{Part}
-use Rattle.graph_export.specs.Replies.{replyOf, sideOf, replied, repliedOf, partFor, partIn}
+use Rattle.graph_export.specs.Replies.{sideOf, replied, repliedOf, partFor, partIn}
 
 pub reply-refused : (a : Answer) (n d : ℕ) → a ≡ Refused n d → record { number = n; detail = d } ≡ replyOf a
 reply-refused a n d e = rw e

@@ -1,12 +1,10 @@
--- What the exported calls answer: "the number and a detail", 0 and 0 where accepted.
+-- What the exported calls answer, beside the lists that they leave.
 use Prim.Native.Nat.{ℕ, _+_, _-_}
 use mathlib.Core.Bool.{cond}
 use mathlib.Core.List.{List}
 use lib.ListN.{getD}
 use lib.Dec.{eqb}
-use Rattle.task.specs.Refusals.{answerSays, numberOf, detailOf}
 use Rattle.task.specs.Types.{engine}
-use Rattle.task.specs.declared.Answer.{Answer}
 use Rattle.task.specs.declared.Answer.the-variants as answer
 use Rattle.task.specs.declared.Limits.{Limits}
 use Rattle.task.specs.declared.Side.{Side}
@@ -14,10 +12,8 @@ use Rattle.task.specs.declared.Side.the-variants.{Predecessors, Successors}
 use Rattle.graph.specs.Successors.{Linked}
 use Rattle.graph.specs.Lookup.{Lent, startsOn, judgeAnswer}
 use Rattle.graph_export.specs.declared.Part.{Part}
-use Rattle.graph_export.specs.declared.Reply.{Reply}
-
-abbrev pub replyOf : Answer → Reply
-replyOf a = record { number = numberOf (answerSays a); detail = detailOf (answerSays a) }
+use Rattle.replies.specs.declared.Reply.{Reply}
+use Rattle.replies.specs.Replies.{replyOf}
 
 -- limits on N and E; the others are the engine's
 abbrev pub limitsOf : ℕ → ℕ → Limits

@@ -7,29 +7,13 @@ ghost use Rattle.graph.specs.Successors.{linked};
 ghost use Rattle.graph.specs.Lookup.{lentOf, judgeAnswer};
 ghost use Prim.Native.Nat.{_+_, _-_, _≤_, _<_};
 ghost use lib.ListN.{length, getD};
-ghost use Rattle.graph_export.specs.Replies.{replyOf, limitsOf, sideOf, replied, repliedOf, partIn};
+ghost use Rattle.replies.specs.Replies.{replyOf};
+ghost use Rattle.graph_export.specs.Replies.{limitsOf, sideOf, replied, repliedOf, partIn};
+use replies::Reply;
 use task::Answer;
 use task::Limits;
 use task::Side;
 use task::TaskId;
-
-#[repr(C)]
-pub struct Reply {
-    pub number: u32,
-    pub detail: u32,
-}
-
-fn reply_of(answer: Answer) -> Reply
-    ensures { λ r. ⌜ r ≡ replyOf answer ⌝ }
-{
-    match answer {
-        Answer::Refused(number, detail) => Reply { number, detail },
-        Answer::Accepted => Reply {
-            number: 0,
-            detail: 0,
-        },
-    }
-}
 
 // Limits on N and E; the others are the engine's.
 fn limits(tasks: usize, edges: usize) -> Limits
@@ -54,7 +38,14 @@ pub extern "C" fn yolluvek_check_graph(
 ) -> Reply
     ensures { λ r. ⌜ r ≡ replyOf (checkAnswer (limitsOf tasks edges) true true (now (weights .entry)) (now (starts .entry)) (now (preds .entry))) ⌝ }
 {
-    reply_of(graph_check::check_graph(limits(tasks, edges), true, true, weights, starts, preds))
+    replies::reply_of(graph_check::check_graph(
+        limits(tasks, edges),
+        true,
+        true,
+        weights,
+        starts,
+        preds,
+    ))
 }
 
 // The check, and where it accepts successor starts, successors and degrees.
@@ -72,7 +63,7 @@ pub extern "C" fn yolluvek_link_graph(
     ensures { λ r. ⌜ repliedOf r (now («succ_starts» .exit)) (now (succs .exit)) (now (degrees .exit)) ≡ replied (linked (limitsOf tasks edges) (now (weights .entry)) (now (starts .entry)) (now (preds .entry)) (now («succ_starts» .entry)) (now (succs .entry)) (now (degrees .entry))) ⌝ }
 {
     let within = limits(tasks, edges);
-    reply_of(link::link_graph(within, weights, starts, preds, succ_starts, succs, degrees))
+    replies::reply_of(link::link_graph(within, weights, starts, preds, succ_starts, succs, degrees))
 }
 
 fn side_of(number: u32) -> Side
@@ -100,7 +91,7 @@ pub extern "C" fn yolluvek_judge_lookup(
 {
     let on = side_of(side);
     let named = TaskId::new(task);
-    reply_of(lookup::judge(weights, pred_starts, preds, succ_starts, succs, on, named))
+    replies::reply_of(lookup::judge(weights, pred_starts, preds, succ_starts, succs, on, named))
 }
 
 // Where a lookup's part stands in the table on the side named, and how many neighbours it has; 0 and 0 where the lookup is refused.

@@ -1,11 +1,11 @@
 -- The three cases.
 use Rattle.task.specs.Refusals.{outcomeSays}
 use Rattle.task.specs.declared.StepOutcome.{StepOutcome}
-use Rattle.engine_export.specs.Replies.{saidOf}
-use Rattle.engine_export.proofs.Laws.{in-case}
+use Rattle.replies.specs.Replies.{saidOf}
+use Rattle.replies.proofs.Laws.{in-case}
 use borrow.Author.Needs.{needs}
-use Rattle.engine_export.proofs.outcome_reply_of.Statement.{statement}
-use Rattle.engine_export.proofs.outcome_reply_of.Tie as tie
+use Rattle.replies.proofs.outcome_reply_of.Statement.{statement}
+use Rattle.replies.proofs.outcome_reply_of.Tie as tie
 
 enum-told : tie.Need-enum-told
 enum-told c = search needs

@@ -1,10 +1,10 @@
 -- The two cases.
 use mathlib.Core.Path.{refl}
-use Rattle.engine_export.specs.Replies.{stepReplyOf}
-use Rattle.engine_export.proofs.Laws.{in-case}
+use Rattle.replies.specs.Replies.{stepReplyOf}
+use Rattle.replies.proofs.Laws.{in-case}
 use borrow.Author.Needs.{needs}
-use Rattle.engine_export.proofs.step_reply_of.Statement.{statement}
-use Rattle.engine_export.proofs.step_reply_of.Tie as tie
+use Rattle.replies.proofs.step_reply_of.Statement.{statement}
+use Rattle.replies.proofs.step_reply_of.Tie as tie
 
 enum-known-answer : tie.Need-enum-known-answer
 enum-known-answer c = search needs

@@ -1,10 +1,10 @@
 -- The two cases.
 use mathlib.Core.Path.{refl}
-use Rattle.engine_export.specs.Replies.{replyOf}
-use Rattle.engine_export.proofs.Laws.{in-case}
+use Rattle.replies.specs.Replies.{replyOf}
+use Rattle.replies.proofs.Laws.{in-case}
 use borrow.Author.Needs.{needs}
-use Rattle.engine_export.proofs.reply_of.Statement.{statement}
-use Rattle.engine_export.proofs.reply_of.Tie as tie
+use Rattle.replies.proofs.reply_of.Statement.{statement}
+use Rattle.replies.proofs.reply_of.Tie as tie
 
 enum-known-answer : tie.Need-enum-known-answer
 enum-known-answer c = search needs

@@ -1,11 +1,11 @@
 -- The two cases.
 use Rattle.task.specs.Refusals.{releaseSays}
 use Rattle.task.specs.declared.ReleaseOutcome.{ReleaseOutcome}
-use Rattle.engine_export.specs.Replies.{saidOf}
-use Rattle.engine_export.proofs.Laws.{in-case}
+use Rattle.replies.specs.Replies.{saidOf}
+use Rattle.replies.proofs.Laws.{in-case}
 use borrow.Author.Needs.{needs}
-use Rattle.engine_export.proofs.release_reply_of.Statement.{statement}
-use Rattle.engine_export.proofs.release_reply_of.Tie as tie
+use Rattle.replies.proofs.release_reply_of.Statement.{statement}
+use Rattle.replies.proofs.release_reply_of.Tie as tie
 
 enum-known-outcome : tie.Need-enum-known-outcome
 enum-known-outcome c = search needs
