@@ -20,6 +20,6 @@ module _ (limits : Limits) (own : limits ≡ engine) (p k : ℕ) (m m′ : Mem) 
   pub begin-reply : (r : Reply) (a : Answer) → r ≡ replyOf a → result a m′ ≡ begin limits p k m → result r m′ ≡ replied replyOf (begin engine p k m)
   begin-reply r a e q = rw (e, ← own) (ap (replied replyOf) q)
 
-  pub step-reply : (s : Step) (i j : ℕ) (r : StepReply) (a : StepAnswer) → j ≡ i → r ≡ stepReplyOf a → result a m′ ≡ step limits p k j s m
+  pub step-reply : (s : Step) (i : ℕ) (r : StepReply) (a : StepAnswer) → r ≡ stepReplyOf a → result a m′ ≡ step limits p k i s m
       → result r m′ ≡ replied stepReplyOf (step engine p k i s m)
-  step-reply s i j r a z e q = rw (e, ← own, ← z) (ap (replied stepReplyOf) q)
+  step-reply s i r a e q = rw (e, ← own) (ap (replied stepReplyOf) q)
