@@ -20,12 +20,6 @@ use Rattle.replies.specs.Replies.{replyOf}
 use Rattle.graph_export.specs.declared.Part.{Part}
 use Rattle.graph_export.specs.Replies.{sideOf, replied, repliedOf, partFor, partIn}
 
-pub reply-refused : (a : Answer) (n d : ℕ) → a ≡ Refused n d → record { number = n; detail = d } ≡ replyOf a
-reply-refused a n d e = rw e
-
-pub reply-accepted : (a : Answer) → a ≡ Accepted → record { number = 0; detail = 0 } ≡ replyOf a
-reply-accepted a e = rw e
-
 pub side-zero : (n : ℕ) → n ≡ 0 → Predecessors ≡ sideOf n
 side-zero n e = rw (eq-eqb n 0 e)
 
