@@ -1,3 +1,4 @@
 pub mod Ends
 pub mod Queues
 pub mod Laws
+pub mod Inside
