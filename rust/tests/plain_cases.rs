@@ -1,6 +1,9 @@
 //! The plain engine on cases worked out by hand: the diamond in whole, the examples of document 01's table, and a case for
 //! each damaged word.
 
+#[path = "common/diamond.rs"]
+mod diamond;
+
 use engine_model::memory::{Memory, Outcome, ACCEPTED, CURSOR, ENTRIES, HELD, NIL, PHASE, POINTER, READ, WRITE};
 use engine_model::model::{Refusal, Table};
 use engine_model::plain_engine::{begin, complete, fetch, release, start, Lent};
@@ -69,22 +72,7 @@ fn assert_refused(memory: &Memory, p: usize, k: usize, worker: u32, step: StepOf
 
 #[test]
 fn the_diamond_begun() {
-    let expected = Memory {
-        weights: vec![0, 5, 3, 0],
-        pred_starts: vec![0, 0, 1, 2, 4],
-        preds: vec![0, 0, 1, 2],
-        succ_starts: vec![0, 2, 3, 4, 4],
-        succs: vec![1, 2, 3, 3],
-        degrees: vec![0, 1, 1, 2],
-        rings: vec![0; 16],
-        ends: vec![0, 1, 0, 0, 0, 0, 0, 0],
-        counters: vec![0; 4],
-        buffers: vec![0; 8],
-        executed: vec![0; 8],
-        run: vec![0, 0],
-        rows: vec![[0, NIL, 0, 0, 0, 0]; 2],
-    };
-    assert_eq!(begun_diamond(), expected);
+    assert_eq!(begun_diamond(), diamond::begun());
 }
 
 /// Each turn's accepted step with its answer, as the desk program's turns take them, and every word afterwards.
@@ -117,19 +105,7 @@ fn the_diamond_in_whole() {
         let answer = step(&mut Lent::of(&mut memory), 2, 4, worker);
         assert_eq!(answer, Ok(outcome), "turn {turn}");
     }
-    let expected = Memory {
-        degrees: vec![0; 4],
-        // owner 0: filled by 0 with tasks 0, 1, 3; owner 1: filled by 0 with task 2
-        rings: vec![0, 1, 3, 0, 0, 0, 0, 0, 2, 0, 0, 0, 0, 0, 0, 0],
-        ends: vec![3, 3, 0, 0, 1, 1, 0, 0],
-        counters: vec![0, 0, 3, -3],
-        buffers: vec![0, 1, 0, 0, 2, 0, 0, 0],
-        executed: vec![0, 0, 2, 1, 1, 0, 3, 0],
-        run: vec![4, 16],
-        rows: vec![[0, NIL, 1, 2, 2, 0], [0, NIL, 1, 1, 1, 0]],
-        ..begun_diamond()
-    };
-    assert_eq!(memory, expected);
+    assert_eq!(memory, diamond::finished());
     for worker in [0, 1] {
         assert_refused(&memory, 2, 4, worker, fetch, 10, 0);
         assert_refused(&memory, 2, 4, worker, release, 10, 0);

@@ -1,40 +1,24 @@
 //! The stored files of the program `trials` are what the generator and the model write, and they try what they should.
 
+mod common;
+
+use common::assert_stored;
 use engine_model::text::{lines, Trial};
 use engine_model::trials;
-use std::fs;
-use std::path::Path;
 
 /// What the program has room for: the bytes of the input, the numbers of a line, a lent list.
 const INPUT: usize = 786_432;
 const NUMBERS: usize = 24_576;
 const LENT: usize = 8_200;
 
-fn stored(name: &str) -> String {
-    let folder = Path::new(env!("CARGO_MANIFEST_DIR")).join("../crates/trials");
-    fs::read_to_string(folder.join(name)).expect("a stored file of the trials")
-}
-
-fn assert_same(name: &str, made: &str) {
-    let stored = stored(name);
-    for (i, (stored, made)) in stored.lines().zip(made.lines()).enumerate() {
-        assert!(
-            stored == made,
-            "{name}, line {}: {stored:.200} is not {made:.200}",
-            i + 1
-        );
-    }
-    assert_eq!(stored.len(), made.len(), "{name} is longer or shorter");
-}
-
 #[test]
 fn the_cases_are_the_generated_ones() {
-    assert_same("stdin", &lines(&trials::all(), Trial::case));
+    assert_stored("trials", "stdin", lines(&trials::all(), Trial::case).as_bytes());
 }
 
 #[test]
 fn the_answers_are_the_model_s() {
-    assert_same("stdout", &lines(&trials::all(), Trial::answer));
+    assert_stored("trials", "stdout", lines(&trials::all(), Trial::answer).as_bytes());
 }
 
 #[test]

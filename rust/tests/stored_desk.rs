@@ -1,38 +1,27 @@
 //! The stored files of the program `desk_trials` are what the generator and the model write, and they try what they should.
 
+mod common;
+
+use common::assert_stored;
 use engine_model::frames::{texts, Frame};
 use engine_model::texts::desk;
-use std::fs;
-use std::path::Path;
 
 /// What the program has room for.
 const INPUT: usize = 786_432;
 const PRINTED: usize = 32_768;
 
-fn stored(name: &str) -> Vec<u8> {
-    let folder = Path::new(env!("CARGO_MANIFEST_DIR")).join("../crates/desk_trials");
-    fs::read(folder.join(name)).expect("a stored file of the desk's texts")
-}
-
 fn made(part: impl Fn(&Frame) -> Vec<u8>) -> Vec<u8> {
     desk::all().iter().flat_map(part).collect()
 }
 
-fn assert_same(name: &str, made: &[u8]) {
-    let stored = stored(name);
-    let differs = stored.iter().zip(made).position(|(stored, made)| stored != made);
-    assert_eq!(differs, None, "byte of {name}");
-    assert_eq!(stored.len(), made.len(), "{name} is longer or shorter");
-}
-
 #[test]
 fn the_cases_are_the_generated_ones() {
-    assert_same("stdin", &made(Frame::desk_case));
+    assert_stored("desk_trials", "stdin", &made(Frame::desk_case));
 }
 
 #[test]
 fn the_answers_are_the_model_s() {
-    assert_same("stdout", &made(Frame::desk_answer));
+    assert_stored("desk_trials", "stdout", &made(Frame::desk_answer));
 }
 
 #[test]

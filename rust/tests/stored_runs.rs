@@ -1,10 +1,11 @@
 //! The stored files of the program `run_trials` are what the generator and the model write, and they try what they should.
 
+mod common;
+
+use common::assert_stored;
 use engine_model::memory::List;
 use engine_model::script::{text, Command, Line, Play, Script, Sizes};
 use engine_model::scripts::{self, SLOTS, WORKERS};
-use std::fs;
-use std::path::Path;
 
 /// What the files may have.
 const INPUT: usize = 262_144;
@@ -25,19 +26,6 @@ const ROOM: [(List, usize); 10] = [
 ];
 const CALLS: usize = 4_194_304;
 
-fn assert_stored(name: &str, made: &str) {
-    let folder = Path::new(env!("CARGO_MANIFEST_DIR")).join("../crates/run_trials");
-    let stored = fs::read_to_string(folder.join(name)).expect("a stored file of the runs");
-    for (i, (stored, made)) in stored.lines().zip(made.lines()).enumerate() {
-        assert!(
-            stored == made,
-            "{name}, line {}: {stored:.200} is not {made:.200}",
-            i + 1
-        );
-    }
-    assert_eq!(stored.len(), made.len(), "{name} is longer or shorter");
-}
-
 fn all_scripts() -> Vec<Script> {
     let script = |line| match line {
         Line::Run(script) => Some(script),
@@ -49,14 +37,14 @@ fn all_scripts() -> Vec<Script> {
 #[test]
 fn the_cases_are_the_generated_ones() {
     let made = text(&scripts::all(), Line::case);
-    assert_stored("stdin", &made);
+    assert_stored("run_trials", "stdin", made.as_bytes());
     assert!(made.len() < INPUT);
 }
 
 #[test]
 fn the_answers_are_the_model_s() {
     let made = text(&scripts::all(), Line::answer);
-    assert_stored("stdout", &made);
+    assert_stored("run_trials", "stdout", made.as_bytes());
     assert!(made.len() < OUTPUT);
 }
 

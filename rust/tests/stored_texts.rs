@@ -1,31 +1,24 @@
 //! The stored files of the program `text_trials` are what the generator and the model write, and they try what they should.
 
+mod common;
+
+use common::{assert_stored, stored};
 use engine_model::frames::{answers, cases, texts, Frame, TextTrial, LENT};
 use engine_model::model::Refusal;
 use engine_model::{plain, reader, texts as generator};
-use std::fs;
-use std::path::Path;
 
 /// What the program has room for: the bytes of the input, a lent list.
 const INPUT: usize = 700_000;
 const LONGEST: usize = 8_200;
 
-fn stored(name: &str) -> Vec<u8> {
-    let folder = Path::new(env!("CARGO_MANIFEST_DIR")).join("../crates/text_trials");
-    fs::read(folder.join(name)).expect("a stored file of the texts")
-}
-
 #[test]
 fn the_cases_are_the_generated_ones() {
-    let (stored, made) = (stored("stdin"), cases(&generator::all()));
-    let differs = stored.iter().zip(&made).position(|(stored, made)| stored != made);
-    assert_eq!(differs, None, "byte of stdin");
-    assert_eq!(stored.len(), made.len(), "stdin is longer or shorter");
+    assert_stored("text_trials", "stdin", &cases(&generator::all()));
 }
 
 #[test]
 fn the_answers_are_the_model_s() {
-    let stored = String::from_utf8(stored("stdout")).expect("words");
+    let stored = String::from_utf8(stored("text_trials", "stdout")).expect("words");
     let frames = generator::all();
     assert_eq!(stored.lines().count(), frames.len());
     for (line, frame) in stored.split_inclusive('\n').zip(&frames) {
@@ -37,7 +30,7 @@ fn the_answers_are_the_model_s() {
 /// The frames are read back from the stored bytes by their headers alone.
 #[test]
 fn the_framing_holds() {
-    let stored = stored("stdin");
+    let stored = stored("text_trials", "stdin");
     let mut rest = stored.as_slice();
     let mut read = 0;
     while !rest.is_empty() {

@@ -35,6 +35,14 @@ pub numbers-are : (limits most : Limits) (p k : ℕ) → most ≡ capped limits
 unfolding numbersFit
 numbers-are limits most p k e = rw e refl
 
+-- numbers that fit are within the engine's limits
+pub numbers-within : (limits : Limits) (p k : ℕ) → numbersFit limits p k ≡ true → (p ≤ engine .workers) × ((2 ≤ k) × (k ≤ engine .slots))
+unfolding numbersFit capped
+numbers-within limits p k e =
+    let (a, b) = and-true (leb 1 p && leb p (min (limits .workers) 16)) (leb 2 k && leb k (min (limits .slots) 64)) e in
+    let (two, few) = and-true (leb 2 k) (leb k (min (limits .slots) 64)) b in
+    (omega (arith, leb-true p (min (limits .workers) 16) (and-true (leb 1 p) _ a .1)), (leb-true 2 k two, omega (arith, leb-true k (min (limits .slots) 64) few)))
+
 -- products within the engine's limits
 module _ (p k n : ℕ) (h : (p ≤ engine .workers) × ((k ≤ engine .slots) × (n ≤ engine .tasks))) where
   pub few-squares : p * p ≤ 256
@@ -87,7 +95,7 @@ module _ (phase : ℕ) (s : Step) where
         ((λ rest. rw (le-leb phase 2 h, t)), (eqb-true phase (suits s) t, l))
 
 -- a memory with lists of these lengths
-abbrev blank : Sizes → Mem
+abbrev pub blank : Sizes → Mem
 blank z =
     memOf (replicate (z .weights) 0) (replicate (z .«pred_starts») 0) (replicate (z .preds) 0) (replicate (z .«succ_starts») 0)
     (replicate (z .succs) 0) (replicate (z .degrees) 0) (replicate (z .rings) 0) (replicate (z .ends) 0) (replicate (z .counters) (pos 0)) (replicate (z .buffers) 0)
@@ -133,17 +141,12 @@ module _ (limits : Limits) (p k : ℕ) (sizes : Sizes) (numbers fit : Bool) (hn 
 
     -- what 2 leaves
     pub within-engine : (p ≤ engine .workers) × ((k ≤ engine .slots) × (sizes .weights ≤ engine .tasks))
-    unfolding numbersFit sizesFit capped
+    unfolding sizesFit capped
     within-engine =
         let (n, z) = and-true numbers fit (not-false (numbers && fit) f) in
-        let (a, b) = and-true (leb 1 p && leb p (min (limits .workers) 16)) (leb 2 k && leb k (min (limits .slots) 64)) (sym hn ∙ n) in
-        let few = and-true (leb (sizes .weights) (min (limits .tasks) 1024)) (leb (sizes .preds) (min (limits .edges) 8192)) (sym hf ∙ z) in (
-          omega (arith, leb-true p (min (limits .workers) 16) (and-true (leb 1 p) _ a .1)),
-          (
-            omega (arith, leb-true k (min (limits .slots) 64) (and-true (leb 2 k) _ b .1)),
-            omega (arith, leb-true (sizes .weights) (min (limits .tasks) 1024) (few .0)),
-          ),
-        )
+        let (workers, (_, slots)) = numbers-within limits p k (sym hn ∙ n) in
+        let few = and-true (leb (sizes .weights) (min (limits .tasks) 1024)) (leb (sizes .preds) (min (limits .edges) 8192)) (sym hf ∙ z) in
+        (workers, (slots, omega (arith, leb-true (sizes .weights) (min (limits .tasks) 1024) (few .0))))
 
     module _ (lengths : Bool) (hl : (m : Mem) → sizesOf m ≡ sizes → lengths ≡ lengthsFit p k m) where
       pub step-lengths : not lengths ≡ true → (i : ℕ) (s : Step) (m : Mem) → sizesOf m ≡ sizes → stepPlan limits p k i s m ≡ refuse 1 0

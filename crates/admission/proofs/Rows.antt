@@ -15,9 +15,9 @@ use Rattle.task.specs.declared.StepAnswer.the-variants as answer
 use Rattle.task.specs.declared.StepOutcome.{StepOutcome}
 use Rattle.rules.specs.Memory.{Mem, memOf, allSteps, rowIn, acceptedIn}
 use Rattle.rules.specs.Updates.{Update, written}
-use Rattle.rules.specs.Plans.{refuse, accept, withCount, counted, carriedOut}
+use Rattle.rules.specs.Plans.{refuse, accept, withCount, counted, resultOf, carriedOut}
 use Rattle.rules.specs.Steps.{ruleOf, stepPlan, step}
-use Rattle.admission.specs.Admission.{sizesOf, Admission, Enters, Measured, Measures, Admits, resultOf}
+use Rattle.admission.specs.Admission.{sizesOf, Admission, Enters, Measured, Measures, Admits}
 use Rattle.admission.specs.declared.Sizes.{Sizes}
 use Rattle.admission.specs.declared.Admitted.{Admitted}
 use Rattle.admission.specs.declared.Admitted.the-variants.{Refused, To}

@@ -7,12 +7,11 @@ use Rattle.task.specs.Types.{engine}
 use Rattle.task.specs.Phases.{suits, leadsTo, nextPhase}
 use Rattle.task.specs.declared.Limits.{Limits}
 use Rattle.task.specs.declared.Step.{Step}
-use Rattle.task.specs.declared.StepAnswer.{StepAnswer}
 use Rattle.graph.specs.Check.{sizesFit}
 use Rattle.rules.specs.Memory.{Mem, tasks, edges, rowIn}
 use Rattle.rules.specs.Sizes.{Fits, numbersFit, lengthsFit}
 use Rattle.rules.specs.Words.{phaseFits}
-use Rattle.rules.specs.Plans.{Plan, refuse, checked, suited, Result}
+use Rattle.rules.specs.Plans.{Plan, refuse, checked, suited}
 use Rattle.rules.specs.Steps.{ruleOf, stepPlan}
 use Rattle.admission.specs.declared.Sizes.{Sizes}
 use Rattle.admission.specs.declared.Judged.{Judged}
@@ -90,7 +89,3 @@ Measures p k i sizes (To q) = Measured p k i sizes
 abbrev pub Admits : Limits → ℕ → ℕ → ℕ → ℕ → Step → Sizes → Admitted → Type 0
 Admits limits p k i phase s sizes r =
     ((m : Mem) → sizesOf m ≡ sizes → rowIn m i .phase ≡ phase → Admission limits p k i s m r) × Measures p k i sizes r
-
--- a call's answer with the memory that it leaves
-abbrev pub resultOf : StepAnswer → Mem → Result StepAnswer
-resultOf a m = record { answer = a; memory = m }

@@ -43,7 +43,7 @@ module _ (limits : Limits) (p k i : ℕ) where
           lines = rw (r .left) (made-lines s m (r .outcome) (r .updates) (r .allowed));
         }
 
-    pub accepted-does : (o : StepOutcome) → step limits p k i s m .answer ≡ Accepted o
+    accepted-does : (o : StepOutcome) → step limits p k i s m .answer ≡ Accepted o
         → Does p (capacity k) i s (stateOf p k m) (stateOf p k (step limits p k i s m .memory)) o
     accepted-does o e =
         let r : AcceptedStep limits p k i s m = accepted-step limits p k i s m (rw e (outcome-accepts o)) in

@@ -12,9 +12,9 @@ use Rattle.lists.proofs.Squares.{cell-square}
 use Rattle.task.specs.Entries.{Entry}
 use Rattle.choice.specs.Least.{load}
 use Rattle.graph.specs.Graph.{part}
-use Rattle.rules.specs.Memory.{Mem, tasks, edges, ringNumber, counterIn, weightIn, degreeIn, firstSucc, succCount, rowIn}
+use Rattle.rules.specs.Memory.{Mem, tasks, edges, ringNumber, counterIn, degreeIn, firstSucc, succCount, rowIn}
 use Rattle.rules.specs.Moves.{Ranged}
-use Rattle.algorithm1.specs.State.{Thread, threadWith, stateWith, weightOf, degreeOf, successorsOf, queueOf, counterOf, workload, threadOf}
+use Rattle.algorithm1.specs.State.{Thread, stateWith, degreeOf, successorsOf, queueOf, counterOf, workload, fresh, threadOf}
 use Rattle.algorithm1.specs.Reading.{queueIn, threadIn, successorsIn, stateOf}
 
 -- states whose seven parts agree
@@ -23,10 +23,6 @@ pub state-same : {w w′ : List ℕ} {s s′ : List (List ℕ)} {d d′ : List �
 state-same ew es ed eq ec et ex = rw (ew, es, ed, eq, ec, et, ex) refl
 
 module _ (p k : ℕ) (m : Mem) where
-  pub weight-at : (t : ℕ) → weightOf (stateOf p k m) t ≡ weightIn m t
-  unfolding stateOf
-  weight-at t = refl
-
   pub degree-at : (t : ℕ) → degreeOf (stateOf p k m) t ≡ degreeIn m t
   unfolding stateOf
   degree-at t = refl
@@ -45,7 +41,7 @@ module _ (p k : ℕ) (m : Mem) where
 
   pub thread-at : (i : ℕ) → i < p → threadOf (stateOf p k m) i ≡ threadIn m i
   unfolding stateOf
-  thread-at i h = getD-tabulate p (threadIn m) (threadWith [] 0 0 65535 0) i h
+  thread-at i h = getD-tabulate p (threadIn m) fresh i h
 
   pub phase-at : (i : ℕ) → i < p → threadOf (stateOf p k m) i .phase ≡ rowIn m i .phase
   unfolding threadIn

@@ -64,5 +64,9 @@ waitingFor p s i = joined p (queueOf s i)
 abbrev pub workload : ℕ → State → ℕ → ℤ
 workload p s i = sumToZ p (counterOf s i)
 
+-- a thread as begin leaves it
+abbrev pub fresh : Thread
+fresh = threadWith [] 0 0 (nil .0) 0
+
 abbrev pub threadOf : State → ℕ → Thread
-threadOf s i = getD (s .threads) i (threadWith [] 0 0 (nil .0) 0)
+threadOf s i = getD (s .threads) i fresh

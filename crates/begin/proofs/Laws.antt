@@ -20,15 +20,17 @@ use Rattle.graph.proofs.Reversed.{length-degrees}
 use Rattle.ring.specs.Ring.{ringWords, endWords}
 use Rattle.rules.specs.Memory.{Mem, memOf}
 use Rattle.rules.specs.Sizes.{Others, Fits}
+use Rattle.rules.specs.Plans.{resultOf}
 use Rattle.rules.specs.Begin.{cleared, begun, beginAnswer, beginResult, begin}
 use Rattle.rules.proofs.Begin.{begin-accepted}
 use Rattle.rows.specs.Rows.{clearedRows}
 use Rattle.admission.specs.Admission.{sizesOf}
 use Rattle.admission.specs.declared.Sizes.{Sizes}
+use Rattle.admission.proofs.Laws.{blank}
 use Rattle.roots.specs.Laying.{Placed, Job, Room}
 use Rattle.roots.proofs.Laying.{roots-below}
-use Rattle.begin_check.specs.Judging.{Judges}
-use Rattle.begin.specs.Begin.{resultOf, Begins}
+use Rattle.begin_check.specs.Judging.{readIn, Judges}
+use Rattle.begin.specs.Begin.{Begins}
 
 rows-cleared : (p : ℕ) (rs : List Row) → length rs ≡ p → clearedRows p rs ≡ replicate (length rs) idle
 unfolding clearedRows
@@ -61,9 +63,7 @@ module _ (limits : Limits) (p k : ℕ) (w s e : List ℕ) (ss sc d r n c b x u r
 
   -- the answer is that of any memory of these lengths
   abbrev some : Mem
-  some =
-      memOf w s e (replicate ss 0) (replicate sc 0) (replicate d 0) (replicate r 0) (replicate n 0) (replicate c (pos 0)) (replicate b 0) (replicate x 0)
-      (replicate u 0) (replicate rows idle)
+  some = readIn (blank (lent w s e ss sc d r n c b x u rows)) w s e
 
   some-sizes : sizesOf some ≡ lent w s e ss sc d r n c b x u rows
   some-sizes = simp length-replicate

@@ -4,16 +4,12 @@ use mathlib.Core.Path.{_≡_}
 use mathlib.Core.List.{List}
 use lib.ListN.{length}
 use Rattle.task.specs.declared.Limits.{Limits}
-use Rattle.task.specs.declared.Answer.{Answer}
 use Rattle.task.specs.declared.Row.{Row}
 use Rattle.rules.specs.Memory.{Mem}
-use Rattle.rules.specs.Plans.{Result}
+use Rattle.rules.specs.Plans.{resultOf}
 use Rattle.rules.specs.Begin.{begin}
 use Rattle.rows.specs.Rows.{clearedRows}
 use Rattle.begin.specs.declared.Begun.{Begun}
-
-abbrev pub resultOf : Answer → Mem → Result Answer
-resultOf a m = record { answer = a; memory = m }
 
 -- for every list of so many rows, with the other lists before and after
 abbrev pub Begins : Limits → ℕ → ℕ → ℕ → (List Row → Mem) → (List Row → Mem) → Begun → Type 0

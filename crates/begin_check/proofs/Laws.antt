@@ -1,5 +1,5 @@
 -- The cases of begin's answer, in its order.
-use Prim.Native.Nat.{ℕ, _+_, _-_, _*_, _≤_, _<_, min}
+use Prim.Native.Nat.{ℕ, _+_, _-_, _*_, _≤_, _<_}
 use mathlib.Core.Path.{_≡_, refl, sym, ap, _∙_}
 use mathlib.Core.Bool.{Bool, true, false, not, _&&_}
 use mathlib.Core.List.{List}
@@ -7,12 +7,11 @@ use native.Mathlib.Nat.{mul-le-mul}
 use native.Mathlib.Omega.{arith}
 use mir.Syntax.{w64}
 use mir.Val.{Fits}
-use lib.Dec.{leb}
 use lib.ListN.{length}
-use borrow.Author.Tests.{leb-true, lt-ltb, le-ltb, not-true, not-false}
+use borrow.Author.Tests.{lt-ltb, le-ltb, not-true, not-false}
 use Rattle.lists.proofs.Apart.{true-and-false}
 use Rattle.lists.proofs.Told.{told-true, told, and-true}
-use Rattle.task.specs.Types.{engine, capped}
+use Rattle.task.specs.Types.{engine}
 use Rattle.task.specs.Refusals.{answerSays}
 use Rattle.task.specs.declared.Limits.{Limits}
 use Rattle.task.specs.declared.Answer.{Answer}
@@ -29,6 +28,7 @@ use Rattle.rules.specs.Sizes.{numbersFit, othersFit}
 use Rattle.rules.specs.Begin.{rootsAnswer, beginAnswer}
 use Rattle.admission.specs.Admission.{sizesOf}
 use Rattle.admission.specs.declared.Sizes.{Sizes}
+use Rattle.admission.proofs.Laws.{numbers-within}
 use Rattle.begin_check.specs.Judging.{readIn, Judges}
 
 -- what the graph's check accepts fits, whatever other lengths it is told
@@ -43,24 +43,15 @@ module _ (limits : Limits) (p k : ℕ) (numbers fit : Bool) (hn : numbers ≡ nu
   numbers-fit : numbersFit limits p k ≡ true
   numbers-fit = sym hn ∙ and-true numbers fit (not-false (numbers && fit) f) .0
 
-  slots-fit : (2 ≤ k) × (k ≤ engine .slots)
-  unfolding numbersFit capped
-  slots-fit =
-      let both = and-true (leb 2 k) _ (and-true (leb 1 p && leb p (min (limits .workers) 16)) (leb 2 k && leb k (min (limits .slots) 64)) numbers-fit .1) in
-      (leb-true 2 k (both .0), omega (arith, leb-true k (min (limits .slots) 64) (both .1)))
-
-  workers-fit : p ≤ engine .workers
-  unfolding numbersFit capped
-  workers-fit =
-      let both = and-true (leb 1 p) _ (and-true (leb 1 p && leb p (min (limits .workers) 16)) (leb 2 k && leb k (min (limits .slots) 64)) numbers-fit .0) in
-      omega (arith, leb-true p (min (limits .workers) 16) (both .1))
+  within : (p ≤ engine .workers) × ((2 ≤ k) × (k ≤ engine .slots))
+  within = numbers-within limits p k numbers-fit
 
   pub one-slot : 1 ≤ k
-  one-slot = omega (arith, slots-fit)
+  one-slot = omega (arith, within)
 
   -- P times a number of slots can be computed
   pub product-fits : (j : ℕ) → j ≤ k → Fits w64 (p * j)
-  product-fits j h = omega (arith, mul-le-mul {n₁ = p} {m₁ = j} {n₂ = 16} {m₂ = 64} workers-fit (omega (arith, slots-fit)))
+  product-fits j h = omega (arith, mul-le-mul {n₁ = p} {m₁ = j} {n₂ = 16} {m₂ = 64} (within .0) (omega (arith, within)))
 
 module _ (limits : Limits) (p k : ℕ) (sizes : Sizes) (weights starts preds : List ℕ) (numbers fit : Bool) (hn : numbers ≡ numbersFit limits p k)
     (hf : fit ≡ sizesFit limits (sizes .weights) (sizes .preds)) where

@@ -9,12 +9,12 @@ use native.Mathlib.Decide.{decLe}
 use lib.ListN.{length, getD}
 use lib.IntN.{ℤ, pos}
 use lib.Signed.{ltZ, _≤ℤ_, _<ℤ_, ≤ℤ-refl, <ℤ-≤ℤ-trans, clashℤ}
-use Rattle.lists.specs.Lists.{tabulate}
+use Rattle.lists.specs.Lists.{tabulate, allOf}
 use Rattle.lists.proofs.Decided.{stable}
 use Rattle.lists.proofs.Told.{Told, told-true, told-false}
-use Rattle.lists.proofs.Blocks.{length-tabulate, getD-tabulate}
+use Rattle.lists.proofs.Blocks.{getD-tabulate, length-all, all-at}
 use Rattle.lists.proofs.Integers.{ltZ-told, ≤ℤ-of-<ℤ, ≤ℤ-trans, ≤ℤ-<ℤ-trans}
-use Rattle.choice.specs.Least.{load, loads, sumAt, leastFrom, least, workers, Least, Target, target}
+use Rattle.choice.specs.Least.{load, loads, sumAt, leastFrom, least, Least, Target, target}
 
 module _ (sums : List ℤ) where
   -- one look at the next candidate: only a smaller sum replaces the best so far
@@ -79,8 +79,8 @@ module _ (sums : List ℤ) where
       go (told-false e h) l k = rw (least-keeps best j js e) (kept best j js (leastFrom sums best js) h k)
 
   -- of at least one worker
-  least-worker : (n : ℕ) → 0 < n → Least sums (workers n) (least sums (workers n))
-  unfolding workers tabulate
+  least-worker : (n : ℕ) → 0 < n → Least sums (allOf n) (least sums (allOf n))
+  unfolding allOf tabulate
   least-worker zero h = absurd (omega arith)
   least-worker (suc n) h = least-is 0 (tabulate n suc)
 
@@ -94,37 +94,29 @@ module _ (sums : List ℤ) where
     least-unique i j l k = sym (l .there) ∙ ap (λ (n : ℕ). getD owners n 0) (le-antisymm (place-le i j l k) (place-le j i k l)) ∙ k .there
 
 module _ (p : ℕ) where
-  pub length-workers : length (workers p) ≡ p
-  unfolding workers
-  length-workers = length-tabulate p (λ j. j)
-
-  pub workers-at : (j : ℕ) → j < p → getD (workers p) j 0 ≡ j
-  unfolding workers
-  workers-at j h = getD-tabulate p (λ i. i) 0 j h
-
   module _ (counters : List ℤ) where
     pub loads-at : (j : ℕ) → j < p → getD (loads p counters) j (pos 0) ≡ load p counters j
     unfolding loads
     loads-at j h = getD-tabulate p (load p counters) (pos 0) j h
 
     -- the least of all workers is the target
-    least-target : (j : ℕ) → Least (loads p counters) (workers p) j → Target p counters j
-    least-target j l = record { worker = omega (arith, place-worker, l .inside, length-workers); least = at-most; lowest = lower }
+    least-target : (j : ℕ) → Least (loads p counters) (allOf p) j → Target p counters j
+    least-target j l = record { worker = omega (arith, place-worker, l .inside, length-all p); least = at-most; lowest = lower }
       where
         place-worker : l .place ≡ j
-        place-worker = sym (workers-at (l .place) (omega (arith, l .inside, length-workers))) ∙ l .there
+        place-worker = sym (all-at p (l .place) (omega (arith, l .inside, length-all p))) ∙ l .there
 
-        sum-of : (h : ℕ) → h < p → sumAt (loads p counters) (getD (workers p) h 0) ≡ load p counters h
-        sum-of h m = rw (workers-at h m) (loads-at h m)
+        sum-of : (h : ℕ) → h < p → sumAt (loads p counters) (getD (allOf p) h 0) ≡ load p counters h
+        sum-of h m = rw (all-at p h m) (loads-at h m)
 
         sum-here : sumAt (loads p counters) j ≡ load p counters j
-        sum-here = loads-at j (omega (arith, place-worker, l .inside, length-workers))
+        sum-here = loads-at j (omega (arith, place-worker, l .inside, length-all p))
 
         at-most : (h : ℕ) → h < p → load p counters j ≤ℤ load p counters h
-        at-most h m = rw (sum-of h m, sum-here) at (l .atMost h (omega (arith, length-workers)))
+        at-most h m = rw (sum-of h m, sum-here) at (l .atMost h (omega (arith, length-all p)))
 
         lower : (h : ℕ) → h < j → load p counters j <ℤ load p counters h
-        lower h m = rw (sum-of h (omega (arith, place-worker, l .inside, length-workers)), sum-here) at (l .before h (omega (arith, place-worker)))
+        lower h m = rw (sum-of h (omega (arith, place-worker, l .inside, length-all p)), sum-here) at (l .before h (omega (arith, place-worker)))
 
     pub target-is : 0 < p → Target p counters (target p counters)
     unfolding target

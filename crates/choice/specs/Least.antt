@@ -6,7 +6,7 @@ use mathlib.Core.List.{List, [], _∷_}
 use lib.ListN.{length, getD}
 use lib.IntN.{ℤ, pos}
 use lib.Signed.{ltZ, _≤ℤ_, _<ℤ_}
-use Rattle.lists.specs.Lists.{tabulate}
+use Rattle.lists.specs.Lists.{tabulate, allOf}
 use Rattle.lists.specs.Sums.{sumToZ}
 
 -- the sum of worker j's counters, p of them from place j·p on
@@ -30,10 +30,6 @@ unfoldable pub least : List ℤ → List ℕ → ℕ
 least sums [] = 0
 least sums (j ∷ js) = leastFrom sums j js
 
--- all p workers, rising
-unfoldable pub workers : ℕ → List ℕ
-workers p = tabulate p (λ j. j)
-
 -- what `least` chooses, as a property: one of the candidates, whose sum is least, and is less than that of each candidate before it
 pub record Least (sums : List ℤ) (owners : List ℕ) (j : ℕ) : Type 0 where
   pub place : ℕ
@@ -52,4 +48,4 @@ pub record Target (p : ℕ) (counters : List ℤ) (j : ℕ) : Type 0 where
 
 -- the target, computed
 unfoldable pub target : ℕ → List ℤ → ℕ
-target p counters = least (loads p counters) (workers p)
+target p counters = least (loads p counters) (allOf p)

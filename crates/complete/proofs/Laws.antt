@@ -6,7 +6,7 @@ use mathlib.Core.List.{List}
 use native.Mathlib.Omega.{arith}
 use lib.Dec.{ltb, leb, eqb}
 use lib.ListN.{length, getD, set}
-use borrow.Author.Tests.{ltb-true, leb-true, lt-ltb, le-ltb, le-leb, lt-leb, eq-eqb, ne-eqb, not-true, not-false}
+use borrow.Author.Tests.{ltb-true, lt-ltb, le-ltb, le-leb, lt-leb, eq-eqb, ne-eqb, not-true, not-false}
 use Rattle.lists.proofs.Apart.{unequal}
 use Rattle.lists.proofs.Places.{place-lt}
 use Rattle.lists.proofs.Told.{and-true, or-false, cond-either}
@@ -39,10 +39,6 @@ unplaced : (a b c : Bool) (rest : Plan) → a && c ≡ false → checked (a && b
 unplaced true true c rest e = rw e
 unplaced true false c rest e = refl
 unplaced false b c rest e = refl
-
--- a range that passes: its length is a difference
-pub range-rises : (first past e : ℕ) → not (leb first past && leb past e) ≡ false → first ≤ past
-range-rises first past e d = leb-true first past (and-true (leb first past) (leb past e) (not-false (leb first past && leb past e) d) .0)
 
 -- one of two tests passed, and not the first
 other : (a b : Bool) → not (a || b) ≡ false → a ≡ false → b ≡ true

@@ -5,7 +5,7 @@ use mathlib.Core.Bool.{Bool, true, false, cond, not, _&&_}
 use mathlib.Core.List.{List, _∷_}
 use native.Mathlib.Omega.{arith}
 use native.Mathlib.Numerals.{add-one}
-use native.Mathlib.Nat.{mul-le-mul, mul-le-mul-right, suc-mul, zero-mul, add-zero, add-suc}
+use native.Mathlib.Nat.{mul-le-mul-right, suc-mul, zero-mul, add-zero, add-suc}
 use lib.Dec.{ltb}
 use lib.IntN.{ℤ, pos, negsuc, negℤ, subℕ, _+ℤ_, _-ℤ_}
 use lib.Signed.{mag, ltZ}
@@ -15,12 +15,15 @@ use mir.Syntax.{w32, w64}
 use mir.Val.{SFits, ofZ, toZ}
 use mir.ValLaws.{toZ-ofZ, toZ-pos}
 use borrow.Author.Tests.{leb-true, not-true, not-false}
+use Rattle.lists.specs.Lists.{allOf}
 use Rattle.lists.specs.Sums.{sumToZ}
+use Rattle.lists.proofs.Blocks.{length-all, all-at}
 use Rattle.lists.proofs.Told.{and-true}
+use Rattle.task.proofs.Counters.{wide}
 use Rattle.rules.specs.Words.{counterFits, countersFit}
 use Rattle.counters.specs.Choice.{Loads}
-use Rattle.choice.specs.Least.{load, loads, sumAt, leastFrom, least, workers, target}
-use Rattle.choice.proofs.Least.{least-replaces, least-keeps, length-workers, workers-at, loads-at}
+use Rattle.choice.specs.Least.{load, loads, sumAt, leastFrom, least, target}
+use Rattle.choice.proofs.Least.{least-replaces, least-keeps, loads-at}
 
 -- Magnitudes: n for n and for -(n+1).
 mag-cond : (t : Bool) (x y : ℕ) → mag (cond t (negsuc x) (pos y)) ≤ x + y
@@ -77,17 +80,8 @@ module _ (counters : List ℤ) (q : ℕ) (is-word : SFits w32 (getD counters q (
 
 -- A counter that is read joins a sum.
 module _ (counter : ℤ) (is-word : SFits w32 counter) where
-  read-is : toZ w32 (ofZ w32 counter) ≡ counter
-  read-is = toZ-ofZ w32 counter is-word
-
   pub fits-read : (b : Bool) → b ≡ counterFits (toZ w32 (ofZ w32 counter)) → b ≡ counterFits counter
-  fits-read b h = h ∙ rw read-is refl
-
-  wide : SFits w64 counter
-  wide = record { sfits = omega (arith, is-word .sfits) }
-
-  pub cast-fits : SFits w64 (toZ w32 (ofZ w32 counter))
-  cast-fits = rw read-is wide
+  fits-read b h = h ∙ rw (toZ-ofZ w32 counter is-word) refl
 
   module _ (sum : ℤ) (is-sum : SFits w64 sum) (small : mag sum ≤ 1099511627776) where
     more : SFits w64 (sum +ℤ counter)
@@ -97,16 +91,12 @@ module _ (counter : ℤ) (is-word : SFits w32 counter) where
     added = toZ w64 (ofZ w64 sum) +ℤ toZ w64 (ofZ w64 (toZ w32 (ofZ w32 counter)))
 
     pub add-fits : SFits w64 added
-    add-fits = rw (toZ-ofZ w64 sum is-sum, read-is, toZ-ofZ w64 counter wide) more
+    add-fits = rw (toZ-ofZ w64 sum is-sum, toZ-ofZ w32 counter is-word, toZ-ofZ w64 counter (wide counter is-word)) more
 
     pub add-made : (toZ w64 (ofZ w64 added) ≡ sum +ℤ counter) × (mag (toZ w64 (ofZ w64 added)) ≤ mag sum + 2147483649)
     add-made =
-        rw (toZ-ofZ w64 sum is-sum, read-is, toZ-ofZ w64 counter wide, toZ-ofZ w64 (sum +ℤ counter) more)
+        rw (toZ-ofZ w64 sum is-sum, toZ-ofZ w32 counter is-word, toZ-ofZ w64 counter (wide counter is-word), toZ-ofZ w64 (sum +ℤ counter) more)
         (refl, omega (arith, is-word .sfits, mag-plus sum counter))
-
--- Where worker j's counters start.
-pub place-small : (p j : ℕ) → j < p → p ≤ 16 → j * p ≤ 256
-place-small p j h k = mul-le-mul {n₁ = j} {m₁ = p} {n₂ = 16} {m₂ = 16} (omega arith) k
 
 -- The sum of f counters from place `first` on, and whether they fit, which leaves those after them. A local that was written with an
 -- integer holds its bits.
@@ -145,9 +135,9 @@ module _ (counters : List ℤ) (first : ℕ) where
       unfolding sumToZ
       sum-on r k e m b h =
           record {
-            total = rw (toZ-ofZ w64 r k, e, s .total, read-is next is-word, add-one);
+            total = rw (toZ-ofZ w64 r k, e, s .total, toZ-ofZ w32 next is-word, add-one);
             small = rw (toZ-ofZ w64 r k) (omega (arith, s .small));
-            rest = rw (h, read-is next is-word) rest-on;
+            rest = rw (h, toZ-ofZ w32 next is-word) rest-on;
           }
 
 pub sum-whole : (p : ℕ) (counters : List ℤ) (j f sum : ℕ) (fits : Bool) → Summed counters (j * p) f sum fits → f ≡ p
@@ -159,13 +149,13 @@ sum-whole p counters j f sum fits s e = (rw e at (s .total), rw e at (s .rest))
 pub record Best (p : ℕ) (counters : List ℤ) (j best sum : ℕ) : Type 0 where
   pub worker : best < p
   pub sum-is : toZ w64 sum ≡ load p counters best
-  pub rest : target p counters ≡ leastFrom (loads p counters) best (drop j (workers p))
+  pub rest : target p counters ≡ leastFrom (loads p counters) best (drop j (allOf p))
   pub fit : countersFit counters ≡ countersFit (drop (j * p) counters)
 
 module _ (p : ℕ) (counters : List ℤ) where
   -- the workers from j on
-  from : (j : ℕ) → j < p → drop j (workers p) ≡ j ∷ drop (suc j) (workers p)
-  from j h = drop-cons (workers p) j 0 (omega (arith, length-workers p)) ∙ ap (λ (x : ℕ). x ∷ drop (suc j) (workers p)) (workers-at p j h)
+  from : (j : ℕ) → j < p → drop j (allOf p) ≡ j ∷ drop (suc j) (allOf p)
+  from j h = drop-cons (allOf p) j 0 (omega (arith, length-all p)) ∙ ap (λ (x : ℕ). x ∷ drop (suc j) (allOf p)) (all-at p j h)
 
   pub first-place : countersFit counters ≡ countersFit (drop (0 * p) counters)
   first-place = rw (zero-mul p) refl
@@ -192,7 +182,7 @@ module _ (p : ℕ) (counters : List ℤ) where
     -- worker j and its sum, just computed
     module _ (inside : j < p) (s : ℤ) (fits : Bool) (is-sum : SFits w64 s) (e : Loads p counters j s fits) (n : not fits ≡ false) where
       abbrev later : List ℕ
-      later = drop (j + 1) (workers p)
+      later = drop (j + 1) (allOf p)
 
       new-sum : toZ w64 (ofZ w64 s) ≡ load p counters j
       new-sum = toZ-ofZ w64 s is-sum ∙ e .0
@@ -225,5 +215,5 @@ module _ (p : ℕ) (counters : List ℤ) where
     unfolding leastFrom countersFit
     best-whole h l = (
       rw (b .fit, drop-of-length-le counters {i = j * p} (omega (arith, l, mul-le-mul-right p h))),
-      rw (b .rest, drop-of-length-le (workers p) {i = j} (omega (arith, length-workers p))),
+      rw (b .rest, drop-of-length-le (allOf p) {i = j} (omega (arith, length-all p))),
     )

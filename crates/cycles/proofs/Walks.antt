@@ -32,7 +32,7 @@ fresh =
     }
 
 -- nothing is marked where nothing is queued
-pub unmarked : {seen queue : List ℕ} → Marked seen queue 0 → (u : ℕ) → ¬ (Has seen u)
+unmarked : {seen queue : List ℕ} → Marked seen queue 0 → (u : ℕ) → ¬ (Has seen u)
 unmarked m u h = omega (arith, m .once u, occ-nil ℕ-discrete u)
 
 module _ {g : Graph} (s : Sound g) where
@@ -60,7 +60,7 @@ module _ {g : Graph} (s : Sound g) where
   module _ {t : ℕ} {seen queue : List ℕ} {head tail : ℕ} (w : Walked g t seen queue head tail) where
     module _ (l : head < tail) where
       -- the next of the queue leads to t, and so is a task
-      pub next-leads : Leads (Edge g) (getD queue head 0) t
+      next-leads : Leads (Edge g) (getD queue head 0) t
       next-leads =
           w .leads (getD queue head 0) (omega (arith, w .marked .once (getD queue head 0), occ-early queue tail head l (omega (arith, w .marked .tail-fits, w .marked .queue-size))))
 

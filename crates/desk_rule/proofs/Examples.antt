@@ -4,7 +4,7 @@ use mathlib.Core.Path.{_≡_, refl}
 use mathlib.Core.List.{List, [], _∷_}
 use native.Mathlib.Decide.{ℕ-discrete, decLe, decLt}
 use Rattle.lists.specs.Decided.{firstBelow}
-use Rattle.lists.specs.Lists.{occOf, joined, tabulate}
+use Rattle.lists.specs.Lists.{occOf, joined, tabulate, allOf}
 use Rattle.lists.specs.Sums.{sumTo, sumToZ}
 use Rattle.lists.specs.Circles.{after, around}
 use Rattle.task.specs.Types.{capped}
@@ -14,7 +14,7 @@ use Rattle.graph.specs.Check.{sizesFit, firstBad, firstTwice, firstOnCycle, tab
 use Rattle.graph.specs.Decide.{below?, among?, light?, good?, bad?, endsFit?, twice?, twiceIn?, find-twice, edge?, thru?, path?, leads?, onCycle?}
 use Rattle.graph.specs.Successors.{succsBelow, succStart, succStarts, succWords, degreeList, roots}
 use Rattle.ring.specs.Ring.{capacity, slotAt, endsAt, storeEnds, sound, empty, full, headOn, tailOn}
-use Rattle.choice.specs.Least.{load, loads, leastFrom, least, workers, target}
+use Rattle.choice.specs.Least.{load, loads, leastFrom, least, target}
 use Rattle.choice.specs.Search.{search}
 use Rattle.rules.specs.Memory.{allSteps, allEntries}
 use Rattle.rules.specs.Sizes.{numbersFit, othersFit, lengthsFit}
@@ -26,17 +26,9 @@ use Rattle.rules.specs.Begin.{cleared, rootsPlaced, begun, rootsAnswer, beginAn
 use Rattle.rules.specs.Desk.{turn, turns, deskRun}
 use Rattle.layout.specs.Tasks.{weightsOf, startsFrom, predsOf}
 use Rattle.layout.specs.Reader.{lines, trim, skipped, fields, digits, valueOf, rowOf, taskOf, contents, tasksFrom, verdict, laid, readText}
+use Rattle.layout.proofs.Examples.{diamondText}
 use Rattle.desk_rule.specs.Printed.{digitsBefore, digitsOf, pairLine}
 use Rattle.desk_rule.specs.Output.{refusedLine, entryLines, runLines, graphOutput, deskMemory, deskRead, deskOutput}
-
--- "2␊0 0 0␊1 5 1 0␊2 3 1 0␊3 0 2 1 2␊"
-abbrev diamondText : List ℕ
-diamondText =
-    50 ∷ 10
-    ∷ 48 ∷ 32 ∷ 48 ∷ 32 ∷ 48 ∷ 10
-    ∷ 49 ∷ 32 ∷ 53 ∷ 32 ∷ 49 ∷ 32 ∷ 48 ∷ 10
-    ∷ 50 ∷ 32 ∷ 51 ∷ 32 ∷ 49 ∷ 32 ∷ 48 ∷ 10
-    ∷ 51 ∷ 32 ∷ 48 ∷ 32 ∷ 50 ∷ 32 ∷ 49 ∷ 32 ∷ 50 ∷ 10 ∷ []
 
 -- "0␊0 0 0␊1 0 0␊"
 abbrev twoRootsText : List ℕ
@@ -112,5 +104,5 @@ pub record Examples : Type 0 where
       ≡ 114 ∷ 101 ∷ 102 ∷ 117 ∷ 115 ∷ 101 ∷ 100 ∷ 32 ∷ 51 ∷ 32 ∷ 49 ∷ 10 ∷ []
 
 pub examples : Examples
-unfolding ℕ-discrete decLe decLt firstBelow occOf joined tabulate sumTo after around capped nextPhase part sizesFit firstBad firstTwice firstOnCycle tablesAnswer checkAnswer below? among? light? good? bad? endsFit? twice? twiceIn? find-twice edge? thru? path? leads? onCycle? succsBelow succStart succStarts succWords degreeList roots capacity slotAt endsAt storeEnds sound empty full headOn tailOn sumToZ load loads leastFrom least workers target search allSteps allEntries numbersFit othersFit lengthsFit countersFit updated written counted carriedOut scan fetchTask fetchFrom fetchRule startRule completeSink completeInner completeRule releasedRow findRoom releaseTo releaseReady releaseWaiting releaseRule ruleOf stepPlan step cleared rootsPlaced begun rootsAnswer beginAnswer begin turn turns deskRun weightsOf startsFrom predsOf lines trim skipped fields digits valueOf rowOf taskOf contents tasksFrom verdict laid readText digitsBefore digitsOf pairLine refusedLine entryLines runLines graphOutput deskMemory deskRead deskOutput
+unfolding ℕ-discrete decLe decLt firstBelow occOf joined tabulate allOf sumTo after around capped nextPhase part sizesFit firstBad firstTwice firstOnCycle tablesAnswer checkAnswer below? among? light? good? bad? endsFit? twice? twiceIn? find-twice edge? thru? path? leads? onCycle? succsBelow succStart succStarts succWords degreeList roots capacity slotAt endsAt storeEnds sound empty full headOn tailOn sumToZ load loads leastFrom least target search allSteps allEntries numbersFit othersFit lengthsFit countersFit updated written counted carriedOut scan fetchTask fetchFrom fetchRule startRule completeSink completeInner completeRule releasedRow findRoom releaseTo releaseReady releaseWaiting releaseRule ruleOf stepPlan step cleared rootsPlaced begun rootsAnswer beginAnswer begin turn turns deskRun weightsOf startsFrom predsOf lines trim skipped fields digits valueOf rowOf taskOf contents tasksFrom verdict laid readText digitsBefore digitsOf pairLine refusedLine entryLines runLines graphOutput deskMemory deskRead deskOutput
 examples = record { nought = refl; seven = refl; ten = refl; fiveDigits = refl; diamond = refl; nothing = refl; twoRoots = refl; sixRoots = refl; sevenRoots = refl; badPredecessor = refl }

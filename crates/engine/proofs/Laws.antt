@@ -11,6 +11,7 @@ use Rattle.task.specs.declared.Step.the-variants.{Fetch, Start, Complete, Relea
 use Rattle.rows.specs.Rows.{rowsOf, clearedRows}
 use Rattle.rows.proofs.Laws.{length-rows}
 use Rattle.rules.specs.Memory.{Mem, memOf}
+use Rattle.rules.specs.Plans.{resultOf}
 use Rattle.rules.specs.Begin.{begin}
 use Rattle.rules.specs.Steps.{step}
 use Rattle.admission.specs.Admission.{sizesOf}
@@ -22,7 +23,7 @@ use Rattle.complete.specs.Complete.{Completes}
 use Rattle.release.specs.Release.{tablesOf, wordsOf, Lent, Releases}
 use Rattle.begin.specs.Begin.{Begins}
 use Rattle.begin.specs.declared.Begun.{Begun}
-use Rattle.engine.specs.Engine.{lentOf, result}
+use Rattle.engine.specs.Engine.{lentOf}
 
 -- a row is six words
 module _ (w ps p′ ss s d r e : List ℕ) (c : List ℤ) (b x n : List ℕ) (cells : List (List ℕ)) where
@@ -80,24 +81,24 @@ module _ (w ps p′ ss s d r e : List ℕ) (c : List ℤ) (b x n : List ℕ) (ro
     module _ (limits : Limits) (p k i : ℕ) (rows′ : List Row) (row : Row) (a : Stepped)
         (loaded : row ≡ getD rows i idle) (stored : rows′ ≡ set rows i (a .row)) where
       pub start-made : (n′ : List ℕ) → Starts limits p k i sizes row n n′ a
-          → result (a .answer) (memOf w ps p′ ss s d r e c b x n′ rows′) ≡ step limits p k i Start lent
+          → resultOf (a .answer) (memOf w ps p′ ss s d r e c b x n′ rows′) ≡ step limits p k i Start lent
       start-made n′ f = rw stored (f lent (sym measured) (sym loaded))
 
       pub fetch-made : (e′ : List ℕ) (c′ : List ℤ) (n′ : List ℕ) → Fetches limits p k i sizes row w r e e′ c c′ n n′ a
-          → result (a .answer) (memOf w ps p′ ss s d r e′ c′ b x n′ rows′) ≡ step limits p k i Fetch lent
+          → resultOf (a .answer) (memOf w ps p′ ss s d r e′ c′ b x n′ rows′) ≡ step limits p k i Fetch lent
       fetch-made e′ c′ n′ f = rw stored (f lent (sym measured) (sym loaded))
 
       pub complete-made : (b′ x′ n′ : List ℕ) → Completes limits p k i sizes row ss b b′ x x′ n n′ a
-          → result (a .answer) (memOf w ps p′ ss s d r e c b′ x′ n′ rows′) ≡ step limits p k i Complete lent
+          → resultOf (a .answer) (memOf w ps p′ ss s d r e c b′ x′ n′ rows′) ≡ step limits p k i Complete lent
       complete-made b′ x′ n′ f = rw stored (f lent (sym measured) (sym loaded))
 
       pub release-made : (d′ r′ e′ : List ℕ) (c′ : List ℤ) (n′ : List ℕ)
           → Releases limits p k i sizes row (tablesOf w ss s b) (wordsOf d r e c n) (wordsOf d′ r′ e′ c′ n′) a
-          → result (a .answer) (memOf w ps p′ ss s d′ r′ e′ c′ b x n′ rows′) ≡ step limits p k i Release lent
+          → resultOf (a .answer) (memOf w ps p′ ss s d′ r′ e′ c′ b x n′ rows′) ≡ step limits p k i Release lent
       release-made d′ r′ e′ c′ n′ f = rw stored (f lent (sym measured) (sym loaded))
 
   pub begin-made : (limits : Limits) (p k : ℕ) (rows′ : List Row) (a : Begun) (ss′ s′ d′ r′ e′ : List ℕ) (c′ : List ℤ) (b′ x′ n′ : List ℕ) (count : ℕ) → length rows ≡ count
       → rows′ ≡ clearedRows (a .rows) rows
       → Begins limits p k count (memOf w ps p′ ss s d r e c b x n) (memOf w ps p′ ss′ s′ d′ r′ e′ c′ b′ x′ n′) a
-      → result (a .answer) (memOf w ps p′ ss′ s′ d′ r′ e′ c′ b′ x′ n′ rows′) ≡ begin limits p k lent
+      → resultOf (a .answer) (memOf w ps p′ ss′ s′ d′ r′ e′ c′ b′ x′ n′ rows′) ≡ begin limits p k lent
   begin-made limits p k rows′ a ss′ s′ d′ r′ e′ c′ b′ x′ n′ count counted cleared f = rw cleared (f .0 rows counted)

@@ -6,7 +6,7 @@ ghost use Rattle.task.specs.declared.Step.{Step};
 ghost use Rattle.rules.specs.Memory.{memOf};
 ghost use Rattle.rules.specs.Begin.{begin};
 ghost use Rattle.rules.specs.Steps.{step};
-ghost use Rattle.engine.specs.Engine.{result};
+ghost use Rattle.rules.specs.Plans.{resultOf};
 use admission::Sizes;
 use task::Answer;
 use task::Limits;
@@ -33,7 +33,7 @@ pub fn fetch(
     k: usize,
     worker: WorkerId,
 ) -> StepAnswer
-    ensures { λ r. ⌜ result r (memOf (now (weights .entry)) (now («pred_starts» .entry)) (now (preds .entry)) (now («succ_starts» .entry)) (now (succs .entry)) (now (degrees .entry)) (now (rings .entry)) (now (ends .exit)) (now (counters .exit)) (now (buffers .entry)) (now (executed .entry)) (now (run .exit)) (now (rows .exit))) ≡ step limits p k (worker .0) Step.Fetch (memOf (now (weights .entry)) (now («pred_starts» .entry)) (now (preds .entry)) (now («succ_starts» .entry)) (now (succs .entry)) (now (degrees .entry)) (now (rings .entry)) (now (ends .entry)) (now (counters .entry)) (now (buffers .entry)) (now (executed .entry)) (now (run .entry)) (now (rows .entry))) ⌝ }
+    ensures { λ r. ⌜ resultOf r (memOf (now (weights .entry)) (now («pred_starts» .entry)) (now (preds .entry)) (now («succ_starts» .entry)) (now (succs .entry)) (now (degrees .entry)) (now (rings .entry)) (now (ends .exit)) (now (counters .exit)) (now (buffers .entry)) (now (executed .entry)) (now (run .exit)) (now (rows .exit))) ≡ step limits p k (worker .0) Step.Fetch (memOf (now (weights .entry)) (now («pred_starts» .entry)) (now (preds .entry)) (now («succ_starts» .entry)) (now (succs .entry)) (now (degrees .entry)) (now (rings .entry)) (now (ends .entry)) (now (counters .entry)) (now (buffers .entry)) (now (executed .entry)) (now (run .entry)) (now (rows .entry))) ⌝ }
 {
     let sizes = Sizes {
         weights: weights.len(),
@@ -87,7 +87,7 @@ pub fn start(
     k: usize,
     worker: WorkerId,
 ) -> StepAnswer
-    ensures { λ r. ⌜ result r (memOf (now (weights .entry)) (now («pred_starts» .entry)) (now (preds .entry)) (now («succ_starts» .entry)) (now (succs .entry)) (now (degrees .entry)) (now (rings .entry)) (now (ends .entry)) (now (counters .entry)) (now (buffers .entry)) (now (executed .entry)) (now (run .exit)) (now (rows .exit))) ≡ step limits p k (worker .0) Step.Start (memOf (now (weights .entry)) (now («pred_starts» .entry)) (now (preds .entry)) (now («succ_starts» .entry)) (now (succs .entry)) (now (degrees .entry)) (now (rings .entry)) (now (ends .entry)) (now (counters .entry)) (now (buffers .entry)) (now (executed .entry)) (now (run .entry)) (now (rows .entry))) ⌝ }
+    ensures { λ r. ⌜ resultOf r (memOf (now (weights .entry)) (now («pred_starts» .entry)) (now (preds .entry)) (now («succ_starts» .entry)) (now (succs .entry)) (now (degrees .entry)) (now (rings .entry)) (now (ends .entry)) (now (counters .entry)) (now (buffers .entry)) (now (executed .entry)) (now (run .exit)) (now (rows .exit))) ≡ step limits p k (worker .0) Step.Start (memOf (now (weights .entry)) (now («pred_starts» .entry)) (now (preds .entry)) (now («succ_starts» .entry)) (now (succs .entry)) (now (degrees .entry)) (now (rings .entry)) (now (ends .entry)) (now (counters .entry)) (now (buffers .entry)) (now (executed .entry)) (now (run .entry)) (now (rows .entry))) ⌝ }
 {
     let sizes = Sizes {
         weights: weights.len(),
@@ -129,7 +129,7 @@ pub fn complete(
     k: usize,
     worker: WorkerId,
 ) -> StepAnswer
-    ensures { λ r. ⌜ result r (memOf (now (weights .entry)) (now («pred_starts» .entry)) (now (preds .entry)) (now («succ_starts» .entry)) (now (succs .entry)) (now (degrees .entry)) (now (rings .entry)) (now (ends .entry)) (now (counters .entry)) (now (buffers .exit)) (now (executed .exit)) (now (run .exit)) (now (rows .exit))) ≡ step limits p k (worker .0) Step.Complete (memOf (now (weights .entry)) (now («pred_starts» .entry)) (now (preds .entry)) (now («succ_starts» .entry)) (now (succs .entry)) (now (degrees .entry)) (now (rings .entry)) (now (ends .entry)) (now (counters .entry)) (now (buffers .entry)) (now (executed .entry)) (now (run .entry)) (now (rows .entry))) ⌝ }
+    ensures { λ r. ⌜ resultOf r (memOf (now (weights .entry)) (now («pred_starts» .entry)) (now (preds .entry)) (now («succ_starts» .entry)) (now (succs .entry)) (now (degrees .entry)) (now (rings .entry)) (now (ends .entry)) (now (counters .entry)) (now (buffers .exit)) (now (executed .exit)) (now (run .exit)) (now (rows .exit))) ≡ step limits p k (worker .0) Step.Complete (memOf (now (weights .entry)) (now («pred_starts» .entry)) (now (preds .entry)) (now («succ_starts» .entry)) (now (succs .entry)) (now (degrees .entry)) (now (rings .entry)) (now (ends .entry)) (now (counters .entry)) (now (buffers .entry)) (now (executed .entry)) (now (run .entry)) (now (rows .entry))) ⌝ }
 {
     let sizes = Sizes {
         weights: weights.len(),
@@ -182,7 +182,7 @@ pub fn release(
     k: usize,
     worker: WorkerId,
 ) -> StepAnswer
-    ensures { λ r. ⌜ result r (memOf (now (weights .entry)) (now («pred_starts» .entry)) (now (preds .entry)) (now («succ_starts» .entry)) (now (succs .entry)) (now (degrees .exit)) (now (rings .exit)) (now (ends .exit)) (now (counters .exit)) (now (buffers .entry)) (now (executed .entry)) (now (run .exit)) (now (rows .exit))) ≡ step limits p k (worker .0) Step.Release (memOf (now (weights .entry)) (now («pred_starts» .entry)) (now (preds .entry)) (now («succ_starts» .entry)) (now (succs .entry)) (now (degrees .entry)) (now (rings .entry)) (now (ends .entry)) (now (counters .entry)) (now (buffers .entry)) (now (executed .entry)) (now (run .entry)) (now (rows .entry))) ⌝ }
+    ensures { λ r. ⌜ resultOf r (memOf (now (weights .entry)) (now («pred_starts» .entry)) (now (preds .entry)) (now («succ_starts» .entry)) (now (succs .entry)) (now (degrees .exit)) (now (rings .exit)) (now (ends .exit)) (now (counters .exit)) (now (buffers .entry)) (now (executed .entry)) (now (run .exit)) (now (rows .exit))) ≡ step limits p k (worker .0) Step.Release (memOf (now (weights .entry)) (now («pred_starts» .entry)) (now (preds .entry)) (now («succ_starts» .entry)) (now (succs .entry)) (now (degrees .entry)) (now (rings .entry)) (now (ends .entry)) (now (counters .entry)) (now (buffers .entry)) (now (executed .entry)) (now (run .entry)) (now (rows .entry))) ⌝ }
 {
     let sizes = Sizes {
         weights: weights.len(),
@@ -239,7 +239,7 @@ pub fn begin(
     p: usize,
     k: usize,
 ) -> Answer
-    ensures { λ r. ⌜ result r (memOf (now (weights .entry)) (now («pred_starts» .entry)) (now (preds .entry)) (now («succ_starts» .exit)) (now (succs .exit)) (now (degrees .exit)) (now (rings .exit)) (now (ends .exit)) (now (counters .exit)) (now (buffers .exit)) (now (executed .exit)) (now (run .exit)) (now (rows .exit))) ≡ begin limits p k (memOf (now (weights .entry)) (now («pred_starts» .entry)) (now (preds .entry)) (now («succ_starts» .entry)) (now (succs .entry)) (now (degrees .entry)) (now (rings .entry)) (now (ends .entry)) (now (counters .entry)) (now (buffers .entry)) (now (executed .entry)) (now (run .entry)) (now (rows .entry))) ⌝ }
+    ensures { λ r. ⌜ resultOf r (memOf (now (weights .entry)) (now («pred_starts» .entry)) (now (preds .entry)) (now («succ_starts» .exit)) (now (succs .exit)) (now (degrees .exit)) (now (rings .exit)) (now (ends .exit)) (now (counters .exit)) (now (buffers .exit)) (now (executed .exit)) (now (run .exit)) (now (rows .exit))) ≡ begin limits p k (memOf (now (weights .entry)) (now («pred_starts» .entry)) (now (preds .entry)) (now («succ_starts» .entry)) (now (succs .entry)) (now (degrees .entry)) (now (rings .entry)) (now (ends .entry)) (now (counters .entry)) (now (buffers .entry)) (now (executed .entry)) (now (run .entry)) (now (rows .entry))) ⌝ }
 {
     let begun = begin::begin_lists(
         limits,

@@ -14,7 +14,7 @@ use Rattle.exchange.proofs.Allowed.{exchange-allowed, leads-before}
 use Rattle.exchange.proofs.Counts.{differ-first}
 
 -- n exchanges lead from a to b
-pub data Swaps {A : Type 0} (E : A → A → Type 0) : List A → List A → ℕ → Type 0 where
+data Swaps {A : Type 0} (E : A → A → Type 0) : List A → List A → ℕ → Type 0 where
   done : {a : List A} → Swaps E a a 0
   next : {a b c : List A} {n : ℕ} → Exchanged E a b → Swaps E b c n → Swaps E a c (suc n)
 

@@ -116,12 +116,13 @@ module _ (a b : List ℕ) where
           sum-same t (λ u. bit (differently a b u t)) (λ u. cross t u + cross u t)
           (λ u g. cross-pair u t (λ e. omega arith) (p u (omega arith)) (q u (omega arith)))
 
+-- a list that holds each of the tasks 0 .. n−1 once holds task u
+pub holds-each : (n : ℕ) (l : List ℕ) → ((t : ℕ) → occ t l ≡ tally (decLt t n)) → (u : ℕ) → u < n → 0 < occ u l
+holds-each n l e u h = omega (arith, e u, tally-yes (decLt u n) h)
+
 pub differ-pairs : (n : ℕ) (a b : List ℕ) → ((t : ℕ) → occ t a ≡ tally (decLt t n)) → ((t : ℕ) → occ t b ≡ tally (decLt t n))
     → differ ℕ-discrete a b ≡ pairsDiffering n a b
 differ-pairs n a b p q =
     differ-sum ℕ-discrete a b (λ t. omega (arith, p t, tally-le-one (decLt t n))) ∙ sumOf-all (λ x. sumOf (cross a b x) a) n a p
     ∙ sum-same n (λ x. sumTo n (cross a b x)) (λ x. sumOf (cross a b x) a) (λ x h. sumOf-all (cross a b x) n a p)
-    ∙ cross-pairs a b n (inside a p) (inside b q)
-  where
-    inside : (l : List ℕ) → ((t : ℕ) → occ t l ≡ tally (decLt t n)) → (u : ℕ) → u < n → 0 < occ u l
-    inside l e u h = omega (arith, e u, tally-yes (decLt u n) h)
+    ∙ cross-pairs a b n (holds-each n a p) (holds-each n b q)

@@ -4,7 +4,7 @@ use mathlib.Core.Path.{_≡_, refl, sym, ap, subst, _∙_}
 use mathlib.Core.Bool.{Bool, true, false, not}
 use mathlib.Core.List.{List, [], _∷_}
 use native.Mathlib.Omega.{arith}
-use native.Mathlib.Nat.{mul-le-mul-right, suc-mul, mod-lt}
+use native.Mathlib.Nat.{mod-lt}
 use borrow.Author.Tests.{lt-ltb, le-ltb, le-leb, lt-leb, not-true, not-false}
 use lib.ListN.{length, getD, set}
 use lib.IntN.{ℤ, pos, _-ℤ_}
@@ -20,6 +20,7 @@ use Rattle.task.specs.declared.WorkerId.{WorkerId}
 use Rattle.ring.specs.Ring.{Sound, Empty, empty, slotAt, endsAt, headOn, Taken, takenOf, ringsOf, takenAt, Inside}
 use Rattle.ring.proofs.Ends.{empty-told}
 use Rattle.ring.proofs.Laws.{ring-room}
+use Rattle.ring.proofs.Inside.{ring-inside}
 use Rattle.choice.specs.Search as rules
 use Rattle.rules.specs.Memory.{Mem, allSteps, ringNumber, rowIn}
 use Rattle.rules.specs.Words.{counterFits}
@@ -53,17 +54,6 @@ module _ (rings ends : List ℕ) (k q : ℕ) (e : Ends) (h : e ≡ endsAt ends q
   pub head-made : getD rings (q * k + e .head) 0 ≡ headOf k rings ends q
   unfolding headOf slotAt
   head-made = rw h
-
--- ring q is one of the p·p rings
-ring-inside : (p k i : ℕ) (rings ends : List ℕ) (counters : List ℤ) (run : List ℕ) (q : ℕ) → Sized p k i rings ends counters run → q < p * p
-    → Inside k q (ringsOf rings ends)
-unfolding slotAt
-ring-inside p k i rings ends counters run q s h =
-    record {
-      few = s .fewSlots;
-      slots = omega (arith, mul-le-mul-right k h, suc-mul q k, s .allRings);
-      ends = omega (arith, s .allEnds);
-    }
 
 -- Task t, of the ring filled by j.
 module _ (p i steps : ℕ) (weights : List ℕ) (counters : List ℤ) (run : List ℕ) (j t : ℕ) where
@@ -164,7 +154,7 @@ module _ (p k i steps pointer : ℕ) (weights rings ends : List ℕ) (counters :
 module _ (p k i : ℕ) (rings ends : List ℕ) (counters : List ℤ) (run : List ℕ) (s : Sized p k i rings ends counters run)
     (q : ℕ) (h : q < p * p) where
   pub ring-ready : (r : ℕ) → q ≡ r → Sound k (endsAt ends r) → Inside k q (ringsOf rings ends) × Sound k (endsAt ends q)
-  ring-ready r e f = (ring-inside p k i rings ends counters run q s h, rw e f)
+  ring-ready r e f = (ring-inside k (p * p) q rings ends (s .fewSlots) (s .allRings) (s .allEnds) h, rw e f)
 
   pub counter-ready : (r weight : ℕ) → q ≡ r → counterFits (getD counters r (pos 0)) ≡ true → weight ≤ 65535
       → (q < length counters) × ((counterFits (getD counters q (pos 0)) ≡ true) × (weight ≤ 65535))

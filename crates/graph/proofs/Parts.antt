@@ -32,7 +32,7 @@ module _ {g : Graph} (s : Sound g) where
       ∙ sym (take-add (getD (g .starts) t 0) (getD (g .starts) (t + 1) 0 - getD (g .starts) t 0) (g .preds))
       ∙ ap (λ (k : ℕ). take k (g .preds)) (sym e) ∙ ap (λ (k : ℕ). take (getD (g .starts) k 0) (g .preds)) (add-one t)
 
-  pub parts-joined : joined (g .tasks) (predsOf g) ≡ g .preds
+  parts-joined : joined (g .tasks) (predsOf g) ≡ g .preds
   parts-joined = parts-below (g .tasks) (omega arith) ∙ rw (s .ends .last) (take-all (length (g .preds)) (g .preds) (omega arith))
 
   -- how often u is a predecessor, summed over the tasks
@@ -46,7 +46,7 @@ module _ {g : Graph} (s : Sound g) where
       go : (t : ℕ) × (t < g .tasks) × (0 < occ u (predsOf g t)) → u < g .tasks
       go w = s .good (w .0) (w .1) .below u (w .2)
 
-  pub edge-from : (u t : ℕ) → Edge g u t → u < g .tasks
+  edge-from : (u t : ℕ) → Edge g u t → u < g .tasks
   edge-from u t e = s .good t (e .task) .below u (e .predecessor)
 
   pub leads-from : {u t : ℕ} → Leads (Edge g) u t → u < g .tasks

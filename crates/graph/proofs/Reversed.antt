@@ -10,13 +10,13 @@ use native.Mathlib.Numerals.{add-one}
 use native.Mathlib.Decide.{ℕ-discrete, decLt}
 use lib.ListN.{length, getD, take, drop, replicate, length-replicate, List·getD-eq-default}
 use Rattle.lists.specs.Decided.{holds, tally}
-use Rattle.lists.specs.Lists.{occ, Rising}
+use Rattle.lists.specs.Lists.{occ, allOf, Rising}
 use Rattle.lists.specs.Sums.{sumTo, sumOf}
 use Rattle.lists.proofs.Appends.{no-members}
 use Rattle.lists.proofs.Decided.{stable}
 use Rattle.lists.proofs.Occurrences.{occ-nil, occ-hit, occ-miss, occ-joined, occ-replicate, occ-replicate-other}
 use Rattle.lists.proofs.Sums.{sum-find, sum-same, sum-zero, sum-only, sum-suc, sum-prefix, length-joined, length-occ, sumOf-all}
-use Rattle.lists.proofs.Blocks.{length-tabulate, getD-tabulate, block-at, allOf, occ-all, joined-rises}
+use Rattle.lists.proofs.Blocks.{length-tabulate, getD-tabulate, block-at, occ-all, joined-rises}
 use Rattle.graph.specs.Graph.{Among, part, Graph, graphOf, edgeCount, predsOf}
 use Rattle.graph.specs.Conditions.{Good, Acceptable, Sound}
 use Rattle.graph.specs.Successors.{succsBelow, succsOf, succStart, succStarts, succWords, degreeList, roots}
@@ -41,11 +41,11 @@ module _ (g : Graph) where
       ∙ sum-zero n (λ s. occ t (replicate (occ u (predsOf g s)) s)) (λ s l. occ-replicate-other ℕ-discrete t s (occ u (predsOf g s)) (λ e. omega arith))
 
   -- t is among u's successors exactly as often as u is among t's predecessors
-  pub reversed : (u t : ℕ) → t < g .tasks → occ t (succsOf g u) ≡ occ u (predsOf g t)
+  reversed : (u t : ℕ) → t < g .tasks → occ t (succsOf g u) ≡ occ u (predsOf g t)
   reversed u t h = occ-below (g .tasks) u t h
 
   -- a successor is a task
-  pub succs-below : (u t : ℕ) → Among t (succsOf g u) → t < g .tasks
+  succs-below : (u t : ℕ) → Among t (succsOf g u) → t < g .tasks
   succs-below u t h = go (decLt t (g .tasks))
     where
       go : Dec (t < g .tasks) → t < g .tasks

@@ -14,7 +14,7 @@ use Rattle.layout.proofs.Tables.{task, tables}
 use Rattle.layout.proofs.Accepted.{spells-verdict}
 
 -- "2␊0 0 0␊1 5 1 0␊2 3 1 0␊3 0 2 1 2␊"
-abbrev diamondText : List ℕ
+abbrev pub diamondText : List ℕ
 diamondText =
     50 ∷ 10
     ∷ 48 ∷ 32 ∷ 48 ∷ 32 ∷ 48 ∷ 10

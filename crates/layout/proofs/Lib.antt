@@ -19,6 +19,7 @@ pub mod Readings
 pub mod Decimals
 pub mod Same
 pub mod Places
+pub mod Numbers
 pub mod TaskLaws
 pub mod TableLaws
 pub mod Texts

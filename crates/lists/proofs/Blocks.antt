@@ -8,7 +8,7 @@ use native.Mathlib.Decide.{ℕ-discrete, decLt}
 use lib.ListN.{length, getD, take, drop, length-append, length-drop, List·getD-append}
 use lib.Seq.{ext-getD, take-add, take-length, drop-append-le, take-append-le, drop-append-seam, getD-append-add}
 use Rattle.lists.specs.Decided.{tally}
-use Rattle.lists.specs.Lists.{occ, joined, tabulate, Rising}
+use Rattle.lists.specs.Lists.{occ, joined, tabulate, allOf, Rising}
 use Rattle.lists.specs.Sums.{sumTo}
 use Rattle.lists.proofs.Decided.{tally-no, tally-next}
 use Rattle.lists.proofs.Occurrences.{occ-nil, occ-joined, at-occ}
@@ -88,13 +88,14 @@ module _ {A : Type 0} where
           ∙ take-append-le (length (f b)) (drop (sumTo b (λ k. length (f k))) (joined n f)) (f n) (omega (arith, length-drop (sumTo b (λ k. length (f k))) (joined n f)))
           ∙ r (omega arith)
 
--- all numbers below n, each once
-unfoldable pub allOf : ℕ → List ℕ
-allOf n = tabulate n (λ t. t)
-
+-- all numbers below n
 pub length-all : (n : ℕ) → length (allOf n) ≡ n
 unfolding allOf
 length-all n = length-tabulate n (λ t. t)
+
+pub all-at : (n i : ℕ) → i < n → getD (allOf n) i 0 ≡ i
+unfolding allOf
+all-at n i h = getD-tabulate n (λ t. t) 0 i h
 
 pub occ-all : (n t : ℕ) → occ t (allOf n) ≡ tally (decLt t n)
 unfolding allOf tabulate

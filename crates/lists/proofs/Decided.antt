@@ -91,12 +91,12 @@ module _ (P : ℕ → Type 0) where
   stops-least (no q) r f zero h = q
   stops-least (no q) r f (suc k) h = f k (omega arith)
 
-pub first-le : (n : ℕ) {P : ℕ → Type 0} (d : (t : ℕ) → Dec (P t)) → firstBelow n d ≤ n
+first-le : (n : ℕ) {P : ℕ → Type 0} (d : (t : ℕ) → Dec (P t)) → firstBelow n d ≤ n
 unfolding firstBelow
 first-le zero d = omega arith
 first-le (suc n) {P} d = stops P (d 0) (firstBelow n (λ t. d (suc t))) n (first-le n (λ t. d (suc t)))
 
-pub first-such : (n : ℕ) {P : ℕ → Type 0} (d : (t : ℕ) → Dec (P t)) → firstBelow n d < n → P (firstBelow n d)
+first-such : (n : ℕ) {P : ℕ → Type 0} (d : (t : ℕ) → Dec (P t)) → firstBelow n d < n → P (firstBelow n d)
 unfolding firstBelow
 first-such zero d h = absurd (omega arith)
 first-such (suc n) {P} d h = stops-such P (d 0) (firstBelow n (λ t. d (suc t))) n (first-such n (λ t. d (suc t))) h

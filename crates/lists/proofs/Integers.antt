@@ -63,7 +63,7 @@ pub ≤ℤ-add : (a : ℤ) (n : ℕ) → a ≤ℤ (a +ℤ pos n)
     go (told-false e l) = rw e (leZ-yes tt)
 
 -- an integer and a greater one differ by a natural number
-pub ≤ℤ-gap : {a b : ℤ} → a ≤ℤ b → (n : ℕ) × (a +ℤ pos n ≡ b)
+≤ℤ-gap : {a b : ℤ} → a ≤ℤ b → (n : ℕ) × (a +ℤ pos n ≡ b)
 ≤ℤ-gap {a} {b} h = (natAbs (b -ℤ a), ap (λ (x : ℤ). a +ℤ x) (pos-natAbs (b -ℤ a) (rises a b (h .le))) ∙ +ℤ-comm a (b -ℤ a) ∙ -ℤ-+ℤ-cancel b a)
   where
     sub-rises : (x y : ℕ) → y ≤ x → T (nonNeg (subℕ x y))

@@ -3,7 +3,7 @@ use Prim.Native.Nat.{ℕ, zero, suc, _+_, _*_, _/_, _%_, _≤_, _<_}
 use mathlib.Core.Path.{_≡_, ap}
 use native.Mathlib.Omega.{arith}
 use native.Mathlib.Decide.{decLt}
-use native.Mathlib.Nat.{mul-le-mul-right, suc-mul, mod-lt, div-add-mod', div-lt-iff-lt-mul}
+use native.Mathlib.Nat.{mul-le-mul, mul-le-mul-right, suc-mul, mod-lt, div-add-mod', div-lt-iff-lt-mul}
 
 -- block i of m blocks ends within them
 pub place-end : (n m i : ℕ) → i < m → i * n + n ≤ m * n
@@ -11,6 +11,10 @@ place-end n m i h = omega (arith, mul-le-mul-right {m = suc i} {n = m} n h, suc-
 
 pub place-lt : (n m i j : ℕ) → i < m → j < n → i * n + j < m * n
 place-lt n m i j h l = omega (arith, l, place-end n m i h)
+
+-- n blocks of n places, n at most b: where block i begins
+pub place-small : (b n i : ℕ) → i < n → n ≤ b → i * n ≤ b * b
+place-small b n i h l = mul-le-mul {n₁ = i} {m₁ = n} {n₂ = b} {m₂ = b} (omega arith) l
 
 -- every number within m blocks is a block's and a place's in it
 pub place-parts : (n m q : ℕ) → q < m * n → (i : ℕ) × (j : ℕ) × (i < m) × (j < n) × (i * n + j ≡ q)

@@ -11,7 +11,7 @@ use Rattle.lists.proofs.Decided.{tally-yes, tally-no, tally-same}
 use Rattle.lists.proofs.Occurrences.{occ-cons, occ-hit, occ-miss, occ-append}
 
 module _ {A : Type 0} (same : Discrete A) where
-  pub place-hit : (a x : A) (l : List A) → a ≡ x → placeOf same a (x ∷ l) ≡ 0
+  place-hit : (a x : A) (l : List A) → a ≡ x → placeOf same a (x ∷ l) ≡ 0
   unfolding placeOf
   place-hit a x l e = go (same a x)
     where
@@ -19,7 +19,7 @@ module _ {A : Type 0} (same : Discrete A) where
       go (yes q) = refl
       go (no n) = absurd (n e)
 
-  pub place-miss : (a x : A) (l : List A) → ¬ (a ≡ x) → placeOf same a (x ∷ l) ≡ suc (placeOf same a l)
+  place-miss : (a x : A) (l : List A) → ¬ (a ≡ x) → placeOf same a (x ∷ l) ≡ suc (placeOf same a l)
   unfolding placeOf
   place-miss a x l m = go (same a x)
     where
@@ -93,10 +93,10 @@ module _ {A : Type 0} (same : Discrete A) (u t : A) where
   earlier l = tally (decLt (placeOf same u l) (placeOf same t l))
 
   -- u comes before t in w ∷ l if t isn't w, and u is w or comes before t in l
-  pub before-head : (w : A) (l : List A) → Before (w ∷ l) → ¬ (t ≡ w)
+  before-head : (w : A) (l : List A) → Before (w ∷ l) → ¬ (t ≡ w)
   before-head w l h e = omega (arith, place-hit same t w l e)
 
-  pub before-tail : (w : A) (l : List A) → Before (w ∷ l) → ¬ (u ≡ w) → Before l
+  before-tail : (w : A) (l : List A) → Before (w ∷ l) → ¬ (u ≡ w) → Before l
   before-tail w l h n = omega (arith, place-miss same u w l n, place-miss same t w l (before-head w l h))
 
   pub before-cons : (w : A) (l : List A) → ¬ (t ≡ w) → (¬ (u ≡ w) → Before l) → Before (w ∷ l)
@@ -111,7 +111,7 @@ module _ {A : Type 0} (same : Discrete A) (u t : A) where
   before-first l n = before-cons u l n (λ m. absurd (m refl))
 
   -- the same items put in front of two lists
-  pub before-behind : (m k l : List A) → (Before k → Before l) → Before (m ++ k) → Before (m ++ l)
+  before-behind : (m k l : List A) → (Before k → Before l) → Before (m ++ k) → Before (m ++ l)
   before-behind [] k l f h = f h
   before-behind (w ∷ m) k l f h =
       before-cons w (m ++ l) (before-head w (m ++ k) h) (λ n. before-behind m k l f (before-tail w (m ++ k) h n))

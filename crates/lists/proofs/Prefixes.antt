@@ -62,6 +62,12 @@ occ-early l n i h m = rw (getD-take n l i 0 h) at (at-occ ℕ-discrete 0 (take n
 pub take-same : (k l : List ℕ) (i n : ℕ) → i ≤ n → take n k ≡ take n l → take i k ≡ take i l
 take-same k l i n h e = sym (take-take i n k h) ∙ ap (take i) e ∙ take-take i n l h
 
+-- equal members over the first i of a list, and one more
+pub fill-more : {A : Type 0} (a : A) (i : ℕ) (l : List A) → i < length l → set (replicate i a ++ drop i l) i a ≡ replicate (suc i) a ++ drop (suc i) l
+fill-more a i [] h = absurd (omega arith)
+fill-more a zero (x ∷ l) h = refl
+fill-more {A = A} a (suc i) (x ∷ l) h = ap (λ (t : List A). a ∷ t) (fill-more a i l (omega arith))
+
 -- what stands in a list of equal members, and behind its end
 pub getD-equals : {A : Type 0} (n u : ℕ) (a : A) → getD (replicate n a) u a ≡ a
 getD-equals zero u a = refl

@@ -28,7 +28,7 @@ tabulate-put {A} n f g i inside off = sym (is-tabulate n g (g i) (set (tabulate 
 
 module _ {A : Type 0} where
   module _ (n : ℕ) (f : ℕ → ℕ → A) where
-    pub row-square : (i : ℕ) → i < n → getD (square n f) i [] ≡ tabulate n (f i)
+    row-square : (i : ℕ) → i < n → getD (square n f) i [] ≡ tabulate n (f i)
     unfolding square
     row-square i h = getD-tabulate n (λ x. tabulate n (f x)) [] i h
 
@@ -51,7 +51,7 @@ module _ {A : Type 0} where
 
   -- a table with one cell changed: that cell, and any other
   module _ (rows : List (List A)) (i j : ℕ) (a : A) where
-    pub cell-put : (d : A) → i < length rows → j < length (getD rows i []) → cell d (withCell rows i j a) i j ≡ a
+    cell-put : (d : A) → i < length rows → j < length (getD rows i []) → cell d (withCell rows i j a) i j ≡ a
     unfolding cell withCell
     cell-put d hi hj = rw (getD-set-same rows i (set (getD rows i []) j a) [] hi) (getD-set-same (getD rows i []) j a d hj)
 

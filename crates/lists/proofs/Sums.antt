@@ -30,7 +30,7 @@ pub sum-suc : (n : ℕ) (f : ℕ → ℕ) → sumTo (suc n) f ≡ sumTo n f + f 
 unfolding sumTo
 sum-suc n f = refl
 
-pub sum-add : (n : ℕ) (f g : ℕ → ℕ) → sumTo n (λ k. f k + g k) ≡ sumTo n f + sumTo n g
+sum-add : (n : ℕ) (f g : ℕ → ℕ) → sumTo n (λ k. f k + g k) ≡ sumTo n f + sumTo n g
 unfolding sumTo
 sum-add zero f g = refl
 sum-add (suc n) f g = omega (arith, sum-add n f g)
@@ -62,7 +62,7 @@ sum-le zero f g h = omega arith
 sum-le (suc n) f g h = omega (arith, sum-le n f g (λ k l. h k (omega arith)), h n (omega arith))
 
 -- where no place falls, a sum grows at least by what one place does
-pub sum-gap : (n : ℕ) (f g : ℕ → ℕ) → ((k : ℕ) → k < n → f k ≤ g k) → (k : ℕ) → k < n → sumTo n f + g k ≤ sumTo n g + f k
+sum-gap : (n : ℕ) (f g : ℕ → ℕ) → ((k : ℕ) → k < n → f k ≤ g k) → (k : ℕ) → k < n → sumTo n f + g k ≤ sumTo n g + f k
 unfolding sumTo
 sum-gap zero f g h k l = absurd (omega arith)
 sum-gap (suc n) f g h k l = go (ℕ-discrete k n) (λ l′. sum-gap n f g (λ j m. h j (omega arith)) k l′)
@@ -102,7 +102,7 @@ unfolding sumTo
 sum-most zero f c h = omega arith
 sum-most (suc n) f c h = omega (arith, sum-most n f c (λ k l. h k (omega arith)), h n (omega arith), suc-mul n c)
 
-pub sum-one : (n : ℕ) → sumTo n (λ k. 1) ≡ n
+sum-one : (n : ℕ) → sumTo n (λ k. 1) ≡ n
 unfolding sumTo
 sum-one zero = refl
 sum-one (suc n) = omega (arith, sum-one n)
@@ -113,7 +113,7 @@ sum-twice zero f = refl
 sum-twice (suc n) f = omega (arith, sum-twice n f)
 
 -- where a sum is larger, some place is
-pub sum-find-lt : (n : ℕ) (f g : ℕ → ℕ) → sumTo n f < sumTo n g → (k : ℕ) × (k < n) × (f k < g k)
+sum-find-lt : (n : ℕ) (f g : ℕ → ℕ) → sumTo n f < sumTo n g → (k : ℕ) × (k < n) × (f k < g k)
 unfolding sumTo
 sum-find-lt zero f g h = absurd (omega arith)
 sum-find-lt (suc n) f g h = go (decLt (f n) (g n)) (sum-find-lt n f g)
@@ -181,7 +181,7 @@ module _ {A : Type 0} (same : Discrete A) where
   sumOf-both f l m h =
       le-antisymm (sumOf-within f l m (λ a. omega (arith, h a))) (sumOf-within f m l (λ a. omega (arith, h a)))
 
-  pub length-within : (l m : List A) → ((a : A) → occOf same a l ≤ occOf same a m) → length l ≤ length m
+  length-within : (l m : List A) → ((a : A) → occOf same a l ≤ occOf same a m) → length l ≤ length m
   length-within l m h = omega (arith, sumOf-one l, sumOf-one m, sumOf-within (λ a. 1) l m h)
 
   -- a list within another and as long: neither holds an item more often
@@ -194,7 +194,7 @@ module _ {A : Type 0} (same : Discrete A) where
       within n x (no q) = omega (arith, h x, occ-miss same x a l q)
 
 -- a sum over the members of a list of numbers below n, by places
-pub sumOf-places : (f : ℕ → ℕ) (n : ℕ) (l : List ℕ) → ((u : ℕ) → 0 < occ u l → u < n) → sumOf f l ≡ sumTo n (λ t. occ t l * f t)
+sumOf-places : (f : ℕ → ℕ) (n : ℕ) (l : List ℕ) → ((u : ℕ) → 0 < occ u l → u < n) → sumOf f l ≡ sumTo n (λ t. occ t l * f t)
 unfolding sumOf
 sumOf-places f n [] h = sym (sum-zero n (λ t. occ t [] * f t) (λ k l. rw (occ-nil ℕ-discrete k) (zero-mul (f k))))
 sumOf-places f n (x ∷ l) h =

@@ -5,7 +5,7 @@ use mathlib.Core.Bool.{Bool, true, false, cond, not, _&&_, _||_}
 use mathlib.Core.Logic.{_⊎_, inl, inr}
 use native.Mathlib.Omega.{arith}
 use lib.Dec.{ltb, leb, eqb}
-use borrow.Author.Tests.{ltb-true, ltb-false, leb-true, leb-false, eqb-true, eqb-false}
+use borrow.Author.Tests.{ltb-true, ltb-false, leb-true, leb-false, eqb-true, eqb-false, not-false}
 use Rattle.lists.specs.Decided.{holds}
 use Rattle.lists.proofs.Apart.{unequal, true-and-false}
 use Rattle.lists.proofs.Decided.{holds-yes, holds-no}
@@ -53,6 +53,10 @@ not-told b (told-false e n) = told-true (rw e) n
 pub and-true : (a b : Bool) → (a && b) ≡ true → (a ≡ true) × (b ≡ true)
 and-true true b h = (refl, h)
 and-true false b h = unequal cc
+
+-- the first of two tests, a bound, where both passed
+pub first-holds : (a b : ℕ) (rest : Bool) → not (leb a b && rest) ≡ false → a ≤ b
+first-holds a b rest e = leb-true a b (and-true (leb a b) rest (not-false (leb a b && rest) e) .0)
 
 -- one of them failed
 pub and-false : (a b : Bool) → (a ≡ true → b ≡ false) → (a && b) ≡ false

@@ -30,6 +30,10 @@ unfoldable pub tabulate : {A : Type 0} → ℕ → (ℕ → A) → List A
 tabulate zero f = []
 tabulate (suc n) f = f 0 ∷ tabulate n (λ k. f (suc k))
 
+-- all numbers below n, each once, rising
+unfoldable pub allOf : ℕ → List ℕ
+allOf n = tabulate n (λ t. t)
+
 -- each number is smaller than those after it
 abbrev pub Rising : List ℕ → Type 0
 Rising l = (i j : ℕ) → i < j → j < length l → getD l i 0 < getD l j 0

@@ -4,7 +4,6 @@ use mathlib.Core.Path.{_≡_, refl, ap, subst, _∙_}
 use mathlib.Core.Bool.{Bool, true, false}
 use mathlib.Core.List.{List}
 use native.Mathlib.Omega.{arith}
-use native.Mathlib.Nat.{mul-le-mul-right, suc-mul}
 use lib.ListN.{length, getD, set}
 use lib.IntN.{ℤ, pos, _+ℤ_}
 use borrow.Author.Tests.{eq-eqb, ne-eqb, le-leb, lt-leb}
@@ -16,7 +15,8 @@ use Rattle.task.specs.declared.Step.the-variants.{Release}
 use Rattle.task.specs.declared.StepAnswer.the-variants as answer
 use Rattle.task.specs.declared.StepOutcome.the-variants.{Released}
 use Rattle.task.specs.declared.ReleaseOutcome.the-variants.{DegreeLeft, Placed}
-use Rattle.ring.specs.Ring.{Sound, slotAt, endsAt, Rings, ringsOf, appendedAt, Inside}
+use Rattle.ring.specs.Ring.{Sound, endsAt, Rings, ringsOf, appendedAt, Inside}
+use Rattle.ring.proofs.Inside.{ring-inside}
 use Rattle.rules.specs.Memory.{Mem, weightIn, successor}
 use Rattle.rules.specs.Updates.{updated, written}
 use Rattle.rules.specs.Words.{counterFits, weightFits}
@@ -65,16 +65,8 @@ module _ (a q : ℕ) (row : Row) (next : Successor) (d run : List ℕ) where
 
 -- Ring y, whose owner o was found: that which worker i fills is sound, and each counter is in its range.
 module _ (p k i n : ℕ) (x : Words) (z : Sized p k i n x) (s o y : ℕ) (t : Takes p k i s (x .ends) (x .counters) o) (inside : y < p * p) where
-  pub ring-inside : y ≡ o * p + i → Inside k y (ringsOf (x .rings) (x .ends)) × Sound k (endsAt (x .ends) y)
-  unfolding slotAt
-  ring-inside e = (
-    record {
-      few = z .fewSlots;
-      slots = omega (arith, mul-le-mul-right k inside, suc-mul y k, z .rings);
-      ends = omega (arith, z .ends);
-    },
-    rw e (t .sound),
-  )
+  pub ring-ready : y ≡ o * p + i → Inside k y (ringsOf (x .rings) (x .ends)) × Sound k (endsAt (x .ends) y)
+  ring-ready e = (ring-inside k (p * p) y (x .rings) (x .ends) (z .fewSlots) (z .rings) (z .ends) inside, rw e (t .sound))
 
   pub ring-counter : (w : ℕ) → w ≤ 65535 → (y < length (x .counters)) × ((counterFits (getD (x .counters) y (pos 0)) ≡ true) × (w ≤ 65535))
   ring-counter w h = let below : y < length (x .counters) = omega (arith, z .counters) in (below, (t .counters y below, h))

@@ -10,9 +10,8 @@ use Rattle.task.specs.declared.Row.{Row}
 use Rattle.task.specs.declared.Step.the-variants as step-name
 use Rattle.choice.specs.Search.{at}
 use Rattle.rules.specs.Memory.{Mem, memOf, tasks, edges, rowIn}
-use Rattle.rules.specs.Plans.{Plan}
+use Rattle.rules.specs.Plans.{Plan, resultOf}
 use Rattle.rules.specs.Steps.{releaseTo, releaseReady, releaseWaiting, stepPlan, step}
-use Rattle.admission.specs.Admission.{resultOf}
 use Rattle.admission.specs.declared.Stepped.{Stepped}
 use Rattle.release_plan.specs.Picks.{Next}
 use Rattle.release_plan.specs.declared.Successor.{Successor}

@@ -7,7 +7,7 @@ use native.Mathlib.Omega.{arith}
 use lib.ListN.{length, getD}
 use lib.Dec.{ltb, leb, eqb}
 use borrow.Author.Tests.{leb-true, lt-ltb, le-ltb, eq-eqb, ne-eqb, not-true, not-false}
-use Rattle.lists.proofs.Told.{and-true}
+use Rattle.lists.proofs.Told.{and-true, first-holds}
 use Rattle.task.specs.declared.Row.{Row}
 use Rattle.rules.specs.Memory.{Mem}
 use Rattle.rules.specs.Plans.{Plan, refuseIf, checked}
@@ -16,14 +16,11 @@ use Rattle.release_plan.specs.Picks.{Shows, Picks, Picked}
 use Rattle.release_plan.specs.declared.Successor.{Successor}
 use Rattle.release_plan.specs.declared.Pick.the-variants.{Refused, Waiting, Ready}
 
--- the first part of a test that passed, and both
-pub first-holds : (a b : ℕ) (rest : Bool) → not (leb a b && rest) ≡ false → a ≤ b
-first-holds a b rest e = leb-true a b (and-true (leb a b) rest (not-false (leb a b && rest) e) .0)
-
 -- a degree in its range can be lowered by one
 pub lowers : (x degree : ℕ) (rest : Bool) → not (leb 1 degree && rest) ≡ false → x ≤ 1 → x ≤ degree
 lowers x degree rest e h = omega (arith, first-holds 1 degree rest e)
 
+-- both parts of a test that passed
 both : (a b c d : ℕ) → not (leb a b && leb c d) ≡ false → (a ≤ b) × (c ≤ d)
 both a b c d e = (first-holds a b (leb c d) e, leb-true c d (and-true (leb a b) (leb c d) (not-false (leb a b && leb c d) e) .1))
 

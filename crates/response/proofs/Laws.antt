@@ -19,6 +19,7 @@ use Rattle.layout.specs.Promises.{Lent, Within}
 use Rattle.layout.proofs.Accepted.{ReadAs, read-accepted}
 use Rattle.rules.specs.Memory.{Mem, tasks, entriesIn, acceptedIn}
 use Rattle.rules.specs.Sizes.{Fits}
+use Rattle.rules.specs.Plans.{resultOf}
 use Rattle.rules.specs.Begin.{begin}
 use Rattle.rules.specs.Desk.{deskRun}
 use Rattle.rules.proofs.Begin.{begin-accepted}
@@ -26,7 +27,7 @@ use Rattle.desk_rule.specs.Printed.{pairLine}
 use Rattle.desk_rule.specs.Output.{refusedLine, entryLines, runLines, begunOutput, graphOutput, deskMemory, readOutput, deskRead, deskOutput}
 use Rattle.desk_rule.proofs.Finishes.{desk-finishes}
 use Rattle.rows.specs.Rows.{rowsOf}
-use Rattle.engine.specs.Engine.{lentOf, result}
+use Rattle.engine.specs.Engine.{lentOf}
 use Rattle.printing.specs.Appending.{Appends}
 use Rattle.printing.proofs.Laws.{appends-then}
 
@@ -37,7 +38,7 @@ pub record Ready (w p x n : List ℕ) : Type 0 where
   pub executed : length x ≡ 2 * length w
   pub run : _≡_ {A = ℕ} (length n) 2
 
-module _ (limits : Limits) (l : limits ≡ engine) (lent begun : Mem) (a : Answer) (h : result a begun ≡ begin limits 2 4 lent) where
+module _ (limits : Limits) (l : limits ≡ engine) (lent begun : Mem) (a : Answer) (h : resultOf a begun ≡ begin limits 2 4 lent) where
   answered : graphOutput lent ≡ begunOutput a begun
   unfolding graphOutput
   answered = rw (← l, ← h) refl

@@ -5,3 +5,4 @@ pub mod Records
 pub mod Local
 pub mod Shared
 pub mod EndWords
+pub mod Inside

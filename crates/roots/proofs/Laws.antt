@@ -1,7 +1,7 @@
 -- Laws over plain lists and numbers that the functions' proofs cite.
-use Prim.Native.Nat.{ℕ, zero, suc, _+_, _≤_, _<_}
+use Prim.Native.Nat.{ℕ, _+_, _≤_, _<_}
 use mathlib.Core.Path.{_≡_, refl, sym, ap, _∙_}
-use mathlib.Core.List.{List, [], _∷_, _++_, append-nil}
+use mathlib.Core.List.{List, _++_, append-nil}
 use native.Mathlib.Omega.{arith}
 use native.Mathlib.Decide.{ℕ-discrete}
 use native.Mathlib.Numerals.{add-one}
@@ -10,6 +10,7 @@ use lib.Seq.{drop-length}
 use Rattle.lists.specs.Decided.{tally}
 use Rattle.lists.specs.Sums.{sumTo}
 use Rattle.lists.proofs.Decided.{tally-yes, tally-no, tally-same}
+use Rattle.lists.proofs.Prefixes.{fill-more}
 use Rattle.lists.proofs.Sums.{sum-same, sum-suc}
 use Rattle.graph.specs.Graph.{Graph, predsOf}
 use Rattle.graph.specs.Conditions.{Sound}
@@ -58,11 +59,6 @@ pub record Filling {A : Type 0} (v : A) (d s : List A) (i : ℕ) : Type 0 where
   pub filled : s ≡ replicate i v ++ drop i d
 
 module _ {A : Type 0} (v : A) where
-  fill-suc : (i : ℕ) (d : List A) → i < length d → set (replicate i v ++ drop i d) i v ≡ replicate (suc i) v ++ drop (suc i) d
-  fill-suc i [] l = absurd (omega arith)
-  fill-suc zero (x ∷ d) l = refl
-  fill-suc (suc i) (x ∷ d) l = ap (λ (t : List A). v ∷ t) (fill-suc i d (omega arith))
-
   pub filling-none : (d : List A) → Filling v d d 0
   filling-none d = record { upto = omega arith; kept = refl; filled = refl }
 
@@ -72,7 +68,7 @@ module _ {A : Type 0} (v : A) where
         record {
           upto = omega arith;
           kept = length-set s i v ∙ f .kept;
-          filled = rw (f .filled, add-one i) (fill-suc i d h);
+          filled = rw (f .filled, add-one i) (fill-more v i d h);
         }
 
     pub filling-whole : length d ≤ i → s ≡ replicate (length d) v

@@ -17,13 +17,13 @@ use Rattle.lists.specs.Lists.{joined}
 use Rattle.lists.proofs.Decided.{yes-holds, no-holds}
 use Rattle.lists.proofs.Prefixes.{getD-equals, zeros}
 use Rattle.lists.proofs.Blocks.{joined-same, getD-tabulate}
-use Rattle.lists.proofs.Places.{place-end}
 use Rattle.task.specs.Types.{engine}
 use Rattle.graph.specs.Graph.{Graph, predsOf}
 use Rattle.graph.specs.Successors.{degreeList, roots}
 use Rattle.graph.proofs.Reversed.{length-degrees}
 use Rattle.ring.specs.Ring.{Sound, slotAt, endsAt, storeEnds, tailOn, Rings, ringsOf, appendedAt, Inside}
 use Rattle.ring.proofs.Ends.{length-stored, ends-cleared, stored-sound, sound-append}
+use Rattle.ring.proofs.Inside.{ring-inside}
 use Rattle.rules.specs.Memory.{Mem}
 use Rattle.rules.specs.Words.{counterFits}
 use Rattle.rules.specs.Updates.{updated, written}
@@ -106,15 +106,7 @@ module _ (p k : ℕ) (weights degrees : List ℕ) (t owner : ℕ) (rings ends : 
 
   module _ (q : ℕ) (inside : q < p * p) where
     pub ring-ready : Inside k q (ringsOf rings ends) × Sound k (endsAt ends q)
-    unfolding slotAt
-    ring-ready = (
-      record {
-        few = l .job .fewSlots;
-        slots = rw (l .room .rings) (place-end k (p * p) q inside);
-        ends = omega (arith, l .room .ends);
-      },
-      l .sound q inside,
-    )
+    ring-ready = (ring-inside k (p * p) q rings ends (l .job .fewSlots) (l .room .rings) (l .room .ends) inside, l .sound q inside)
 
     light : getD weights t 0 ≤ 65535
     light = l .job .light t (omega (arith, l .job .weighed))

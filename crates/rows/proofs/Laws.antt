@@ -1,11 +1,12 @@
 -- Laws over plain lists and numbers that the functions' proofs cite, and what rows that are read say of their words.
 use Prim.Native.Nat.{ℕ, zero, suc, _+_, _≤_, _<_}
-use mathlib.Core.Path.{_≡_, refl, ap, _∙_}
-use mathlib.Core.List.{List, [], _∷_, _++_}
+use mathlib.Core.Path.{_≡_, refl, sym, ap, _∙_}
+use mathlib.Core.List.{List, [], _∷_}
 use native.Mathlib.Omega.{arith}
 use native.Mathlib.Numerals.{add-one}
-use lib.ListN.{length, getD, set, drop, replicate, length-set, List·getD-eq-default}
+use lib.ListN.{length, getD, set, drop, length-set, List·getD-eq-default}
 use lib.Seq.{set-out, ext-getD}
+use Rattle.lists.proofs.Prefixes.{fill-more}
 use Rattle.task.specs.Types.{idle}
 use Rattle.task.specs.declared.Row.{Row}
 use Rattle.rows.specs.Rows.{rowOf, rowsOf, clearedRows}
@@ -39,31 +40,33 @@ module _ (l : List (List ℕ)) (i : ℕ) (r : Row) where
     pub rows-kept : rowsOf l ≡ set (rowsOf l) i r
     rows-kept = rw (set-out (rowsOf l) i r (rw (length-rows l) h))
 
-pub cleared-more : (n : ℕ) (rows : List Row) → n < length rows → set (replicate n idle ++ drop n rows) n idle ≡ replicate (suc n) idle ++ drop (suc n) rows
-cleared-more n [] h = absurd (omega arith)
-cleared-more zero (r ∷ rows) h = refl
-cleared-more (suc n) (r ∷ rows) h = ap (λ (t : List Row). idle ∷ t) (cleared-more n rows (omega arith))
+-- no row is cleared yet, and one more
+pub cleared-none : (rows : List Row) → clearedRows 0 rows ≡ rows
+unfolding clearedRows
+cleared-none rows = refl
 
+pub cleared-next : (n : ℕ) (rows : List Row) → n < length rows → set (clearedRows n rows) n idle ≡ clearedRows (n + 1) rows
+unfolding clearedRows
+cleared-next n rows h = rw (add-one n) (fill-more idle n rows h)
+
+-- the same of rows that are lent as words
 module _ (before : List (List ℕ)) where
-  pub cleared-none : (length before ≡ length before) × (rowsOf before ≡ clearedRows 0 (rowsOf before))
-  unfolding clearedRows
-  cleared-none = (refl, refl)
+  pub words-cleared-none : (length before ≡ length before) × (rowsOf before ≡ clearedRows 0 (rowsOf before))
+  words-cleared-none = (refl, sym (cleared-none (rowsOf before)))
 
   module _ (l : List (List ℕ)) (i : ℕ) (inv : (length l ≡ length before) × (rowsOf l ≡ clearedRows i (rowsOf before))) where
-    -- one row more
-    pub cleared-next : (a : List ℕ) (r : Row) → i < length before → rowOf a ≡ r → r ≡ idle
+    pub words-cleared-next : (a : List ℕ) (r : Row) → i < length before → rowOf a ≡ r → r ≡ idle
         → (length (set l i a) ≡ length before) × (rowsOf (set l i a) ≡ clearedRows (i + 1) (rowsOf before))
-    unfolding clearedRows
-    cleared-next a r h e d = (
+    words-cleared-next a r h e d = (
       length-set l i a ∙ inv .0,
-      rw (rows-set l i a, e, d, inv .1, add-one i) (cleared-more i (rowsOf before) (rw (length-rows before) h)),
+      rw (rows-set l i a, e, d, inv .1) (cleared-next i (rowsOf before) (rw (length-rows before) h)),
     )
 
-    pub cleared-all : (n : ℕ) → i ≡ n → rowsOf l ≡ clearedRows n (rowsOf before)
-    cleared-all n e = rw (← e) (inv .1)
+    pub words-cleared : (n : ℕ) → i ≡ n → rowsOf l ≡ clearedRows n (rowsOf before)
+    words-cleared n e = rw (← e) (inv .1)
 
 -- six words are determined by the row they are read as
-pub row-words : (a b : List ℕ) → length a ≡ 6 → length b ≡ 6 → rowOf a ≡ rowOf b → a ≡ b
+row-words : (a b : List ℕ) → length a ≡ 6 → length b ≡ 6 → rowOf a ≡ rowOf b → a ≡ b
 row-words a b ha hb e = ext-getD 0 a b (omega (arith, ha, hb)) (λ i h. at i (omega (arith, ha, h)))
   where
     at : (i : ℕ) → i < 6 → getD a i 0 ≡ getD b i 0

@@ -43,7 +43,7 @@ module _ (p k o i t : ℕ) (m : Mem) where
   next = written (join p k o i t m) m
 
   -- it is appended to that ring
-  pub join-appends : ringsIn next ≡ appendedAt k q t (ringsIn m)
+  join-appends : ringsIn next ≡ appendedAt k q t (ringsIn m)
   unfolding written updated appendedAt
   join-appends = refl
 

@@ -90,7 +90,7 @@ kept-others m d r e c b x n rows qd qr qe qc qb qx qn qrows =
       };
     }
 
-pub updated-keeps : (u : Update) (m : Mem) → Kept m (updated u m)
+updated-keeps : (u : Update) (m : Mem) → Kept m (updated u m)
 unfolding updated
 updated-keeps (putDegree t d) m = kept-others m _ _ _ _ _ _ _ _ (length-set (m .degrees) t d) refl refl refl refl refl refl refl
 updated-keeps (putSlot x t) m = kept-others m _ _ _ _ _ _ _ _ refl (length-set (m .rings) x t) refl refl refl refl refl refl

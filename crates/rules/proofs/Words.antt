@@ -18,7 +18,7 @@ pub all-steps-are : (m : Mem) → allSteps m ≡ 3 * tasks m + edges m
 unfolding allSteps
 all-steps-are m = refl
 
-pub all-entries-are : (m : Mem) → allEntries m ≡ tasks m
+all-entries-are : (m : Mem) → allEntries m ≡ tasks m
 unfolding allEntries
 all-entries-are m = refl
 

@@ -46,6 +46,9 @@ pub record Result (A : Type 0) : Type 0 where
   pub answer : A
   pub memory : Mem
 
+abbrev pub resultOf : {A : Type 0} → A → Mem → Result A
+resultOf a m = record { answer = a; memory = m }
+
 -- "Answer: the number and a detail; all lent memory keeps its words."
 unfoldable pub carriedOut : Plan → Mem → Result StepAnswer
 carriedOut (refuse n d) m = record { answer = answer.Refused n d; memory = m }

@@ -6,14 +6,13 @@ use native.Mathlib.Omega.{arith}
 use native.Mathlib.Decide.{ℕ-discrete, decLt}
 use lib.ListN.{length, getD, List·getD-eq-default}
 use lib.Dec.{leb}
-use Rattle.lists.specs.Lists.{occ, tabulate}
+use Rattle.lists.specs.Lists.{occ, tabulate, allOf}
 use Rattle.lists.proofs.Apart.{unequal}
-use Rattle.lists.proofs.Blocks.{length-tabulate, joined-only, allOf, occ-all}
+use Rattle.lists.proofs.Blocks.{length-tabulate, joined-only, occ-all}
 use Rattle.lists.proofs.Decided.{tally-le-one}
 use Rattle.lists.proofs.Occurrences.{occ-nil}
 use Rattle.lists.proofs.Told.{cond-either}
 use Rattle.lists.proofs.Sums.{sum-same}
-use Rattle.task.specs.Types.{nil}
 use Rattle.task.specs.Refusals.{answerSays, accepted}
 use Rattle.task.specs.declared.Limits.{Limits}
 use Rattle.task.specs.declared.Row.{Row}
@@ -29,7 +28,7 @@ use Rattle.rules.specs.Begun.{rootsOf, LaidDown}
 use Rattle.rules.proofs.Begin.{begin-accepted}
 use Rattle.rules.proofs.Begun.{laid-row, laid-run, laid-down}
 use Rattle.rules.proofs.Dealt.{occ-dealt}
-use Rattle.algorithm1.specs.State.{Thread, threadWith, successorsOf, queueOf, threadOf, waitingFor}
+use Rattle.algorithm1.specs.State.{threadWith, successorsOf, queueOf, fresh, threadOf, waitingFor}
 use Rattle.algorithm1.specs.Reading.{bufferIn, threadIn, recordIn, successorsIn, stateOf}
 use Rattle.algorithm1.proofs.Readings.{successors-at, queue-at, thread-at}
 use Rattle.system.specs.System as system
@@ -43,10 +42,6 @@ all-listed g t = occ-all (g .tasks) t
 -- a sound graph's tasks are items of the system
 pub items-reversed : (g : Graph) → Sound g → system.Reversed ℕ-discrete (itemsOf g)
 items-reversed g s = record { one = λ t. tally-le-one (decLt t (g .tasks)); reverse = reversed-all g s }
-
--- a thread as begin leaves it
-abbrev fresh : Thread
-fresh = threadWith [] 0 0 (nil .0) 0
 
 -- what begin lays down in b for the graph in m, read as a state
 module _ (p k : ℕ) (m b : Mem) (positive : 0 < p) (sound : Sound (graphIn m)) (laid : LaidDown p k m b) where

@@ -6,8 +6,8 @@ use mathlib.Core.List.{List, [], _∷_}
 use native.Mathlib.Omega.{arith}
 use native.Mathlib.Decide.{ℕ-discrete, decLt}
 use lib.ListN.{length}
-use Rattle.lists.specs.Lists.{occ, tabulate}
-use Rattle.lists.proofs.Blocks.{is-tabulate, allOf, length-all}
+use Rattle.lists.specs.Lists.{occ, tabulate, allOf}
+use Rattle.lists.proofs.Blocks.{is-tabulate, length-all}
 use Rattle.lists.proofs.Decided.{stable, tally-yes, tally-pos}
 use Rattle.lists.proofs.Occurrences.{occ-hit}
 use Rattle.lists.proofs.Sums.{sum-prefix}

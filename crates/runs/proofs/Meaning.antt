@@ -15,9 +15,10 @@ use Rattle.lists.proofs.Decided.{tally-no}
 use Rattle.lists.proofs.Occurrences.{occ-cons, occ-hit}
 use Rattle.lists.proofs.Prefixes.{occ-snoc}
 use Rattle.lists.proofs.Told.{Told, told-true, told-false, same-told}
+use Rattle.task.specs.Types.{nil}
 use Rattle.task.specs.Entries.{Entry}
 use Rattle.task.specs.declared.StepOutcome.{StepOutcome}
-use Rattle.algorithm1.specs.State.{Thread, threadWith, State, successorsOf, threadOf}
+use Rattle.algorithm1.specs.State.{Thread, threadWith, State, successorsOf, fresh, threadOf}
 use Rattle.algorithm1.specs.Algorithm.{holding, executing, buffered, completed, Passes, Fetches, Starts, Completes, Lowers, Allocates}
 use Rattle.system.specs.Stages.{Hand, Replaced}
 use Rattle.runs.specs.Counters.{handOf}
@@ -55,8 +56,8 @@ module _ (s : State) where
 
   -- 001's line 17 buffers every task, document 01 those with successors: what is pending is the same
   pub buffered-anyway : (r : Thread) (t : ℕ)
-      → pendingOf s (threadWith (r .buffer ++ (t ∷ [])) (r .cursor) 0 65535 (r .pointer))
-      ≡ pendingOf s (threadWith (buffered (successorsOf s t) t (r .buffer)) (r .cursor) 0 65535 (r .pointer))
+      → pendingOf s (threadWith (r .buffer ++ (t ∷ [])) (r .cursor) 0 (nil .0) (r .pointer))
+      ≡ pendingOf s (threadWith (buffered (successorsOf s t) t (r .buffer)) (r .cursor) 0 (nil .0) (r .pointer))
   unfolding pendingOf
   buffered-anyway r t = ap (drop (r .cursor)) (followers-snoc (r .buffer) t ∙ sym (followers-buffered (r .buffer) t))
 
@@ -206,10 +207,10 @@ pub record Acts (p i : ℕ) (s s′ : State) (r : Thread) : Type 0 where
 
 module _ {p i : ℕ} {s s′ : State} {r : Thread} (a : Acts p i s s′ r) where
   own-thread : threadOf s′ i ≡ r
-  own-thread = rw (a .threads) (getD-set-same (s .threads) i r (threadWith [] 0 0 65535 0) (rw (a .count) (a .worker)))
+  own-thread = rw (a .threads) (getD-set-same (s .threads) i r fresh (rw (a .count) (a .worker)))
 
   other-thread : (j : ℕ) → ¬ (j ≡ i) → threadOf s′ j ≡ threadOf s j
-  other-thread j n = rw (a .threads) (getD-set-other (s .threads) i j r (threadWith [] 0 0 65535 0) n)
+  other-thread j n = rw (a .threads) (getD-set-other (s .threads) i j r fresh n)
 
   -- what holds of every thread before holds of every thread after, if it holds of r
   pub thread-each : (Q : Thread → Type 0) → Q r → (j : ℕ) → Q (threadOf s j) → Q (threadOf s′ j)

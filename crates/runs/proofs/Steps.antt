@@ -13,6 +13,7 @@ use Rattle.lists.specs.Squares.{withCell}
 use Rattle.lists.proofs.Prefixes.{occ-snoc, inside}
 use Rattle.lists.proofs.Occurrences.{occ-cons, occ-joined}
 use Rattle.lists.proofs.Squares.{Even, even-with}
+use Rattle.task.specs.Types.{nil}
 use Rattle.task.specs.Entries.{entryOf}
 use Rattle.task.specs.declared.Step.{Step}
 use Rattle.task.specs.declared.Step.the-variants.{Fetch, Start, Complete, Release}
@@ -128,7 +129,7 @@ module _ (g : Graph) (p i : ℕ) (worker : i < p) (s s′ : State) (sane : Sane 
             old = pendingOf s (threadOf s i);
             pending =
                 pending-moves (complete-acts worker (sane .shaped) f) refl
-                (pending-completed s (threadOf s i) (sane .buffers i) (threadOf s i .held) 0 65535
+                (pending-completed s (threadOf s i) (sane .buffers i) (threadOf s i .held) 0 (nil .0)
                 ∙ ap (λ (l : List ℕ). pendingOf s (threadOf s i) ++ l) (sane .successors (threadOf s i .held)));
             degree = λ x. rw (f .after);
             steps = refl;
@@ -210,7 +211,7 @@ module _ (g : Graph) (p i : ℕ) (worker : i < p) (s s′ : State) (sane : Sane 
     complete-sane : Completes i s s′ o → Sane g p s′
     complete-sane f =
         sane-after (complete-acts worker (sane .shaped) f) (rw (f .after)) (rw (f .after) (sane .shaped .queues)) (rw (f .after) (sane .shaped .counters))
-        (buffered-completed s (threadOf s i) (sane .buffers i) (threadOf s i .held) 0 65535) (omega arith) (sane .pointers i worker)
+        (buffered-completed s (threadOf s i) (sane .buffers i) (threadOf s i .held) 0 (nil .0)) (omega arith) (sane .pointers i worker)
 
     lower-sane : Lowers i s s′ o → Sane g p s′
     lower-sane f =

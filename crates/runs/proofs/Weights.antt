@@ -4,9 +4,9 @@ use mathlib.Core.Path.{_≡_, sym, ap, _∙_}
 use native.Mathlib.Omega.{arith}
 use native.Mathlib.Decide.{ℕ-discrete}
 use lib.IntN.{pos}
-use Rattle.lists.specs.Lists.{joined}
+use Rattle.lists.specs.Lists.{joined, allOf}
 use Rattle.lists.specs.Sums.{sumToZ, sumOf}
-use Rattle.lists.proofs.Blocks.{joined-same, allOf}
+use Rattle.lists.proofs.Blocks.{joined-same}
 use Rattle.lists.proofs.Sums.{sum-most, sumOf-all}
 use Rattle.lists.proofs.SumsZ.{sumZ-same}
 use Rattle.task.specs.Types.{capped}

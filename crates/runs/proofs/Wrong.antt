@@ -9,7 +9,7 @@ use native.Mathlib.Decide.{ℕ-discrete, decLe, decLt}
 use lib.ListN.{length, getD, drop, replicate, getD-replicate}
 use lib.Dec.{ltb, eqb}
 use Rattle.lists.specs.Decided.{firstBelow}
-use Rattle.lists.specs.Lists.{occ, occOf, placeOf, joined, tabulate}
+use Rattle.lists.specs.Lists.{occ, occOf, placeOf, joined, tabulate, allOf}
 use Rattle.lists.specs.Sums.{sumTo, sumToZ}
 use Rattle.lists.specs.Circles.{after, around}
 use Rattle.lists.proofs.Blocks.{getD-tabulate}
@@ -31,7 +31,7 @@ use Rattle.graph.specs.Check.{sizesFit, firstBad, firstTwice, firstOnCycle, tab
 use Rattle.graph.specs.Decide.{below?, among?, light?, good?, bad?, endsFit?, twice?, twiceIn?, find-twice, edge?, thru?, path?, leads?, onCycle?}
 use Rattle.graph.specs.Successors.{succsBelow, succStart, succStarts, succWords, degreeList, roots}
 use Rattle.ring.specs.Ring.{capacity, slotAt, endsAt, storeEnds, sound, empty, full, headOn, tailOn}
-use Rattle.choice.specs.Least.{load, loads, leastFrom, least, workers, target}
+use Rattle.choice.specs.Least.{load, loads, leastFrom, least, target}
 use Rattle.choice.specs.Search.{search}
 use Rattle.rules.specs.Memory.{Mem, tasks, graphIn, allSteps, allEntries, degreeIn, succCount, rowIn, withPlaces, entriesIn, oldest, successor}
 use Rattle.rules.specs.Sizes.{numbersFit, othersFit, lengthsFit}
@@ -63,7 +63,7 @@ pub record Trial : Type 0 where
   pub memory : Mem
   pub calls : List Call
 
-abbrev pub trial : ℕ → ℕ → Mem → List Call → Trial
+abbrev trial : ℕ → ℕ → Mem → List Call → Trial
 trial p k m cs = record { workers = p; slots = k; memory = m; calls = cs }
 
 abbrev pub answerOf : Program → ℕ → ℕ → Mem → Call → Said
@@ -164,36 +164,36 @@ rules-keep-it = kept-by-demand (demand-3 .one)
 -- How a run contradicts it.
 
 -- an idle worker with nothing in its rings and its buffer: its Fetch, Start, Complete and Release are refused with 10, 9, 9 and 10
-abbrev pub nothingLeft : List Said
+abbrev nothingLeft : List Said
 nothingLeft = refused 10 0 ∷ refused 9 0 ∷ refused 9 0 ∷ refused 10 0 ∷ []
 
-abbrev pub nextAnswers : Program → Trial → ℕ → List Said
+abbrev nextAnswers : Program → Trial → ℕ → List Said
 nextAnswers g r i = nextAnswer g r i Fetch ∷ nextAnswer g r i Start ∷ nextAnswer g r i Complete ∷ nextAnswer g r i Release ∷ []
 
 -- all steps of the run are accepted, it isn't finished, and no worker has a step that would be accepted next
-pub record Stuck (g : Program) (r : Trial) : Type 0 where
-  pub begins : BeginAccepted g r
-  pub taken : acceptedSteps (eventsIn g r) ≡ length (r .calls)
-  pub unfinished : acceptedCompletes (eventsIn g r) < tasks (r .memory)
-  pub refusals : tabulate (r .workers) (nextAnswers g r) ≡ replicate (r .workers) nothingLeft
+record Stuck (g : Program) (r : Trial) : Type 0 where
+  begins : BeginAccepted g r
+  taken : acceptedSteps (eventsIn g r) ≡ length (r .calls)
+  unfinished : acceptedCompletes (eventsIn g r) < tasks (r .memory)
+  refusals : tabulate (r .workers) (nextAnswers g r) ≡ replicate (r .workers) nothingLeft
 
 -- why a list of tasks is no order that the graph allows: a task is missing, or stands before a predecessor
-pub data Fault (m : Mem) (l : List ℕ) : Type 0 where
+data Fault (m : Mem) (l : List ℕ) : Type 0 where
   missing : (t : ℕ) → t < tasks m → _≡_ {A = ℕ} (occ t l) 0 → Fault m l
   early : (u t : ℕ) → Edge (graphIn m) u t → placeOf ℕ-discrete t l < placeOf ℕ-discrete u l → Fault m l
 
 -- all steps of the run are accepted, it is finished, and its order is l, with a fault
-pub record Disordered (g : Program) (r : Trial) (l : List ℕ) : Type 0 where
-  pub begins : BeginAccepted g r
-  pub taken : acceptedSteps (eventsIn g r) ≡ length (r .calls)
-  pub finished : acceptedCompletes (eventsIn g r) ≡ tasks (r .memory)
-  pub order : orderIn g r ≡ l
-  pub fault : Fault (r .memory) l
+record Disordered (g : Program) (r : Trial) (l : List ℕ) : Type 0 where
+  begins : BeginAccepted g r
+  taken : acceptedSteps (eventsIn g r) ≡ length (r .calls)
+  finished : acceptedCompletes (eventsIn g r) ≡ tasks (r .memory)
+  order : orderIn g r ≡ l
+  fault : Fault (r .memory) l
 
 no-acceptance : {a : Said} {n d : ℕ} → a ≡ refused n d → ¬ (Acceptance a)
 no-acceptance e x = rw e at x
 
-pub stuck-fails : {g : Program} {r : Trial} → Stuck g r → ¬ (Keeps g)
+stuck-fails : {g : Program} {r : Trial} → Stuck g r → ¬ (Keeps g)
 stuck-fails {g = g} {r = r} stuck keeps = go (keeps r (stuck .begins) .next (λ f. absurd (omega (arith, f, stuck .unfinished))))
   where
     answers : (i : ℕ) → i < r .workers → nextAnswers g r i ≡ nothingLeft
@@ -214,7 +214,7 @@ fault-forbids : (m : Mem) (l : List ℕ) → Fault m l → ¬ (AllowedOrder m l)
 fault-forbids m l (missing t h none) allowed = absurd (omega (arith, none, allowed .once t, tally-yes (decLt t (tasks m)) h))
 fault-forbids m l (early u t edge before) allowed = absurd (omega (arith, before, allowed .after u t edge))
 
-pub disordered-fails : {g : Program} {r : Trial} {l : List ℕ} → Disordered g r l → ¬ (Keeps g)
+disordered-fails : {g : Program} {r : Trial} {l : List ℕ} → Disordered g r l → ¬ (Keeps g)
 disordered-fails {g = g} {r = r} {l = l} d keeps =
     fault-forbids (r .memory) l (d .fault) (rw (sym (d .order)) (keeps r (d .begins) .order (omega (arith, d .finished))))
 
@@ -292,15 +292,15 @@ dropsWhenFull = butFor Release (λ p k i m. dropping p i m (stepPlan engine p k 
 -- Their runs.
 
 -- edges 0→2, 1→2
-abbrev pub meet : Mem
+abbrev meet : Mem
 meet = lent 2 2 (1 ∷ 1 ∷ 1 ∷ []) (0 ∷ 0 ∷ 0 ∷ 2 ∷ []) (0 ∷ 1 ∷ [])
 
 -- a worker fetches, starts and completes a task
-abbrev pub runsOne : ℕ → List Call
+abbrev runsOne : ℕ → List Call
 runsOne i = by i Fetch ∷ by i Start ∷ by i Complete ∷ []
 
 -- worker 0 runs task 0, releases task 2 and runs it, and only then worker 1 runs task 1
-abbrev pub hasty : Trial
+abbrev hasty : Trial
 hasty = trial 2 2 meet (runsOne 0 ++ (by 0 Release ∷ runsOne 0) ++ runsOne 1)
 
 -- task 2 before its predecessor 1
@@ -308,21 +308,21 @@ two-early : Fault meet (0 ∷ 2 ∷ 1 ∷ [])
 unfolding ℕ-discrete occOf placeOf part
 two-early = early 1 2 (record { task = omega arith; predecessor = omega arith }) (omega arith)
 
-pub record WrongRuns : Type 0 where
+record WrongRuns : Type 0 where
   -- against `next`: root 1 is run, root 0 is in no ring
-  pub forgets-a-root : Stuck forgetsRoot (trial 2 2 twoRoots (runsOne 0))
+  forgets-a-root : Stuck forgetsRoot (trial 2 2 twoRoots (runsOne 0))
   -- against `next`: task 2 is never placed
-  pub skips-the-last-successor : Stuck skipsLast (trial 1 2 fork (runsOne 0 ++ (by 0 Release ∷ runsOne 0)))
+  skips-the-last-successor : Stuck skipsLast (trial 1 2 fork (runsOne 0 ++ (by 0 Release ∷ runsOne 0)))
   -- against `next`: the ring holds task 1, and task 2 is lost
-  pub drops-when-full : Stuck dropsWhenFull (trial 1 2 fork (runsOne 0 ++ (by 0 Release ∷ by 0 Release ∷ runsOne 0)))
+  drops-when-full : Stuck dropsWhenFull (trial 1 2 fork (runsOne 0 ++ (by 0 Release ∷ by 0 Release ∷ runsOne 0)))
   -- against `order`: both tasks are completed, the record's words are begin's
-  pub does-not-record : Disordered noRecord (trial 2 2 twoRoots (runsOne 0 ++ runsOne 1)) (0 ∷ 0 ∷ [])
+  does-not-record : Disordered noRecord (trial 2 2 twoRoots (runsOne 0 ++ runsOne 1)) (0 ∷ 0 ∷ [])
   -- against `order`: task 2 stands before its predecessor 1
-  pub lowers-twice : Disordered lowersTwice hasty (0 ∷ 2 ∷ 1 ∷ [])
-  pub places-early : Disordered placesEarly hasty (0 ∷ 2 ∷ 1 ∷ [])
+  lowers-twice : Disordered lowersTwice hasty (0 ∷ 2 ∷ 1 ∷ [])
+  places-early : Disordered placesEarly hasty (0 ∷ 2 ∷ 1 ∷ [])
 
-pub wrong-runs : WrongRuns
-unfolding ℕ-discrete decLe decLt firstBelow occOf placeOf joined tabulate sumTo after around capped nextPhase part sizesFit firstBad firstTwice firstOnCycle tablesAnswer checkAnswer below? among? light? good? bad? endsFit? twice? twiceIn? find-twice edge? thru? path? leads? onCycle? succsBelow succStart succStarts succWords degreeList roots capacity slotAt endsAt storeEnds sound empty full headOn tailOn sumToZ load loads leastFrom least workers target search allSteps allEntries numbersFit othersFit lengthsFit countersFit updated written counted carriedOut scan fetchTask fetchFrom fetchRule startRule completeSink completeInner completeRule releasedRow findRoom releaseTo releaseReady releaseWaiting releaseRule ruleOf stepPlan step cleared rootsPlaced begun rootsAnswer beginAnswer begin acceptedOf leftAfter eventsBy
+wrong-runs : WrongRuns
+unfolding ℕ-discrete decLe decLt firstBelow occOf placeOf joined tabulate allOf sumTo after around capped nextPhase part sizesFit firstBad firstTwice firstOnCycle tablesAnswer checkAnswer below? among? light? good? bad? endsFit? twice? twiceIn? find-twice edge? thru? path? leads? onCycle? succsBelow succStart succStarts succWords degreeList roots capacity slotAt endsAt storeEnds sound empty full headOn tailOn sumToZ load loads leastFrom least target search allSteps allEntries numbersFit othersFit lengthsFit countersFit updated written counted carriedOut scan fetchTask fetchFrom fetchRule startRule completeSink completeInner completeRule releasedRow findRoom releaseTo releaseReady releaseWaiting releaseRule ruleOf stepPlan step cleared rootsPlaced begun rootsAnswer beginAnswer begin acceptedOf leftAfter eventsBy
 wrong-runs =
     record {
       forgets-a-root = record { begins = refl; taken = refl; unfinished = omega arith; refusals = refl };

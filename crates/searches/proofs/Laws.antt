@@ -1,10 +1,10 @@
 -- Laws over plain lists and numbers that the functions' proofs cite.
-use Prim.Native.Nat.{ℕ, zero, suc, _+_, _-_, _*_, _%_, _≤_, _<_}
+use Prim.Native.Nat.{ℕ, zero, suc, _+_, _-_, _%_, _≤_, _<_}
 use mathlib.Core.Path.{_≡_, refl, sym, ap, _∙_}
 use mathlib.Core.Bool.{Bool, true, false, not}
 use mathlib.Core.List.{List, _∷_}
 use native.Mathlib.Omega.{arith}
-use native.Mathlib.Nat.{mul-le-mul, suc-sub-suc, sub-zero, mod-eq-of-lt}
+use native.Mathlib.Nat.{suc-sub-suc, sub-zero, mod-eq-of-lt}
 use borrow.Author.Tests.{not-true, not-false}
 use Rattle.lists.specs.Lists.{tabulate}
 use Rattle.lists.specs.Circles.{after, around}
@@ -14,9 +14,6 @@ use Rattle.task.specs.declared.Ends.{Ends}
 use Rattle.ring.specs.Ring.{endsAt}
 use Rattle.choice.specs.Search.{Found, unsound, none, at, search}
 use Rattle.choice.proofs.Search.{search-nil, search-unsound, search-stops-here, search-goes-on}
-
-pub number-fits : (p i : ℕ) → i < p → p ≤ 16 → i * p ≤ 256
-number-fits p i h l = mul-le-mul {n₁ = i} {m₁ = p} {n₂ = 16} {m₂ = 16} (omega arith) l
 
 -- a test that failed on ends read from the words is known of the ring's own ends
 pub ends-test : (test : Ends → Bool) (words : List ℕ) (q r : ℕ) (e : Ends) (b v : Bool) → b ≡ test e → e ≡ endsAt words q → q ≡ r → not b ≡ v

@@ -11,8 +11,9 @@ use Rattle.task.specs.declared.StepAnswer.the-variants as answer
 use Rattle.task.specs.declared.StepOutcome.the-variants.{Moved}
 use Rattle.rules.specs.Memory.{Mem, rowIn, withHand}
 use Rattle.rules.specs.Updates.{updated, written}
+use Rattle.rules.specs.Plans.{resultOf}
 use Rattle.rules.specs.Steps.{startRule, ruleOf, step}
-use Rattle.admission.specs.Admission.{sizesOf, Admits, resultOf}
+use Rattle.admission.specs.Admission.{sizesOf, Admits}
 use Rattle.admission.specs.declared.Sizes.{Sizes}
 use Rattle.admission.specs.declared.Admitted.{Admitted}
 use Rattle.admission.specs.declared.Admitted.the-variants.{Refused, To}

@@ -13,7 +13,7 @@ use Rattle.graph.specs.Decide.{leads?}
 
 module _ (g : Graph) where
   -- a task before one with a path to a cycle
-  pub before-cycle : (u t : ℕ) → Edge g u t → ToCycle g t → ToCycle g u
+  before-cycle : (u t : ℕ) → Edge g u t → ToCycle g t → ToCycle g u
   before-cycle u t e (inl c) = inr (t, (edge e, c))
   before-cycle u t e (inr w) = inr (w .0, (via e (w .1 .0), w .1 .1))
 

@@ -18,10 +18,10 @@ use Rattle.strip.specs.Queue.{stripped, queuedAt, Queued, Looked, Sinks,
 pub stripped-none : (left : List ℕ) (u : ℕ) → getD left u 0 ≡ 0 → stripped left u ≡ 1
 stripped-none left u e = tally-yes (ℕ-discrete (getD left u 0) 0) e
 
-pub stripped-some : (left : List ℕ) (u : ℕ) → 0 < getD left u 0 → stripped left u ≡ 0
+stripped-some : (left : List ℕ) (u : ℕ) → 0 < getD left u 0 → stripped left u ≡ 0
 stripped-some left u h = tally-no (ℕ-discrete (getD left u 0) 0) (λ e. omega arith)
 
-pub stripped-is : (left : List ℕ) (u : ℕ) → 0 < stripped left u → getD left u 0 ≡ 0
+stripped-is : (left : List ℕ) (u : ℕ) → 0 < stripped left u → getD left u 0 ≡ 0
 stripped-is left u h = tally-pos (ℕ-discrete (getD left u 0) 0) h
 
 pub stripped-le : (left : List ℕ) (u : ℕ) → stripped left u ≤ 1

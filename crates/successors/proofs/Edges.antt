@@ -42,7 +42,7 @@ module _ (g : Graph) where
     unfolding succWords
     edges-sum = sym (length-succWords g s) ∙ length-joined (g .tasks) (succsOf g)
 
-    pub succs-room : (t : ℕ) → t < g .tasks → (u : ℕ) → length (succsBelow g t u) + occ u (predsOf g t) ≤ succCount u
+    succs-room : (t : ℕ) → t < g .tasks → (u : ℕ) → length (succsBelow g t u) + occ u (predsOf g t) ≤ succCount u
     succs-room t h u = omega (arith, length-succsBelow g t u, length-succsBelow g (g .tasks) u, sum-prefix (g .tasks) (λ k. occ u (predsOf g k)) t h)
 
 -- the successors below t are laid down

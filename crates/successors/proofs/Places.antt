@@ -20,13 +20,13 @@ use Rattle.successors.specs.Filling.{Placed, placedOf, placeOne, placeAl
 
 -- the first word's place, and the room that it leaves to the others
 module _ (u : ℕ) (words next succs : List ℕ) (r : Room (u ∷ words) next succs) where
-  pub room-first : (u < length next) × (getD next u 0 < length succs)
+  room-first : (u < length next) × (getD next u 0 < length succs)
   room-first = (
     r .inside u (omega (arith, occ-hit ℕ-discrete u u words refl)),
     omega (arith, r .room u (omega (arith, occ-hit ℕ-discrete u u words refl)), occ-hit ℕ-discrete u u words refl),
   )
 
-  pub room-rest : (at t : ℕ) → Room words (set next u (getD next u 0 + 1)) (set succs at t)
+  room-rest : (at t : ℕ) → Room words (set next u (getD next u 0 + 1)) (set succs at t)
   room-rest at t =
       record {
         inside = λ v h. omega (arith, length-set next u (getD next u 0 + 1), r .inside v (more v h));
@@ -141,7 +141,7 @@ module _ (n : ℕ) (size : ℕ → ℕ) where
     one-laid v k (yes e) = rw (e, here) (store-here (f u) (p .succs) (sumTo u size) t (omega (arith, s .whole, sum-prefix n size u h)) (s .laid u h))
     one-laid v k (no d) = rw (others v d) (one-other v k d (decLt v u) ∙ s .laid v k)
 
-    pub filled-one : Filled n size f′ (placeOne t u p)
+    filled-one : Filled n size f′ (placeOne t u p)
     unfolding placeOne
     filled-one =
         record {

@@ -18,17 +18,17 @@ pub record Prefix (t : ℕ) (f : ℕ → ℕ) (l : List ℕ) : Type 0 where
   pub inside : t ≤ length l
   pub below : (v : ℕ) → v < t → getD l v 0 ≡ f v
 
-pub prefix-none : (f : ℕ → ℕ) (l : List ℕ) → Prefix 0 f l
+prefix-none : (f : ℕ → ℕ) (l : List ℕ) → Prefix 0 f l
 prefix-none f l = record { inside = omega arith; below = λ v h. absurd (omega arith) }
 
-pub prefix-more : (t : ℕ) (f : ℕ → ℕ) (l : List ℕ) (x : ℕ) → Prefix t f l → t < length l → x ≡ f t → Prefix (t + 1) f (set l t x)
+prefix-more : (t : ℕ) (f : ℕ → ℕ) (l : List ℕ) (x : ℕ) → Prefix t f l → t < length l → x ≡ f t → Prefix (t + 1) f (set l t x)
 prefix-more t f l x p h e = record { inside = omega (arith, length-set l t x); below = λ v m. go v m (ℕ-discrete v t) }
   where
     go : (v : ℕ) → v < t + 1 → Dec (v ≡ t) → getD (set l t x) v 0 ≡ f v
     go v m (yes q) = rw q (getD-set-same l t x 0 h ∙ e)
     go v m (no q) = getD-set-other l t v x 0 q ∙ p .below v (omega arith)
 
-pub prefix-whole : (n t : ℕ) (f : ℕ → ℕ) (l : List ℕ) → Prefix t f l → n ≤ t → length l ≡ n → l ≡ tabulate n f
+prefix-whole : (n t : ℕ) (f : ℕ → ℕ) (l : List ℕ) → Prefix t f l → n ≤ t → length l ≡ n → l ≡ tabulate n f
 prefix-whole n t f l p h e = is-tabulate n f 0 l e (λ i m. p .below i (omega arith))
 
 -- the degrees
@@ -67,7 +67,7 @@ pub record Summing (n : ℕ) (counts₀ counts starts : List ℕ) (sum u : ℕ) 
   pub kept : length counts ≡ length counts₀
   pub whole : length starts ≡ n + 1
 
-pub sum-step : (counts : List ℕ) (u : ℕ) → sumBelow counts (u + 1) ≡ sumBelow counts u + getD counts u 0
+sum-step : (counts : List ℕ) (u : ℕ) → sumBelow counts (u + 1) ≡ sumBelow counts u + getD counts u 0
 unfolding sumBelow
 sum-step counts u = rw add-one (sum-suc u (λ v. getD counts v 0))
 

@@ -9,7 +9,6 @@
 //
 // Numbers are decimal, up to 32 bits, each behind one blank. A line that is none of these is printed as unreadable.
 
-ghost use mathlib.Core.Path.{_≡_};
 ghost use Prim.Native.Nat.{_≤_, _<_};
 ghost use lib.ListN.{length};
 use task::Limits;

@@ -9,11 +9,11 @@ use Rattle.task.specs.declared.StepOutcome.{StepOutcome}
 use Rattle.task.specs.declared.StepAnswer.{StepAnswer}
 use Rattle.task.specs.declared.StepAnswer.the-variants.{Refused, Accepted}
 use Rattle.rules.specs.Memory.{Mem}
+use Rattle.rules.specs.Plans.{resultOf}
 use Rattle.rules.specs.Steps.{step}
 use Rattle.rules.specs.Desk.{firstOf, turn}
-use Rattle.engine.specs.Engine.{result}
 
-module _ (limits : Limits) (l : limits ≡ engine) (i : ℕ) (s : Step) (m m′ : Mem) (a : StepAnswer) (h : result a m′ ≡ step limits 2 4 i s m) where
+module _ (limits : Limits) (l : limits ≡ engine) (i : ℕ) (s : Step) (m m′ : Mem) (a : StepAnswer) (h : resultOf a m′ ≡ step limits 2 4 i s m) where
   -- what the first try says and leaves
   tried : (ss : List Step) → turn engine 2 4 i (s ∷ ss) m ≡ firstOf a m′ (turn engine 2 4 i ss m′)
   unfolding turn

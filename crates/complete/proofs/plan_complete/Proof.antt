@@ -1,4 +1,5 @@
-use Rattle.complete.proofs.Laws.{plan-over, plan-full, plan-held, plan-range, range-rises, plan-places, plan-counted, plan-sink, plan-inner}
+use Rattle.lists.proofs.Told.{first-holds}
+use Rattle.complete.proofs.Laws.{plan-over, plan-full, plan-held, plan-range, plan-places, plan-counted, plan-sink, plan-inner}
 use Prim.Native.Nat.{_+_}
 use native.Mathlib.Omega.{arith}
 use borrow.Author.Needs.{needs}
@@ -52,7 +53,7 @@ returns-4 c = (
 )
 
 sub-sink : tie.Need-sub-sink
-sub-sink c = range-rises _ _ _ (c .if4 .left)
+sub-sink c = first-holds _ _ _ (c .if4 .left)
 
 cast-joins : tie.Need-cast-joins
 cast-joins c = search needs

@@ -1,4 +1,5 @@
-use Rattle.counters.proofs.Laws.{cast-fits, add-fits, add-made}
+use Rattle.task.proofs.Counters.{cast-fits}
+use Rattle.counters.proofs.Laws.{add-fits, add-made}
 use Rattle.counters.proofs.add_counter.Statement.{statement}
 use Rattle.counters.proofs.add_counter.Tie as tie
 

@@ -1,4 +1,5 @@
-use Rattle.counters.proofs.Laws.{place-small, Summed, sum-none, sum-on, sum-whole}
+use Rattle.lists.proofs.Places.{place-small}
+use Rattle.counters.proofs.Laws.{Summed, sum-none, sum-on, sum-whole}
 use Rattle.lists.proofs.Places.{place-lt}
 use Prim.Native.Nat.{_≤_, _-_}
 use native.Mathlib.Omega.{arith}
@@ -16,16 +17,16 @@ cast-first : tie.Need-cast-first Inv-loop μ-loop
 cast-first c = search needs
 
 mul-first : tie.Need-mul-first Inv-loop μ-loop
-mul-first c = omega (arith, place-small _ _ (c .before .pre .1 .1) (c .before .pre .1 .0))
+mul-first c = omega (arith, place-small 16 _ _ (c .before .pre .1 .1) (c .before .pre .1 .0))
 
 loop-holds : tie.Need-loop-holds Inv-loop μ-loop
 loop-holds c = (omega arith, sum-none _ _)
 
 add-counter : tie.Need-add-counter Inv-loop μ-loop
-add-counter c = omega (arith, place-small _ _ (c .before .before .before .pre .1 .1) (c .before .before .before .pre .1 .0))
+add-counter c = omega (arith, place-small 16 _ _ (c .before .before .before .pre .1 .1) (c .before .before .before .pre .1 .0))
 
 mul-counter : tie.Need-mul-counter Inv-loop μ-loop
-mul-counter c = omega (arith, place-small _ _ (c .before .before .before .pre .1 .1) (c .before .before .before .pre .1 .0))
+mul-counter c = omega (arith, place-small 16 _ _ (c .before .before .before .pre .1 .1) (c .before .before .before .pre .1 .0))
 
 shared-slice-copy-out-counter : tie.Need-shared-slice-copy-out-counter Inv-loop μ-loop
 shared-slice-copy-out-counter c =

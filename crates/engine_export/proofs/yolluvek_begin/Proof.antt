@@ -48,7 +48,7 @@ use Rattle.task.proofs.Answer as An
 use Rattle.task.proofs.Answer.Laws as An′
 use Rattle.rules.specs.Memory.{memOf}
 use Rattle.rules.specs.Begin.{begin as begun}
-use Rattle.engine.specs.Engine.{result}
+use Rattle.rules.specs.Plans.{resultOf}
 use Rattle.row_list.proofs.Laws.{R}
 use Rattle.replies.specs.declared.Reply.{Reply}
 use Rattle.replies.specs.Replies.{replyOf}
@@ -176,7 +176,7 @@ module _ {M : Type 1} (𝓤 : URA M) (H : Heap 𝓤) (A : Atoms 𝓤) (W : Given
       done !
 
   abbrev Said : (lim : Limits) → Answer → Lasts begin.ended κs (call-args lim) → Type 0
-  Said lim g zs = result g (memOf (x0 .now) (x1 .now) (x2 .now) (zs .1 .1 .1 .1 .0) (zs .1 .1 .1 .1 .1 .0) (zs .1 .1 .1 .1 .1 .1 .0) (zs .1 .1 .1 .1 .1 .1 .1 .0) (zs .1 .1 .1 .1 .1 .1 .1 .1 .0) (zs .1 .1 .1 .1 .1 .1 .1 .1 .1 .0) (zs .1 .1 .1 .1 .1 .1 .1 .1 .1 .1 .0) (zs .1 .1 .1 .1 .1 .1 .1 .1 .1 .1 .1 .0) (zs .1 .1 .1 .1 .1 .1 .1 .1 .1 .1 .1 .1 .0) (zs .1 .1 .1 .1 .1 .1 .1 .1 .1 .1 .1 .1 .1 .0)) ≡ begun lim p k (memOf (x0 .now) (x1 .now) (x2 .now) (x3 .now) (x4 .now) (x5 .now) (x6 .now) (x7 .now) (x8 .now) (x9 .now) (x10 .now) (x11 .now) ys)
+  Said lim g zs = resultOf g (memOf (x0 .now) (x1 .now) (x2 .now) (zs .1 .1 .1 .1 .0) (zs .1 .1 .1 .1 .1 .0) (zs .1 .1 .1 .1 .1 .1 .0) (zs .1 .1 .1 .1 .1 .1 .1 .0) (zs .1 .1 .1 .1 .1 .1 .1 .1 .0) (zs .1 .1 .1 .1 .1 .1 .1 .1 .1 .0) (zs .1 .1 .1 .1 .1 .1 .1 .1 .1 .1 .0) (zs .1 .1 .1 .1 .1 .1 .1 .1 .1 .1 .1 .0) (zs .1 .1 .1 .1 .1 .1 .1 .1 .1 .1 .1 .1 .0) (zs .1 .1 .1 .1 .1 .1 .1 .1 .1 .1 .1 .1 .1 .0)) ≡ begun lim p k (memOf (x0 .now) (x1 .now) (x2 .now) (x3 .now) (x4 .now) (x5 .now) (x6 .now) (x7 .now) (x8 .now) (x9 .now) (x10 .now) (x11 .now) ys)
 
   -- what is left at exit
   abbrev Left : (lim : Limits) → Lasts begin.ended κs (call-args lim) → List (Item 𝓤)

@@ -1,4 +1,4 @@
-use Rattle.release.proofs.Parts.{ring-inside, ring-counter, place-heavy, place-refused, place-accepted}
+use Rattle.release.proofs.Parts.{ring-ready, ring-counter, place-heavy, place-refused, place-accepted}
 use mir.Facts.{fits-32-64}
 use native.Mathlib.Omega.{arith}
 use borrow.Author.Needs.{needs}
@@ -40,7 +40,7 @@ ring-number-requires c κs = search needs
 
 append-in-requires : tie.Need-append-in-requires
 append-in-requires c κs =
-    ring-inside _ _ _ _ _
+    ring-ready _ _ _ _ _
     (c .before .before .before .before .before .before .before .before .before .before .before .before .before .before .before .pre .1 .0) _ _ _
     (c .before .before .before .before .before .before .before .before .before .before .before .before .before .before .before .pre .1 .1)
     (c .before .before .ring-number .ensures .1) (c .before .before .ring-number .ensures .0)

@@ -3,8 +3,8 @@ use mathlib.Core.Path.{refl}
 use mir.Facts.{fits-32-64}
 use native.Mathlib.Omega.{arith}
 use borrow.Author.Needs.{needs}
+use Rattle.lists.proofs.Told.{first-holds}
 use Rattle.release_plan.proofs.Picks.{
-  first-holds,
   lowers,
   read-inside,
   successor-inside,

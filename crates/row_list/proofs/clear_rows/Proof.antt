@@ -59,7 +59,8 @@ use Rattle.task.proofs.Row.idle.Symbol as row-idle-def
 use Rattle.task.proofs.Row.idle.Symbol.{name as #task·Row·idle}
 use Rattle.task.proofs.Row.idle.Met as row-idle-thm
 use Rattle.rows.specs.Rows.{clearedRows}
-use Rattle.row_list.proofs.Laws.{R, vals, scaled, cleared-none, cleared-next, length-cleared, row-idle-triple, to-row-idle, said-row-idle}
+use Rattle.rows.proofs.Laws.{cleared-none, cleared-next}
+use Rattle.row_list.proofs.Laws.{R, vals, scaled, length-cleared, row-idle-triple, to-row-idle, said-row-idle}
 use Rattle.row_list.proofs.clear_rows as fn
 use Rattle.row_list.proofs.clear_rows.Key.{name as #row-list·clear-rows}
 use Rattle.row_list.proofs.clear_rows.Statement as stated

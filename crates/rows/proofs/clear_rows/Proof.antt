@@ -1,5 +1,5 @@
 -- The rows before row i are cleared, and the others are as they were.
-use Rattle.rows.proofs.Laws.{cleared-none, cleared-next, cleared-all}
+use Rattle.rows.proofs.Laws.{words-cleared-none, words-cleared-next, words-cleared}
 use Rattle.rows.specs.Rows.{rowsOf, clearedRows}
 use Prim.Native.Nat.{_-_, _≤_}
 use mathlib.Core.Path.{_≡_}
@@ -22,7 +22,7 @@ cells-of-requires : tie.Need-cells-of-requires Inv-loop μ-loop
 cells-of-requires c κs = search needs
 
 loop-holds : tie.Need-loop-holds Inv-loop μ-loop
-loop-holds c = (omega arith, cleared-none _)
+loop-holds c = (omega arith, words-cleared-none _)
 
 mul-cells : tie.Need-mul-cells Inv-loop μ-loop
 mul-cells c = search needs
@@ -39,14 +39,14 @@ loop-less c = omega arith
 loop-again : tie.Need-loop-again Inv-loop μ-loop
 loop-again c = (
   omega arith,
-  cleared-next _ _ _ (c .before .loop .inv .1) _ _ (omega arith) (c .before .before .cells-of .ensures) (c .before .before .before .idle .ensures),
+  words-cleared-next _ _ _ (c .before .loop .inv .1) _ _ (omega arith) (c .before .before .cells-of .ensures) (c .before .before .before .idle .ensures),
 )
 
 same-length : tie.Need-same-length Inv-loop μ-loop
 same-length c = c .before .loop .inv .1 .0
 
 returns : tie.Need-returns Inv-loop μ-loop
-returns c = cleared-all _ _ _ (c .before .loop .inv .1) _ (omega arith)
+returns c = words-cleared _ _ _ (c .before .loop .inv .1) _ (omega arith)
 
 pub clear-rows-spec : {M : Type 1} → statement M
 clear-rows-spec =

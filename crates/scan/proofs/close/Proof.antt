@@ -1,6 +1,6 @@
 -- Blanks before the line's end change no field.
 use borrow.Author.Needs.{needs}
-use Rattle.layout.proofs.Places.{closing}
+use Rattle.layout.proofs.Numbers.{closing}
 use Rattle.scan.proofs.close.Statement.{statement}
 use Rattle.scan.proofs.close.Tie as tie
 

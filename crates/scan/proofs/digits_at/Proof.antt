@@ -6,8 +6,8 @@ use native.Mathlib.Omega.{arith}
 use lib.ListN.{getD}
 use Rattle.layout.specs.Marks.{Digit}
 use Rattle.layout.specs.Scan.{lineAt}
-use Rattle.layout.proofs.Places.{digit-byte, Ran, ran-start, ran-small, ran-more}
-use Rattle.layout.proofs.Places.{Stopped, stopped-byte, stopped-end, ran-missing, ran-joined, ran-found}
+use Rattle.layout.proofs.Numbers.{digit-byte, Ran, ran-start, ran-small, ran-more}
+use Rattle.layout.proofs.Numbers.{Stopped, stopped-byte, stopped-end, ran-missing, ran-joined, ran-found}
 use Rattle.scan.proofs.digits_at.Statement.{statement}
 use Rattle.scan.proofs.digits_at.Tie as tie
 use Rattle.scan.proofs.digits_at.Reads as reads

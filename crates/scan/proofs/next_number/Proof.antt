@@ -1,6 +1,7 @@
 -- Blanks before a number change no field.
 use borrow.Author.Needs.{needs}
-use Rattle.layout.proofs.Places.{trimmed-marked, finding}
+use Rattle.layout.proofs.Places.{trimmed-marked}
+use Rattle.layout.proofs.Numbers.{finding}
 use Rattle.scan.proofs.next_number.Statement.{statement}
 use Rattle.scan.proofs.next_number.Tie as tie
 

@@ -1,4 +1,4 @@
-use Rattle.searches.proofs.Laws.{number-fits}
+use Rattle.lists.proofs.Places.{place-small}
 use Rattle.lists.proofs.Places.{place-lt}
 use mathlib.Core.Path.{refl}
 use native.Mathlib.Omega.{arith}
@@ -10,13 +10,13 @@ cast-result : tie.Need-cast-result
 cast-result c = search needs
 
 mul-result : tie.Need-mul-result
-mul-result c = omega (arith, number-fits (c .before .args .p) (c .before .args .owner .0) (omega arith) (omega arith))
+mul-result c = omega (arith, place-small 16 (c .before .args .p) (c .before .args .owner .0) (omega arith) (omega arith))
 
 cast-result-2 : tie.Need-cast-result-2
 cast-result-2 c = search needs
 
 add-result : tie.Need-add-result
-add-result c = omega (arith, number-fits (c .before .before .args .p) (c .before .before .args .owner .0) (omega arith) (omega arith))
+add-result c = omega (arith, place-small 16 (c .before .before .args .p) (c .before .before .args .owner .0) (omega arith) (omega arith))
 
 returns : tie.Need-returns
 returns c = (refl, place-lt _ _ _ _ (omega arith) (omega arith))

@@ -35,12 +35,7 @@ mul-queue : tie.Need-mul-queue
 mul-queue c = search needs
 
 slice-write-queue : tie.Need-slice-write-queue
-slice-write-queue c =
-    omega (
-      arith,
-      room-for _ _ _ (c .before .before .pre .0) (c .before .before .args .u) (lower-at _ _ _ (c .before .before .pre .0) (c .before .before .args .u) (c .before .before .pre .1))
-          (not-queued _ _ _ (c .before .before .pre .0) (c .before .before .args .u) (c .before .before .pre .1)),
-    )
+slice-write-queue c = omega (arith, room (c .before .before))
 
 add-result : tie.Need-add-result
 add-result c = search needs

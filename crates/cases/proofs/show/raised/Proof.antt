@@ -10,6 +10,7 @@ use mir.Val.{Fits, SFits, ofZ, toZ}
 use mir.ValLaws.{toZ-ofZ}
 use borrow.Author.Tests.{le-ltb}
 use borrow.Author.Needs.{needs}
+use Rattle.task.proofs.Counters.{wide, cast-fits}
 use Rattle.cases.proofs.show.raised.Statement.{statement}
 use Rattle.cases.proofs.show.raised.Tie as tie
 
@@ -25,20 +26,14 @@ word (pos a) h = (tt, record { fits = omega (arith, h .sfits) })
 word (negsuc a) h = rw (below a 2147483648 (omega (arith, h .sfits))) (tt, record { fits = omega (arith, h .sfits) })
 
 module _ (c : ℤ) (is-word : SFits w32 c) where
-  wide : SFits w64 c
-  wide = record { sfits = omega (arith, is-word .sfits) }
+  add-fits : SFits w64 (toZ w64 (ofZ w64 (toZ w32 (ofZ w32 c))) +ℤ pos 2147483648)
+  add-fits = rw (toZ-ofZ w32 c is-word, toZ-ofZ w64 c (wide c is-word)) (more c is-word)
 
-  pub cast-fits : SFits w64 (toZ w32 (ofZ w32 c))
-  cast-fits = rw (toZ-ofZ w32 c is-word) wide
-
-  pub add-fits : SFits w64 (toZ w64 (ofZ w64 (toZ w32 (ofZ w32 c))) +ℤ pos 2147483648)
-  add-fits = rw (toZ-ofZ w32 c is-word, toZ-ofZ w64 c wide) (more c is-word)
-
-  abbrev pub sum : ℤ
+  abbrev sum : ℤ
   sum = toZ w64 (ofZ w64 (toZ w64 (ofZ w64 (toZ w32 (ofZ w32 c))) +ℤ pos 2147483648))
 
-  pub sum-fits : T (nonNeg sum) × Fits w32 (natAbs sum)
-  sum-fits = rw (toZ-ofZ w32 c is-word, toZ-ofZ w64 c wide, toZ-ofZ w64 (c +ℤ pos 2147483648) (more c is-word)) (word c is-word)
+  sum-fits : T (nonNeg sum) × Fits w32 (natAbs sum)
+  sum-fits = rw (toZ-ofZ w32 c is-word, toZ-ofZ w64 c (wide c is-word), toZ-ofZ w64 (c +ℤ pos 2147483648) (more c is-word)) (word c is-word)
 
 cast-result : tie.Need-cast-result
 cast-result c = cast-fits (c .args .counter) (c .fits .counter)

@@ -1,0 +1,283 @@
+//! The table's examples; the edges and the diamond of the conditions of acceptance; the story of demand 1.
+
+use crate::board::{degree_left, diamond, fetched, fork_to_release, placed, refused, Board, DIAMOND, MOVED};
+use crate::diamond;
+use engine_model::engines;
+use engine_model::memory::{List, Memory, Step, ACCEPTED, ENTRIES, HELD, NIL, PHASE};
+
+// The table's examples.
+
+/// Row 1: "N 4, degrees of 3 words".
+#[test]
+fn row_1_example() {
+    let mut board = diamond(2, 4);
+    board.memory.degrees.pop();
+    assert_eq!(board.begin(), refused(1, 0));
+    for step in Step::ALL {
+        assert_eq!(board.step(0, step), refused(1, 0));
+    }
+}
+
+/// Row 2: "K 1".
+#[test]
+fn row_2_example() {
+    let mut board = Board::new(&[0; 4], &DIAMOND, 2, 1);
+    assert_eq!(board.begin(), refused(2, 0));
+    for step in Step::ALL {
+        assert_eq!(board.step(0, step), refused(2, 0));
+    }
+}
+
+/// Row 3: "N 2, predecessor 2"; the task that has it is 1.
+#[test]
+fn row_3_example() {
+    assert_eq!(Board::new(&[0; 2], &[&[], &[2]], 2, 4).begin(), refused(3, 1));
+}
+
+/// Row 4: "task 3: 1, 1".
+#[test]
+fn row_4_example() {
+    assert_eq!(
+        Board::new(&[0; 4], &[&[], &[0], &[0], &[1, 1]], 2, 4).begin(),
+        refused(4, 3)
+    );
+}
+
+/// Row 5: "1 after 2, 2 after 1: detail 1".
+#[test]
+fn row_5_example() {
+    assert_eq!(Board::new(&[0; 3], &[&[], &[2], &[1]], 2, 4).begin(), refused(5, 1));
+}
+
+/// Row 6: "P 2, K 2, three roots".
+#[test]
+fn row_6_example() {
+    assert_eq!(Board::new(&[0; 3], &[&[], &[], &[]], 2, 2).begin(), refused(6, 3));
+    assert_eq!(Board::new(&[0; 3], &[&[], &[], &[]], 3, 2).begin(), Ok(()));
+    assert_eq!(Board::new(&[0; 3], &[&[], &[], &[]], 2, 3).begin(), Ok(()));
+}
+
+/// Row 7: "P 2, worker 2".
+#[test]
+fn row_7_example() {
+    for step in Step::ALL {
+        assert_eq!(diamond(2, 4).step(2, step), refused(7, 2));
+    }
+}
+
+/// Row 8: "a head of K", 4 here.
+#[test]
+fn row_8_example() {
+    assert_eq!(diamond(2, 4).with(List::Ends, 0, 4).fetch(0), refused(8, 0));
+}
+
+/// Row 9: "Complete in phase 0".
+#[test]
+fn row_9_example() {
+    assert_eq!(diamond(2, 4).complete(0), refused(9, 0));
+}
+
+/// Row 10: "P 2, one root, worker 1 fetches first".
+#[test]
+fn row_10_example() {
+    let mut board = diamond(2, 4);
+    assert_eq!(board.fetch(1), refused(10, 0));
+    assert_eq!(board.release(0), refused(10, 0));
+    assert_eq!(board.fetch(0), fetched(0));
+}
+
+/// Row 11: "P 1, K 2, edges 0→1, 0→2: second Release".
+#[test]
+fn row_11_example() {
+    let mut board = fork_to_release(1, 2);
+    assert_eq!(board.release(0), placed(1, 0));
+    assert_eq!(board.release(0), refused(11, 2));
+    board.execute(0, 1);
+    assert_eq!(board.release(0), placed(2, 0));
+    board.execute(0, 2);
+    assert_eq!(board.memory.run, [3, 11]);
+}
+
+/// Row 12: "entries word N, phase 2".
+#[test]
+fn row_12_example() {
+    let board = diamond(2, 4).with_row(0, PHASE, 2);
+    assert_eq!(board.with(List::Run, ENTRIES, 4).complete(0), refused(12, 0));
+}
+
+// The edges and the diamond of the conditions of acceptance.
+
+/// "N 0 (0 steps, begun is finished)"
+#[test]
+fn no_task_at_all() {
+    let mut board = Board::begun(&[], &[], 2, 4);
+    assert_eq!(board.memory.succ_starts, [0]);
+    assert_eq!(board.memory.run, [0, 0]);
+    assert_eq!(board.memory.rows, [[0, NIL, 0, 0, 0, 0]; 2]);
+    for worker in 0..2 {
+        assert_eq!(board.fetch(worker), refused(10, 0));
+        assert_eq!(board.release(worker), refused(10, 0));
+        assert_eq!(board.start(worker), refused(9, 0));
+        assert_eq!(board.complete(worker), refused(9, 0));
+    }
+    assert_eq!(board.with_row(0, PHASE, 1).start(0), refused(8, 0));
+    assert_eq!(board.with_row(0, PHASE, 2).complete(0), refused(12, 0));
+}
+
+/// "two roots with P 2, K 2 (accepted)": root 1 goes "to the ring of owner and filler 1", number 1·2 + 1.
+#[test]
+fn two_roots_with_two_workers_and_two_slots() {
+    let board = Board::begun(&[7, 9], &[&[], &[]], 2, 2);
+    let expected = Memory {
+        weights: vec![7, 9],
+        pred_starts: vec![0, 0, 0],
+        preds: vec![],
+        succ_starts: vec![0, 0, 0],
+        succs: vec![],
+        degrees: vec![0, 0],
+        rings: vec![0, 0, 0, 0, 0, 0, 1, 0],
+        ends: vec![0, 1, 0, 0, 0, 0, 0, 1],
+        counters: vec![7, 0, 0, 9],
+        buffers: vec![0; 4],
+        executed: vec![0; 4],
+        run: vec![0, 0],
+        rows: vec![[0, NIL, 0, 0, 0, 0]; 2],
+    };
+    assert_eq!(board.memory, expected);
+}
+
+/// "root number m, from 0, goes to the ring of owner and filler m mod P": five roots among seven tasks, P 2.
+#[test]
+fn roots_are_taken_rising() {
+    let lists: [&[u32]; 7] = [&[], &[3], &[], &[], &[], &[2], &[]];
+    let board = Board::begun(&[1, 2, 4, 8, 16, 32, 64], &lists, 2, 4);
+    assert_eq!(board.memory.rings, [0, 3, 6, 0, 0, 0, 0, 0, 0, 0, 0, 0, 2, 4, 0, 0]);
+    assert_eq!(board.memory.ends, [0, 3, 0, 0, 0, 0, 0, 2]);
+    assert_eq!(board.memory.counters, [1 + 8 + 64, 0, 0, 4 + 16]);
+    assert_eq!(board.memory.degrees, [0, 1, 0, 0, 0, 1, 0]);
+}
+
+/// The diamond in whole, in the desk program's turns, with the words after begin and at the end.
+#[test]
+fn the_diamond_in_whole() {
+    let mut board = diamond(2, 4);
+    assert_eq!(board.memory, diamond::begun());
+    board.execute(0, 0);
+    assert_eq!(board.release(0), placed(1, 0));
+    assert_eq!(board.release(0), placed(2, 1));
+    assert_eq!(board.fetch(1), fetched(2));
+    assert_eq!(board.fetch(0), fetched(1));
+    for worker in [1, 0] {
+        assert_eq!(board.start(worker), MOVED);
+    }
+    for worker in [1, 0] {
+        assert_eq!(board.complete(worker), MOVED);
+    }
+    assert_eq!(board.release(1), degree_left(1));
+    assert_eq!(board.release(0), placed(3, 0));
+    board.execute(0, 3);
+    assert_eq!(board.memory, diamond::finished());
+}
+
+/// "Release 0→0, Fetch 0→1, Start 1→2, Complete 2→0; the other eight pairs are refused."
+#[test]
+fn phase_against_step() {
+    let table = [
+        (Step::Release, [Some(0), None, None]),
+        (Step::Fetch, [Some(1), None, None]),
+        (Step::Start, [None, Some(2), None]),
+        (Step::Complete, [None, None, Some(0)]),
+    ];
+    // task 1 waits, 2 can be released, and 0 is held, so that every step finds what it needs
+    let mut board = fork_to_release(1, 4);
+    assert_eq!(board.release(0), placed(1, 0));
+    let board = board.with_row(0, HELD, 0);
+    for (step, nexts) in table {
+        for (phase, next) in (0..).zip(nexts) {
+            let mut each = board.with_row(0, PHASE, phase);
+            let answer = each.step(0, step);
+            match next {
+                None => assert_eq!(answer, refused(9, phase)),
+                Some(next) => {
+                    assert!(answer.is_ok(), "{step:?} in phase {phase}: {answer:?}");
+                    assert_eq!(each.memory.rows[0][PHASE], next);
+                }
+            }
+        }
+    }
+}
+
+// The story of demand 1.
+
+/// 16 roots, one for each worker, and 17 successors of root 3. Roots weigh 10, root 3 weighs 7, its successors 1, the last 5.
+fn story_board() -> Board {
+    let successor: &[u32] = &[3];
+    let lists = [vec![&[][..]; 16], vec![successor; 17]].concat();
+    let mut weights = [vec![10; 16], vec![1; 17]].concat();
+    weights[3] = 7;
+    weights[32] = 5;
+    Board::new(&weights, &lists, 16, 2)
+}
+
+/// "A refused placement once left its weight on the lane. The board showed twelve as loaded and every later tile passed over
+/// an empty machine."
+///
+/// Each ring holds K−1 = 1 task. After worker 3 has fetched its root, its own sum is 0 and all others are 10. So worker 3
+/// is the target of every Release: 16 goes to it, and with its ring full and its sum 1, which stays the least, the others go
+/// to the owners behind it: 17 to 4, … 28 to 15, 29 to 0, 30 to 1, 31 to 2. Each of them then has the sum 11. The
+/// owners expected here and below follow docs/RULE.md.
+#[test]
+fn a_refused_release_leaves_every_word() {
+    for engine in engines::all() {
+        let mut board = story_board().by(engine);
+        assert_eq!(board.begin(), Ok(()));
+        board.execute(3, 3);
+        let owners = [3, 4, 5, 6, 7, 8, 9, 10, 11, 12, 13, 14, 15, 0, 1, 2];
+        for (task, owner) in (16..32).zip(owners) {
+            assert_eq!(board.release(3), placed(task, owner));
+        }
+        let before = board.memory.clone();
+        for _ in 0..3 {
+            assert_eq!(board.release(3), refused(11, 32));
+            assert_eq!(board.memory, before);
+        }
+        room_at_twelve(board.clone());
+        room_at_three(board.clone());
+        no_room_at_two(board);
+    }
+}
+
+/// Worker 12 passes its empty rings 0 to 2 and takes 25 from the ring that worker 3 fills; its sum is 10, so the target is
+/// still 3 with the sum 1, and the rings of 3 to 11 are full.
+fn room_at_twelve(mut board: Board) {
+    assert_eq!(board.fetch(12), fetched(25));
+    let mut expected = board.memory.clone();
+    assert_eq!(board.release(3), placed(32, 12));
+    let ring = 12 * 16 + 3;
+    // 25 was in slot 0; the tail goes from 1 to 0
+    expected.rings[2 * ring + 1] = 32;
+    expected.ends[2 * ring + 1] = 0;
+    // 1 of task 25, which left counter (12, 12), and 5 of task 32
+    expected.counters[ring] = 1 + 5;
+    expected.degrees[32] = 0;
+    expected.run[ACCEPTED] += 1;
+    // all 17 are released: the cursor is 0 again, and the read place 1
+    expected.rows[3] = [0, NIL, 4, 1, 1, 0];
+    assert_eq!(board.memory, expected);
+    assert_eq!(board.memory.counters[12 * 16 + 12], 10 - 1);
+}
+
+/// Worker 3 takes 16 from its own ring, and is the target with the sum 0.
+fn room_at_three(mut board: Board) {
+    board.execute(3, 16);
+    assert_eq!(board.release(3), placed(32, 3));
+}
+
+/// Worker 2 takes its root, not the task from worker 3: its sum is 1 and it is the target before 3, but no ring that worker
+/// 3 fills has room. Once it has taken 31 too, its sum is 0, and its ring has room.
+fn no_room_at_two(mut board: Board) {
+    board.execute(2, 2);
+    assert_eq!(board.release(3), refused(11, 32));
+    assert_eq!(board.fetch(2), fetched(31));
+    assert_eq!(board.release(3), placed(32, 2));
+}
