@@ -52,14 +52,17 @@ fn a_map_sheet() {
     assert_prints(example("tiles.stg"), &lines);
 }
 
-/// Every text of the folder is one of these.
+/// Every text of the folder is one of these; the other file is the diamond's C program.
 #[test]
 fn no_other_example() {
     let folder = Path::new(env!("CARGO_MANIFEST_DIR")).join("../examples");
     let entries = fs::read_dir(folder).expect("the folder is there");
     let mut names: Vec<_> = entries.map(|entry| entry.expect("an entry").file_name()).collect();
     names.sort();
-    assert_eq!(names, ["chain.stg", "diamond.stg", "star.stg", "tiles.stg"]);
+    assert_eq!(
+        names,
+        ["chain.stg", "diamond.c", "diamond.stg", "star.stg", "tiles.stg"]
+    );
 }
 
 /// Two dummies: root 0 goes to worker 0, root 1 to worker 1; both fetch, start and complete in turn.

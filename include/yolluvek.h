@@ -1,0 +1,369 @@
+/*
+ * Yolluvek: the scheduling core of a job console, proved. The calls for C and C++.
+ *
+ * A host lends lists of 32-bit words, each as a pointer and a length, and the calls read and write them; nothing is
+ * allocated or kept between calls. A call uses at most about 41 KB of stack. examples/diamond.c is a whole program.
+ * docs/RULE.md says which worker a released task goes to, docs/REFUSALS.md what to do about each refusal.
+ *
+ * Link libgraph_export.a, libstg_export.a and libengine_export.a, which `rt staticlib` writes to target/staticlib
+ * (x86-64 Linux). Of these the last has begin and the steps, the second the reader, the first the other calls.
+ *
+ * What is assumed of the pointers:
+ *   - each is aligned and good for as many elements as the length after it says; an empty list may have any pointer
+ *     but NULL;
+ *   - no list that a call writes overlaps another list of that call;
+ *   - nobody else writes a list during a call, nor between the calls of a run.
+ * Nothing is assumed of the words, lengths and numbers: any are taken, and the wrong ones are refused.
+ *
+ * N is the number of tasks and E that of edges: the lengths of `weights` and of `preds`. Tasks are numbered 0 to N - 1.
+ * P is the number of workers, numbered 0 to P - 1, and K that of the slots of a ring, which holds K - 1 tasks.
+ */
+#ifndef YOLLUVEK_H
+#define YOLLUVEK_H
+
+#include <stddef.h>
+#include <stdint.h>
+
+#ifdef __cplusplus
+extern "C" {
+#endif
+
+/* Limits: beyond them a call is refused with 2. */
+#define YOLLUVEK_MAX_TASKS 1024   /* N at most; in a text n is 2 less, for its two dummies */
+#define YOLLUVEK_MAX_EDGES 8192   /* E at most */
+#define YOLLUVEK_MAX_WEIGHT 65535 /* a weight at most, judged by the check and by begin */
+#define YOLLUVEK_MAX_WORKERS 16   /* P at most, at least 1 */
+#define YOLLUVEK_MIN_SLOTS 2      /* K at least */
+#define YOLLUVEK_MAX_SLOTS 64     /* K at most */
+#define YOLLUVEK_MAX_TEXT 65536   /* bytes of a text at most */
+
+/* The held task of a worker whose hand is empty. */
+#define YOLLUVEK_NIL 65535
+
+/*
+ * The number that a call answers, 0 where it is accepted. A refused call has written nothing: every word of every list
+ * is what it was. The detail is 0 where none is named.
+ */
+enum {
+    YOLLUVEK_ACCEPTED = 0,
+
+    /* a lent list has the wrong length */
+    YOLLUVEK_WRONG_LENGTH = 1,
+
+    /* a size, a weight or the text is beyond its limit */
+    YOLLUVEK_BEYOND_LIMIT = 2,
+
+    /* a bad start or task number in a table; detail: the smallest bad task, or N if only the first start isn't 0 or the
+       last one isn't E; of a lookup: the task */
+    YOLLUVEK_BAD_TABLE = 3,
+
+    /* a predecessor stands twice in one task; detail: the smallest such task */
+    YOLLUVEK_PREDECESSOR_TWICE = 4,
+
+    /* the tasks form a cycle; detail: the smallest task on a cycle */
+    YOLLUVEK_CYCLE = 5,
+
+    /* more than P * (K - 1) tasks without predecessors; detail: their number */
+    YOLLUVEK_TOO_MANY_ROOTS = 6,
+
+    /* the worker is P or more; detail: the number handed in */
+    YOLLUVEK_NO_SUCH_WORKER = 7,
+
+    /* a word that the step reads is outside its range: something else has written it, or there was no accepted begin */
+    YOLLUVEK_DAMAGED_WORD = 8,
+
+    /* the step doesn't suit the worker's phase; detail: the phase */
+    YOLLUVEK_WRONG_PHASE = 9,
+
+    /* Fetch: no task waits in the worker's rings; Release: no completed task of the worker has a successor left */
+    YOLLUVEK_NOTHING_THERE = 10,
+
+    /* Release: all rings that the worker fills are full; detail: the task to be placed, which isn't lost */
+    YOLLUVEK_NO_ROOM = 11,
+
+    /* Complete with N entries recorded: something else has written the lists */
+    YOLLUVEK_RECORD_FULL = 12,
+
+    /* the text breaks the layout; detail: the line, from 1 */
+    YOLLUVEK_BAD_LAYOUT = 13
+};
+
+/* What the check, begin and the judging call answer. */
+typedef struct {
+    uint32_t number;
+    uint32_t detail;
+} yolluvek_reply;
+
+/* What the reader answers. */
+typedef struct {
+    uint32_t number;
+    uint32_t detail;
+    uint32_t tasks; /* N; 0 of a refused text */
+    uint32_t edges; /* E; 0 of a refused text */
+} yolluvek_read_reply;
+
+/* What a step answers. */
+typedef struct {
+    uint32_t number;
+    uint32_t detail;
+    uint32_t kind;   /* one of the four below */
+    uint32_t first;  /* the task fetched, the degree left, or the task placed; else 0 */
+    uint32_t second; /* the worker that owns the ring of the task placed; else 0 */
+} yolluvek_step_reply;
+
+/* The kinds of a step's answer. */
+enum {
+    YOLLUVEK_MOVED = 0,       /* a refused step, an accepted Start or Complete */
+    YOLLUVEK_FETCHED = 1,     /* an accepted Fetch: `first` is the task */
+    YOLLUVEK_DEGREE_LEFT = 2, /* an accepted Release: the successor still waits for `first` predecessors */
+    YOLLUVEK_PLACED = 3       /* an accepted Release: the task `first` was placed into a ring of worker `second` */
+};
+
+/* A part of a table: its first place, and how many words it has. */
+typedef struct {
+    uint32_t place;
+    uint32_t count;
+} yolluvek_part;
+
+/* A worker's row. A host reads it, and doesn't write it during a run. */
+typedef struct {
+    uint32_t phase;   /* 0 idle, 1 fetched, 2 running */
+    uint32_t held;    /* the task in its hand, or YOLLUVEK_NIL */
+    uint32_t pointer; /* the ring at which its next Fetch starts to look */
+    uint32_t read;    /* the place of the oldest task in its buffer */
+    uint32_t write;   /* the place behind the newest one */
+    uint32_t cursor;  /* which successor of the oldest task its next Release looks at */
+} yolluvek_row;
+
+/* Sides of a lookup. */
+enum {
+    YOLLUVEK_PREDECESSORS = 0,
+    YOLLUVEK_SUCCESSORS = 1 /* as any other number */
+};
+
+/*
+ * Reads a text of the Standard Task Graph Set, without communication costs, into the tables of a graph. Accepted, the
+ * first N weights, N + 1 starts and E predecessors are written, and no other word.
+ *
+ * Lengths: weights 1,024, starts 1,025, preds 8,192.
+ * Refused: 1; 2 for a text of more than 65,536 bytes; then line by line 13, and after it in the same line 2, where n is
+ * over 1,022 or the predecessors pass 8,192. Predecessor numbers aren't judged; begin does that.
+ */
+yolluvek_read_reply yolluvek_read_text(
+    const uint8_t *text, size_t text_len,
+    uint32_t *weights, size_t weights_len,
+    uint32_t *starts, size_t starts_len,
+    uint32_t *preds, size_t preds_len);
+
+/*
+ * Checks a graph, as begin does, with limits on N and E that are the caller's; above the engine's they count as the
+ * engine's.
+ *
+ * Task t's predecessors stand in `preds` from place starts[t] up to but not including starts[t + 1].
+ * Lengths: weights N, starts N + 1, preds E.
+ * Refused: 2, 1, 3, 4, 5, the first in this order.
+ */
+yolluvek_reply yolluvek_check_graph(
+    size_t tasks, size_t edges,
+    const uint32_t *weights, size_t weights_len,
+    const uint32_t *starts, size_t starts_len,
+    const uint32_t *preds, size_t preds_len);
+
+/*
+ * The same check; where it accepts, the successor table is written, each task's successors rising, and the degrees,
+ * which are the numbers of predecessors.
+ *
+ * Lengths: weights N, starts N + 1, preds E, succ_starts N + 1, succs E, degrees N.
+ * Refused: 2, 1, 3, 4, 5, the first in this order.
+ */
+yolluvek_reply yolluvek_link_graph(
+    size_t tasks, size_t edges,
+    const uint32_t *weights, size_t weights_len,
+    const uint32_t *starts, size_t starts_len,
+    const uint32_t *preds, size_t preds_len,
+    uint32_t *succ_starts, size_t succ_starts_len,
+    uint32_t *succs, size_t succs_len,
+    uint32_t *degrees, size_t degrees_len);
+
+/*
+ * Judges a lookup of a task's neighbours on one side: 0 and 0 exactly if it is accepted.
+ *
+ * Lengths: weights N, pred_starts N + 1, preds E, succ_starts N + 1, succs E.
+ * Refused: 2, 1, 3, the first in this order; 3 if there is no such task, or its part of the table on that side is bad.
+ */
+yolluvek_reply yolluvek_judge_lookup(
+    const uint32_t *weights, size_t weights_len,
+    const uint32_t *pred_starts, size_t pred_starts_len,
+    const uint32_t *preds, size_t preds_len,
+    const uint32_t *succ_starts, size_t succ_starts_len,
+    const uint32_t *succs, size_t succs_len,
+    uint32_t side, uint32_t task);
+
+/*
+ * Where the task's neighbours stand in `preds` or in `succs`, by the side. Where the lookup is refused, place and count
+ * are 0; since a task may have no neighbours, ask the judging call which it is.
+ */
+yolluvek_part yolluvek_lookup(
+    const uint32_t *weights, size_t weights_len,
+    const uint32_t *pred_starts, size_t pred_starts_len,
+    const uint32_t *preds, size_t preds_len,
+    const uint32_t *succ_starts, size_t succ_starts_len,
+    const uint32_t *succs, size_t succs_len,
+    uint32_t side, uint32_t task);
+
+/*
+ * Begins a run, whatever the lists held besides the weights and the predecessor table; these stay, and everything else
+ * is written. The tasks without predecessors are dealt to the workers 0, 1, .., P - 1, 0, .. in the order of their
+ * numbers. In the middle of a run or after it, that starts another one.
+ *
+ * The lists of a run, each of exactly this length; begin and all steps of the run are lent the same ones, with the same
+ * P and K:
+ *
+ *   weights      N          the weight of each task
+ *   pred_starts  N + 1      where each task's predecessors begin, and E
+ *   preds        E          the predecessors of each task in turn
+ *   succ_starts  N + 1      where each task's successors begin, and E
+ *   succs        E          the successors of each task in turn, rising
+ *   degrees      N          how many predecessors each task still waits for
+ *   rings        P * P * K  the slots of the ring of owner i, filled by worker j, begin at (i * P + j) * K
+ *   ends         2 * P * P  at 2 * (i * P + j) that ring's head, the next slot to take, and its tail, the next free one
+ *   counters     P * P      at i * P + j that ring's counter; the load of worker i is the sum of its P counters
+ *   buffers      P * N      the completed tasks of worker i with successors to release begin at i * N
+ *   executed     2 * N      the record: task and worker of each completed task, in order
+ *   run          2          how many entries the record has, how many steps were accepted
+ *   rows         P          a row for each worker
+ *
+ * Refused: 2, 1, 3, 4, 5, 6, the first in this order.
+ */
+yolluvek_reply yolluvek_begin(
+    const uint32_t *weights, size_t weights_len,
+    const uint32_t *pred_starts, size_t pred_starts_len,
+    const uint32_t *preds, size_t preds_len,
+    uint32_t *succ_starts, size_t succ_starts_len,
+    uint32_t *succs, size_t succs_len,
+    uint32_t *degrees, size_t degrees_len,
+    uint32_t *rings, size_t rings_len,
+    uint32_t *ends, size_t ends_len,
+    int32_t *counters, size_t counters_len,
+    uint32_t *buffers, size_t buffers_len,
+    uint32_t *executed, size_t executed_len,
+    uint32_t *run, size_t run_len,
+    yolluvek_row *rows, size_t rows_len,
+    size_t workers, size_t slots);
+
+/*
+ * The four steps of a worker.
+ *
+ * The run is finished when the record has N entries; it has 3N + E accepted steps then. Until then some worker has a
+ * step that is accepted.
+ *
+ * Refused: 2, 1, 7, 8 for the phase, 9, the first in this order; then 8, 10, 11 or 12, whichever the step's rule meets
+ * first.
+ */
+
+/* Fetch: an idle worker takes a task that waits in its rings. Answers the task. */
+yolluvek_step_reply yolluvek_fetch(
+    const uint32_t *weights, size_t weights_len,
+    const uint32_t *pred_starts, size_t pred_starts_len,
+    const uint32_t *preds, size_t preds_len,
+    const uint32_t *succ_starts, size_t succ_starts_len,
+    const uint32_t *succs, size_t succs_len,
+    uint32_t *degrees, size_t degrees_len,
+    uint32_t *rings, size_t rings_len,
+    uint32_t *ends, size_t ends_len,
+    int32_t *counters, size_t counters_len,
+    uint32_t *buffers, size_t buffers_len,
+    uint32_t *executed, size_t executed_len,
+    uint32_t *run, size_t run_len,
+    yolluvek_row *rows, size_t rows_len,
+    size_t workers, size_t slots, uint32_t worker);
+
+/* Start: a worker starts the task that it has fetched. */
+yolluvek_step_reply yolluvek_start(
+    const uint32_t *weights, size_t weights_len,
+    const uint32_t *pred_starts, size_t pred_starts_len,
+    const uint32_t *preds, size_t preds_len,
+    const uint32_t *succ_starts, size_t succ_starts_len,
+    const uint32_t *succs, size_t succs_len,
+    uint32_t *degrees, size_t degrees_len,
+    uint32_t *rings, size_t rings_len,
+    uint32_t *ends, size_t ends_len,
+    int32_t *counters, size_t counters_len,
+    uint32_t *buffers, size_t buffers_len,
+    uint32_t *executed, size_t executed_len,
+    uint32_t *run, size_t run_len,
+    yolluvek_row *rows, size_t rows_len,
+    size_t workers, size_t slots, uint32_t worker);
+
+/* Complete: the task that a worker is running joins the record, and the worker's buffer if it has successors. */
+yolluvek_step_reply yolluvek_complete(
+    const uint32_t *weights, size_t weights_len,
+    const uint32_t *pred_starts, size_t pred_starts_len,
+    const uint32_t *preds, size_t preds_len,
+    const uint32_t *succ_starts, size_t succ_starts_len,
+    const uint32_t *succs, size_t succs_len,
+    uint32_t *degrees, size_t degrees_len,
+    uint32_t *rings, size_t rings_len,
+    uint32_t *ends, size_t ends_len,
+    int32_t *counters, size_t counters_len,
+    uint32_t *buffers, size_t buffers_len,
+    uint32_t *executed, size_t executed_len,
+    uint32_t *run, size_t run_len,
+    yolluvek_row *rows, size_t rows_len,
+    size_t workers, size_t slots, uint32_t worker);
+
+/*
+ * Release: the next successor of the oldest task in an idle worker's buffer waits for one task less. Answers how many
+ * are left; if none is, the successor is placed into a ring that the worker fills, of the worker with the least load or
+ * of one after it, and the answer is the task and its new owner.
+ */
+yolluvek_step_reply yolluvek_release(
+    const uint32_t *weights, size_t weights_len,
+    const uint32_t *pred_starts, size_t pred_starts_len,
+    const uint32_t *preds, size_t preds_len,
+    const uint32_t *succ_starts, size_t succ_starts_len,
+    const uint32_t *succs, size_t succs_len,
+    uint32_t *degrees, size_t degrees_len,
+    uint32_t *rings, size_t rings_len,
+    uint32_t *ends, size_t ends_len,
+    int32_t *counters, size_t counters_len,
+    uint32_t *buffers, size_t buffers_len,
+    uint32_t *executed, size_t executed_len,
+    uint32_t *run, size_t run_len,
+    yolluvek_row *rows, size_t rows_len,
+    size_t workers, size_t slots, uint32_t worker);
+
+/* The layouts that the library has: words without gaps, in the order declared. */
+#if defined(__cplusplus) && __cplusplus >= 201103L
+#define YOLLUVEK_ASSERT(fact) static_assert(fact, #fact)
+#elif !defined(__cplusplus) && defined(__STDC_VERSION__) && __STDC_VERSION__ >= 201112L
+#define YOLLUVEK_ASSERT(fact) _Static_assert(fact, #fact)
+#endif
+#ifdef YOLLUVEK_ASSERT
+YOLLUVEK_ASSERT(sizeof(yolluvek_reply) == 8);
+YOLLUVEK_ASSERT(offsetof(yolluvek_reply, detail) == 4);
+YOLLUVEK_ASSERT(sizeof(yolluvek_read_reply) == 16);
+YOLLUVEK_ASSERT(offsetof(yolluvek_read_reply, detail) == 4);
+YOLLUVEK_ASSERT(offsetof(yolluvek_read_reply, tasks) == 8);
+YOLLUVEK_ASSERT(offsetof(yolluvek_read_reply, edges) == 12);
+YOLLUVEK_ASSERT(sizeof(yolluvek_step_reply) == 20);
+YOLLUVEK_ASSERT(offsetof(yolluvek_step_reply, detail) == 4);
+YOLLUVEK_ASSERT(offsetof(yolluvek_step_reply, kind) == 8);
+YOLLUVEK_ASSERT(offsetof(yolluvek_step_reply, first) == 12);
+YOLLUVEK_ASSERT(offsetof(yolluvek_step_reply, second) == 16);
+YOLLUVEK_ASSERT(sizeof(yolluvek_part) == 8);
+YOLLUVEK_ASSERT(offsetof(yolluvek_part, count) == 4);
+YOLLUVEK_ASSERT(sizeof(yolluvek_row) == 24);
+YOLLUVEK_ASSERT(offsetof(yolluvek_row, held) == 4);
+YOLLUVEK_ASSERT(offsetof(yolluvek_row, pointer) == 8);
+YOLLUVEK_ASSERT(offsetof(yolluvek_row, read) == 12);
+YOLLUVEK_ASSERT(offsetof(yolluvek_row, write) == 16);
+YOLLUVEK_ASSERT(offsetof(yolluvek_row, cursor) == 20);
+#undef YOLLUVEK_ASSERT
+#endif
+
+#ifdef __cplusplus
+}
+#endif
+
+#endif

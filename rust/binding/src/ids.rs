@@ -1,0 +1,58 @@
+//! Task and worker numbers.
+
+use std::fmt;
+
+/// The number of a task, from 0.
+///
+/// Task and worker numbers are types of their own, so that one can't stand where the other belongs:
+///
+/// ```compile_fail,E0308
+/// # let mut job = yolluvek::Job::from_text(b"0\n0 0 0\n1 0 0\n", 1, 2).unwrap();
+/// job.fetch(yolluvek::TaskId::new(0));
+/// ```
+#[derive(Clone, Copy, Debug, PartialEq, Eq, PartialOrd, Ord, Hash)]
+#[repr(transparent)]
+pub struct TaskId(u32);
+
+/// The number of a worker, from 0.
+#[derive(Clone, Copy, Debug, PartialEq, Eq, PartialOrd, Ord, Hash)]
+#[repr(transparent)]
+pub struct WorkerId(u32);
+
+impl TaskId {
+    /// The task with this number; whether there is one is judged by the calls.
+    pub const fn new(number: u32) -> TaskId {
+        TaskId(number)
+    }
+
+    /// The task's number.
+    pub const fn number(self) -> u32 {
+        self.0
+    }
+}
+
+impl WorkerId {
+    /// The worker with this number; whether there is one is judged by the calls.
+    pub const fn new(number: u32) -> WorkerId {
+        WorkerId(number)
+    }
+
+    /// The worker's number.
+    pub const fn number(self) -> u32 {
+        self.0
+    }
+}
+
+/// Prints the number.
+impl fmt::Display for TaskId {
+    fn fmt(&self, to: &mut fmt::Formatter<'_>) -> fmt::Result {
+        self.0.fmt(to)
+    }
+}
+
+/// Prints the number.
+impl fmt::Display for WorkerId {
+    fn fmt(&self, to: &mut fmt::Formatter<'_>) -> fmt::Result {
+        self.0.fmt(to)
+    }
+}

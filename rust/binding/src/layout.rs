@@ -1,0 +1,249 @@
+//! The declared layouts, held to the library: what it reads and writes in each word is what the field there says.
+
+use crate::ffi::{self, Part, ReadReply, Reply, StepReply};
+use crate::ids::{TaskId, WorkerId};
+use crate::memory::{Entry, Memory, Row, Run};
+use crate::tables::Tables;
+use std::mem::{align_of, offset_of, size_of};
+
+const P: usize = 2;
+const K: usize = 4;
+const NIL: u32 = 65_535;
+
+/// Tasks 1 and 2 after task 0, task 3 after both.
+fn diamond() -> Memory {
+    let tables = Tables {
+        weights: vec![0, 5, 3, 0],
+        pred_starts: vec![0, 0, 1, 2, 4],
+        preds: [0, 0, 1, 2].map(TaskId::new).to_vec(),
+    };
+    Memory::sized(tables, P, K)
+}
+
+type Call = fn(&mut Memory, usize, usize, WorkerId) -> StepReply;
+
+/// A step of worker 0.
+fn by_0(call: Call, memory: &mut Memory) -> StepReply {
+    call(memory, P, K, WorkerId::new(0))
+}
+
+fn begun() -> Memory {
+    let mut memory = diamond();
+    assert_eq!(ffi::begin(&mut memory, P, K), Reply { number: 0, detail: 0 });
+    memory
+}
+
+/// The diamond after these steps of worker 0.
+fn after(calls: &[Call]) -> Memory {
+    let mut memory = begun();
+    for &call in calls {
+        assert_eq!(by_0(call, &mut memory).number, 0);
+    }
+    memory
+}
+
+fn row(words: [u32; 6]) -> Row {
+    let [phase, held, pointer, read, write, cursor] = words;
+    Row {
+        phase,
+        held,
+        pointer,
+        read,
+        write,
+        cursor,
+    }
+}
+
+/// Words of 32 bits without gaps, in the order declared.
+#[test]
+fn sizes_and_places() {
+    assert_eq!((size_of::<TaskId>(), align_of::<TaskId>()), (4, 4));
+    assert_eq!((size_of::<WorkerId>(), align_of::<WorkerId>()), (4, 4));
+    assert_eq!((size_of::<Row>(), align_of::<Row>()), (24, 4));
+    assert_eq!((size_of::<Entry>(), align_of::<Entry>()), (8, 4));
+    assert_eq!((size_of::<Run>(), align_of::<Run>()), (8, 4));
+    assert_eq!((size_of::<Reply>(), align_of::<Reply>()), (8, 4));
+    assert_eq!((size_of::<StepReply>(), align_of::<StepReply>()), (20, 4));
+    assert_eq!((size_of::<ReadReply>(), align_of::<ReadReply>()), (16, 4));
+    assert_eq!((size_of::<Part>(), align_of::<Part>()), (8, 4));
+
+    let row = [
+        offset_of!(Row, phase),
+        offset_of!(Row, held),
+        offset_of!(Row, pointer),
+        offset_of!(Row, read),
+        offset_of!(Row, write),
+        offset_of!(Row, cursor),
+    ];
+    assert_eq!(row, [0, 4, 8, 12, 16, 20]);
+    assert_eq!([offset_of!(Entry, task), offset_of!(Entry, worker)], [0, 4]);
+    assert_eq!([offset_of!(Run, entries), offset_of!(Run, accepted)], [0, 4]);
+    assert_eq!([offset_of!(Reply, number), offset_of!(Reply, detail)], [0, 4]);
+    let step = [
+        offset_of!(StepReply, number),
+        offset_of!(StepReply, detail),
+        offset_of!(StepReply, kind),
+        offset_of!(StepReply, first),
+        offset_of!(StepReply, second),
+    ];
+    assert_eq!(step, [0, 4, 8, 12, 16]);
+    let read = [
+        offset_of!(ReadReply, number),
+        offset_of!(ReadReply, detail),
+        offset_of!(ReadReply, tasks),
+        offset_of!(ReadReply, edges),
+    ];
+    assert_eq!(read, [0, 4, 8, 12]);
+    assert_eq!([offset_of!(Part, place), offset_of!(Part, count)], [0, 4]);
+}
+
+/// "Everything is zeroed […]; held tasks become NIL", in the row of every worker.
+#[test]
+fn begin_writes_each_row() {
+    let mut memory = diamond();
+    memory.rows.fill(row([7, 8, 9, 10, 11, 12]));
+    assert_eq!(ffi::begin(&mut memory, P, K).number, 0);
+    assert_eq!(memory.rows, [row([0, NIL, 0, 0, 0, 0]); P]);
+}
+
+/// Each step writes the fields that its rule names.
+#[test]
+fn steps_write_the_fields_of_a_row() {
+    let other = row([0, NIL, 0, 0, 0, 0]);
+    let mut memory = begun();
+    let steps: [(Call, [u32; 6]); 5] = [
+        // the phase, the held task, and the pointer behind ring 0
+        (ffi::fetch, [1, 0, 1, 0, 0, 0]),
+        (ffi::start, [2, 0, 1, 0, 0, 0]),
+        // the task joins the buffer
+        (ffi::complete, [0, NIL, 1, 0, 1, 0]),
+        // the cursor advances; after the second successor the read place does
+        (ffi::release, [0, NIL, 1, 0, 1, 1]),
+        (ffi::release, [0, NIL, 1, 1, 1, 0]),
+    ];
+    for (call, words) in steps {
+        assert_eq!(by_0(call, &mut memory).number, 0);
+        assert_eq!(memory.rows, [row(words), other]);
+    }
+}
+
+/// Of a row that one field is damaged in, a step is refused with 8 exactly if its rule reads that field.
+#[test]
+fn steps_read_the_fields_of_a_row() {
+    let damages: [fn(&mut Row); 6] = [
+        |row| row.phase = 3,
+        |row| row.held = 4,
+        |row| row.pointer = P as u32,
+        |row| row.read = 2,
+        |row| row.write = 5,
+        |row| row.cursor = 2,
+    ];
+    let [fetch, start, complete, release]: [Call; 4] = [ffi::fetch, ffi::start, ffi::complete, ffi::release];
+    let steps = [
+        (fetch, begun(), [true, false, true, false, false, false]),
+        (start, after(&[fetch]), [true, false, false, false, false, false]),
+        (complete, after(&[fetch, start]), [true, true, false, true, true, false]),
+        (
+            release,
+            after(&[fetch, start, complete]),
+            [true, false, false, true, true, true],
+        ),
+    ];
+    for (call, memory, reads) in steps {
+        assert_eq!(by_0(call, &mut memory.clone()).number, 0);
+        for (damage, read) in damages.iter().zip(reads) {
+            let mut damaged = memory.clone();
+            damaged.rows.iter_mut().take(1).for_each(damage);
+            let before = damaged.clone();
+            let number = by_0(call, &mut damaged).number;
+            assert_eq!(number, if read { 8 } else { 0 });
+            assert!(!read || damaged == before, "a refused step has written");
+            // the other worker's row isn't read
+            let mut other = memory.clone();
+            other.rows.iter_mut().skip(1).for_each(damage);
+            assert_eq!(by_0(call, &mut other).number, 0);
+        }
+    }
+}
+
+fn step_reply(words: [u32; 5]) -> StepReply {
+    let [number, detail, kind, first, second] = words;
+    StepReply {
+        number,
+        detail,
+        kind,
+        first,
+        second,
+    }
+}
+
+/// Each field of a step's reply, told apart from the others by its value.
+#[test]
+fn replies_of_steps() {
+    let mut memory = begun();
+    let fetch = ffi::fetch(&mut memory, P, K, WorkerId::new(9));
+    assert_eq!(fetch, step_reply([7, 9, 0, 0, 0]));
+    // "Complete in phase 0"
+    assert_eq!(by_0(ffi::complete, &mut memory), step_reply([9, 0, 0, 0, 0]));
+    assert_eq!(by_0(ffi::fetch, &mut memory), step_reply([0, 0, 1, 0, 0]));
+    assert_eq!(by_0(ffi::start, &mut memory), step_reply([0, 0, 0, 0, 0]));
+    assert_eq!(by_0(ffi::release, &mut memory), step_reply([9, 2, 0, 0, 0]));
+    assert_eq!(by_0(ffi::complete, &mut memory), step_reply([0, 0, 0, 0, 0]));
+    assert_eq!(by_0(ffi::release, &mut memory), step_reply([0, 0, 3, 1, 0]));
+    assert_eq!(by_0(ffi::release, &mut memory), step_reply([0, 0, 3, 2, 1]));
+    let fetch = ffi::fetch(&mut memory, P, K, WorkerId::new(1));
+    assert_eq!(fetch, step_reply([0, 0, 1, 2, 0]));
+    for call in [ffi::fetch, ffi::start, ffi::complete] {
+        assert_eq!(by_0(call, &mut memory).number, 0);
+    }
+    // task 3 still waits for task 2
+    assert_eq!(by_0(ffi::release, &mut memory), step_reply([0, 0, 2, 1, 0]));
+    assert_eq!((memory.run.entries, memory.run.accepted), (2, 10));
+    let entries = [(0, 0), (1, 0)].map(|(task, worker)| Entry {
+        task: TaskId::new(task),
+        worker: WorkerId::new(worker),
+    });
+    assert_eq!(memory.executed[..2], entries);
+}
+
+#[test]
+fn replies_of_the_other_calls() {
+    let [weights, starts] = [[0; 3].as_slice(), &[0, 0, 1, 2]];
+    let cycle = [2, 1].map(TaskId::new);
+    let check = ffi::check_graph(1_024, 8_192, weights, starts, &cycle);
+    assert_eq!(check, Reply { number: 5, detail: 1 });
+    // beyond the limits that are handed over
+    let check = ffi::check_graph(2, 8_192, weights, starts, &cycle);
+    assert_eq!(check, Reply { number: 2, detail: 0 });
+    let check = ffi::check_graph(3, 1, weights, starts, &cycle);
+    assert_eq!(check, Reply { number: 2, detail: 0 });
+
+    let memory = begun();
+    let judged = |side, task| ffi::judge_lookup(&memory, side, TaskId::new(task));
+    let part = |side, task| ffi::lookup(&memory, side, TaskId::new(task));
+    assert_eq!(judged(1, 0), Reply { number: 0, detail: 0 });
+    assert_eq!(judged(1, 4), Reply { number: 3, detail: 4 });
+    assert_eq!(part(1, 0), Part { place: 0, count: 2 });
+    assert_eq!(part(0, 2), Part { place: 1, count: 1 });
+    assert_eq!(part(1, 2), Part { place: 3, count: 1 });
+    assert_eq!(part(1, 4), Part { place: 0, count: 0 });
+
+    let read = |text: &[u8]| {
+        let (mut weights, mut starts, mut preds) = (vec![0; 1_024], vec![0; 1_025], vec![TaskId::new(0); 8_192]);
+        ffi::read_text(text, &mut weights, &mut starts, &mut preds)
+    };
+    let accepted = ReadReply {
+        number: 0,
+        detail: 0,
+        tasks: 3,
+        edges: 2,
+    };
+    assert_eq!(read(b"1\n0 0 0\n1 7 1 0\n2 0 1 1\n"), accepted);
+    let refused = ReadReply {
+        number: 13,
+        detail: 3,
+        tasks: 0,
+        edges: 0,
+    };
+    assert_eq!(read(b"1\n0 0 0\n1 7 2 0\n2 0 1 1\n"), refused);
+}

@@ -1,0 +1,150 @@
+//! No input makes a call panic: odd texts, tables and numbers, each held to the model where that says what is answered.
+
+use engine_model::frames::{texts, LENT};
+use engine_model::{reader, texts as generator};
+use yolluvek::{Job, Refusal, Side, Tables, TaskId, WorkerId};
+
+const NUMBERS: [usize; 12] = [
+    0,
+    1,
+    2,
+    16,
+    17,
+    64,
+    65,
+    1 << 16,
+    1 << 32,
+    usize::MAX / 4,
+    usize::MAX - 1,
+    usize::MAX,
+];
+const WORDS: [u32; 9] = [0, 1, 2, 3, 65_535, 65_536, 1 << 31, u32::MAX - 1, u32::MAX];
+
+/// Every call and view, with odd numbers, before and after begin; a refusal prints.
+fn make_every_call(job: &mut Job) {
+    for _ in 0..2 {
+        for number in WORDS {
+            let (worker, task) = (WorkerId::new(number), TaskId::new(number));
+            let answers = [
+                job.release(worker).err(),
+                job.fetch(worker).err(),
+                job.start(worker).err(),
+                job.complete(worker).err(),
+                job.lookup(Side::Predecessors, task).err(),
+                job.lookup(Side::Successors, task).err(),
+            ];
+            answers
+                .iter()
+                .flatten()
+                .for_each(|refusal| assert!(refusal.number() <= 11));
+            assert!(job.load(worker).is_some() == job.phase(worker).is_some());
+            assert!(job.held(worker).is_none() || job.phase(worker).is_some());
+            assert!(job.weight(task).is_some() == ((number as usize) < job.tasks()));
+        }
+        assert!(job.record().len() <= job.tasks());
+        let refusal = job.begin().err();
+        assert_eq!(refusal.is_none(), job.is_begun());
+        refusal
+            .iter()
+            .for_each(|refusal| assert!(!refusal.to_string().is_empty()));
+    }
+}
+
+/// The answer is the model's; what is read is what the model reads.
+fn read(text: &[u8]) -> Result<Tables, Refusal> {
+    let [mut weights, mut starts, mut preds] = LENT.map(|length| vec![0; length]);
+    let expected = reader::read(text, &mut weights, &mut starts, &mut preds);
+    let found = Tables::from_text(text);
+    match (&found, expected) {
+        (Ok(tables), Ok((n, e))) => {
+            let (n, e) = (n as usize, e as usize);
+            assert_eq!(tables.weights, weights[..n]);
+            assert_eq!(tables.pred_starts, starts[..=n]);
+            let numbers: Vec<u32> = tables.preds.iter().map(|task| task.number()).collect();
+            assert_eq!(numbers, preds[..e]);
+        }
+        (Err(refusal), Err(expected)) => {
+            assert_eq!((refusal.number(), refusal.detail()), (expected.number, expected.detail));
+            assert!(matches!(refusal, Refusal::BeyondLimit | Refusal::BadLayout { .. }));
+        }
+        _ => panic!("{found:?}, where the model has {expected:?}"),
+    }
+    found
+}
+
+#[test]
+fn odd_texts() {
+    let long = vec![b'#'; 10_000_000];
+    let zeros = vec![0; 65_536];
+    let nines = [b'9'; 400];
+    let odd: [&[u8]; 9] = [b"", b"\0", b"\n\n\n", b"\r", b"65535\n", b"-1\n", &nines, &zeros, &long];
+    for text in odd {
+        assert!(read(text).is_err());
+    }
+}
+
+#[test]
+fn stored_and_further_texts() {
+    let frames = generator::all();
+    let stored = texts(&frames).map(|trial| trial.text.clone());
+    let further = generator::further(500, 3_000).into_iter().map(|trial| trial.text);
+    let mut accepted = 0;
+    for (place, text) in stored.chain(further).enumerate() {
+        let Ok(tables) = read(&text) else { continue };
+        accepted += 1;
+        let number = |by: usize| NUMBERS[(place / by) % NUMBERS.len()];
+        make_every_call(&mut Job::from_tables(tables.clone(), number(1), number(5)));
+        make_every_call(&mut Job::from_tables(tables, 2, 4));
+    }
+    assert!(accepted >= 500, "{accepted} texts are accepted");
+}
+
+/// Few words in all places, lists of every short length, every pair of numbers.
+#[test]
+fn odd_tables() {
+    let lists = |longest: usize| -> Vec<Vec<u32>> {
+        let filled = (0..=longest).flat_map(|length| WORDS.map(|word| vec![word; length]));
+        filled.chain([vec![0, 1, 2], vec![0, 0, 1, 2], vec![2, 1, 0]]).collect()
+    };
+    let mut place = 0;
+    for weights in lists(2) {
+        for pred_starts in lists(3) {
+            for preds in lists(2) {
+                place += 1;
+                let tables = Tables {
+                    weights: weights.clone(),
+                    pred_starts: pred_starts.clone(),
+                    preds: preds.iter().copied().map(TaskId::new).collect(),
+                };
+                let (workers, slots) = (NUMBERS[place % NUMBERS.len()], NUMBERS[place / 7 % NUMBERS.len()]);
+                let judged = tables.check();
+                let mut job = Job::from_tables(tables, workers, slots);
+                make_every_call(&mut job);
+                assert!(judged.is_ok() || !job.is_begun());
+            }
+        }
+    }
+}
+
+/// What is beyond a limit costs no memory and no time, however far beyond.
+#[test]
+fn large_tables() {
+    for (tasks, starts, preds) in [
+        (3_000_000, 3_000_001, 0),
+        (0, 1, 3_000_000),
+        (1, 3_000_000, 1),
+        (1_025, 0, 8_193),
+    ] {
+        let tables = Tables {
+            weights: vec![u32::MAX; tasks],
+            pred_starts: vec![u32::MAX; starts],
+            preds: vec![TaskId::new(u32::MAX); preds],
+        };
+        assert!(tables.check().is_err());
+        for number in NUMBERS {
+            let mut job = Job::from_tables(tables.clone(), number, number);
+            assert!(job.begin().is_err());
+            assert!(job.fetch(WorkerId::new(0)).is_err());
+        }
+    }
+}

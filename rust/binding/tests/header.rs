@@ -1,0 +1,217 @@
+//! include/yolluvek.h beside the exports: the same functions with the same parameters in the same order, and the same
+//! fields.
+
+use std::collections::BTreeMap;
+use std::fs;
+use std::path::Path;
+
+const EXPORTS: [&str; 3] = ["graph_export", "stg_export", "engine_export"];
+
+fn stored(file: &str) -> String {
+    let path = Path::new(env!("CARGO_MANIFEST_DIR")).join("../..").join(file);
+    fs::read_to_string(&path).unwrap_or_else(|error| panic!("{}: {error}", path.display()))
+}
+
+fn source(name: &str) -> String {
+    stored(&format!("crates/{name}/src/lib.rt"))
+}
+
+/// The header without its comments.
+fn header() -> String {
+    let stored = stored("include/yolluvek.h");
+    let mut pieces = stored.split("/*");
+    let first = pieces.next().unwrap_or_default();
+    let rest = pieces
+        .filter_map(|piece| piece.split_once("*/"))
+        .map(|(_, after)| after);
+    std::iter::once(first).chain(rest).collect()
+}
+
+/// What stands between the two marks that come next.
+fn between<'a>(text: &'a str, opening: &str, closing: &str) -> &'a str {
+    let (_, rest) = text.split_once(opening).expect("the opening mark");
+    rest.split_once(closing).expect("the closing mark").0
+}
+
+fn trimmed(list: &str) -> impl Iterator<Item = &str> {
+    list.split(',').map(str::trim).filter(|item| !item.is_empty())
+}
+
+/// A parameter: C's type without `const`, the name, and whether words behind it may be written.
+#[derive(Clone, Debug, PartialEq, Eq)]
+struct Parameter {
+    of: String,
+    name: String,
+    written: bool,
+}
+
+fn parameter(of: impl Into<String>, name: impl Into<String>, written: bool) -> Parameter {
+    Parameter {
+        of: of.into(),
+        name: name.into(),
+        written,
+    }
+}
+
+/// A function's parameters, and what it answers.
+type Functions = BTreeMap<String, (Vec<Parameter>, String)>;
+
+/// A type of the exports as C has it.
+fn in_c(of: &str) -> &'static str {
+    match of {
+        "u8" => "uint8_t",
+        "u32" => "uint32_t",
+        "i32" => "int32_t",
+        "usize" => "size_t",
+        "Row" | "[u32; 6]" => "yolluvek_row",
+        "Reply" => "yolluvek_reply",
+        "StepReply" => "yolluvek_step_reply",
+        "ReadReply" => "yolluvek_read_reply",
+        "Part" => "yolluvek_part",
+        _ => panic!("the header has no type for {of}"),
+    }
+}
+
+/// A parameter of an export; a list is a pointer and a length.
+fn exported_parameter(item: &str) -> Vec<Parameter> {
+    let (name, of) = item.split_once(": ").expect("a name and a type");
+    let list = |elements: &str, written| {
+        let of = in_c(elements.strip_suffix(']').expect("a list"));
+        let pointer = parameter(format!("{of} *"), name, written);
+        vec![pointer, parameter("size_t", format!("{name}_len"), false)]
+    };
+    match (of.strip_prefix("&mut ["), of.strip_prefix("&[")) {
+        (Some(elements), _) => list(elements, true),
+        (_, Some(elements)) => list(elements, false),
+        _ => {
+            let name = match name {
+                "p" => "workers",
+                "k" => "slots",
+                _ => name,
+            };
+            vec![parameter(in_c(of), name, false)]
+        }
+    }
+}
+
+fn exported() -> Functions {
+    let mut functions = Functions::new();
+    for source in EXPORTS.map(source) {
+        for item in source.split("#[no_mangle]").skip(1) {
+            let name = between(item, "pub extern \"C\" fn ", "(");
+            let parameters = trimmed(between(item, "(", ")")).flat_map(exported_parameter);
+            let answer = in_c(between(item, ") -> ", "\n").trim());
+            functions.insert(String::from(name), (parameters.collect(), String::from(answer)));
+        }
+    }
+    functions
+}
+
+fn declared_parameter(item: &str) -> Parameter {
+    let (constant, rest) = match item.strip_prefix("const ") {
+        Some(rest) => (true, rest),
+        None => (false, item),
+    };
+    let start = rest.rfind([' ', '*']).expect("a type and a name") + 1;
+    let (of, name) = rest.split_at(start);
+    parameter(of.trim(), name, of.ends_with('*') && !constant)
+}
+
+fn declared() -> Functions {
+    let header = header();
+    let lines = header.lines().filter(|line| !line.starts_with('#'));
+    let header: Vec<&str> = lines.collect();
+    let header = header.join("\n");
+    let mut functions = Functions::new();
+    for item in header.split(';').filter(|item| item.trim_end().ends_with(')')) {
+        let Some((before, parameters)) = item.split_once('(') else {
+            continue;
+        };
+        let line = before.lines().last().unwrap_or_default();
+        if let Some((answer, name)) = line.split_once(' ') {
+            let parameters = trimmed(parameters.trim_end().trim_end_matches(')')).map(declared_parameter);
+            functions.insert(String::from(name), (parameters.collect(), String::from(answer)));
+        }
+    }
+    functions
+}
+
+/// Every export is declared, and nothing else; a list that a call writes isn't `const`.
+#[test]
+fn the_functions_are_the_exports() {
+    let (exported, declared) = (exported(), declared());
+    assert_eq!(exported.len(), 10);
+    let names = |functions: &Functions| functions.keys().cloned().collect::<Vec<_>>();
+    assert_eq!(names(&declared), names(&exported));
+    for (name, (parameters, answer)) in &exported {
+        let (found, answered) = &declared[name];
+        assert_eq!(answered, answer, "{name}");
+        let typed = |list: &[Parameter]| {
+            list.iter()
+                .map(|one| (one.of.clone(), one.name.clone()))
+                .collect::<Vec<_>>()
+        };
+        assert_eq!(typed(found), typed(parameters), "{name}");
+        for (found, parameter) in found.iter().zip(parameters) {
+            assert!(found.written || !parameter.written, "{name}: {}", parameter.name);
+        }
+    }
+}
+
+/// The names of the fields of a struct of the crate, in order.
+fn fields(source: &str, name: &str) -> Vec<String> {
+    let body = between(source, &format!("pub struct {name} {{"), "}");
+    let names = trimmed(body).map(|field| field.strip_prefix("pub ").unwrap_or(field));
+    names
+        .map(|field| String::from(field.split(':').next().unwrap_or_default()))
+        .collect()
+}
+
+/// The names of the fields of a type of the header, in order; all are words.
+fn declared_fields(name: &str) -> Vec<String> {
+    let header = header();
+    let (before, _) = header.split_once(&format!("}} {name};")).expect("the type's end");
+    let (_, body) = before.rsplit_once("typedef struct {").expect("the type's beginning");
+    let fields = body.split(';').map(str::trim).filter(|field| !field.is_empty());
+    fields
+        .map(|field| String::from(field.strip_prefix("uint32_t ").expect("a word")))
+        .collect()
+}
+
+#[test]
+fn the_fields_are_the_exports() {
+    for (name, crates) in [
+        ("Row", vec!["task"]),
+        ("Reply", vec!["graph_export", "engine_export"]),
+        ("StepReply", vec!["engine_export"]),
+        ("ReadReply", vec!["stg_export"]),
+        ("Part", vec!["graph_export"]),
+    ] {
+        for each in crates {
+            assert_eq!(
+                declared_fields(in_c(name)),
+                fields(&source(each), name),
+                "{name} of {each}"
+            );
+        }
+    }
+}
+
+/// The macro's value.
+fn defined(name: &str) -> usize {
+    let header = header();
+    let line = between(&header, &format!("#define {name} "), "\n");
+    line.trim().parse().expect("a number")
+}
+
+#[test]
+fn the_limits_are_the_binding_s() {
+    use yolluvek::limits;
+    assert_eq!(defined("YOLLUVEK_MAX_TASKS"), limits::MAX_TASKS);
+    assert_eq!(defined("YOLLUVEK_MAX_EDGES"), limits::MAX_EDGES);
+    assert_eq!(defined("YOLLUVEK_MAX_WEIGHT"), limits::MAX_WEIGHT as usize);
+    assert_eq!(defined("YOLLUVEK_MAX_WORKERS"), limits::MAX_WORKERS);
+    assert_eq!(defined("YOLLUVEK_MIN_SLOTS"), limits::MIN_SLOTS);
+    assert_eq!(defined("YOLLUVEK_MAX_SLOTS"), limits::MAX_SLOTS);
+    assert_eq!(defined("YOLLUVEK_MAX_TEXT"), limits::MAX_TEXT);
+}

@@ -1,0 +1,230 @@
+//! Random jobs and calls beside the model: every answer and every view is the model's.
+
+use engine_model::draw::Draw;
+use engine_model::engine;
+use engine_model::memory::{Memory, Outcome, Step, ACCEPTED, ENTRIES, HELD, PHASE, ROW_WORDS};
+use engine_model::model::{self, Graph, Lookup, Table};
+use engine_model::runs::graphs;
+use yolluvek::{Job, Refusal, Released, Side, Tables, TaskId, WorkerId};
+
+/// A job, and the model's memory for the same graph, P and K.
+struct Pair {
+    job: Job,
+    memory: Memory,
+    begun: bool,
+}
+
+fn pair(refusal: Refusal) -> (u32, u32) {
+    (refusal.number(), refusal.detail())
+}
+
+fn model_pair(refusal: model::Refusal) -> (u32, u32) {
+    (refusal.number, refusal.detail)
+}
+
+fn tables_of(graph: &Graph) -> Tables {
+    Tables {
+        weights: graph.weights.clone(),
+        pred_starts: graph.preds.starts.clone(),
+        preds: graph.preds.words.iter().copied().map(TaskId::new).collect(),
+    }
+}
+
+impl Pair {
+    /// Beyond its limit a number is judged before any length, so the model's lists need not have them.
+    fn new(graph: &Graph, workers: usize, slots: usize) -> Pair {
+        let Graph { weights, preds } = graph.clone();
+        let mut memory = Memory::sized(weights, preds.starts, preds.words, workers.min(16), slots.min(64), 0);
+        memory.rows.fill([u32::MAX; ROW_WORDS]);
+        memory.succ_starts.fill(u32::MAX);
+        Pair {
+            job: Job::from_tables(tables_of(graph), workers, slots),
+            memory,
+            begun: false,
+        }
+    }
+
+    fn begin(&mut self) -> Result<(), (u32, u32)> {
+        let (p, k) = (self.job.workers(), self.job.slots());
+        let expected = engine::begin(&mut self.memory, p, k).map_err(model_pair);
+        let found = self.job.begin().map_err(pair);
+        assert_eq!(found, expected);
+        self.begun |= found.is_ok();
+        found
+    }
+
+    /// Number and detail, `None` where the step is accepted.
+    fn step(&mut self, step: Step, worker: u32) -> Option<(u32, u32)> {
+        let (p, k) = (self.job.workers(), self.job.slots());
+        let expected = engine::step(&mut self.memory, p, k, worker, step).map_err(model_pair);
+        let job = &mut self.job;
+        let worker = WorkerId::new(worker);
+        let found = match step {
+            Step::Fetch => job.fetch(worker).map(|task| Outcome::Fetched { task: task.number() }),
+            Step::Start => job.start(worker).map(|()| Outcome::Moved),
+            Step::Complete => job.complete(worker).map(|()| Outcome::Moved),
+            Step::Release => job.release(worker).map(|released| match released {
+                Released::DegreeLeft { degree } => Outcome::DegreeLeft { degree },
+                Released::Placed { task, owner } => Outcome::Placed {
+                    task: task.number(),
+                    owner: owner.number(),
+                },
+            }),
+        };
+        assert_eq!(found.map_err(pair), expected);
+        expected.err()
+    }
+
+    fn look_up(&self, successors: bool, task: u32) {
+        let lookup = Lookup {
+            weights: self.memory.weights.clone(),
+            preds: Table {
+                starts: self.memory.pred_starts.clone(),
+                words: self.memory.preds.clone(),
+            },
+            succs: Table {
+                starts: self.memory.succ_starts.clone(),
+                words: self.memory.succs.clone(),
+            },
+        };
+        let (side, model_side) = match successors {
+            false => (Side::Predecessors, model::Side::Predecessors),
+            true => (Side::Successors, model::Side::Successors),
+        };
+        let found = self.job.lookup(side, TaskId::new(task));
+        match lookup.judge(model_side, task) {
+            Err(refusal) => assert_eq!(found.map_err(pair), Err(model_pair(refusal))),
+            Ok(()) => {
+                let numbers: Vec<u32> = found.expect("accepted").iter().map(|task| task.number()).collect();
+                assert_eq!(numbers, lookup.neighbours(model_side, task));
+            }
+        }
+    }
+
+    /// What the job shows is what the model's memory holds.
+    fn compare_views(&self) {
+        let Pair { job, memory, begun } = self;
+        let n = memory.n();
+        assert_eq!((job.tasks(), job.edges(), job.is_begun()), (n, memory.e(), *begun));
+        assert_eq!(job.accepted(), memory.run[ACCEPTED]);
+        let entries = memory.run[ENTRIES] as usize;
+        assert_eq!(job.is_finished(), *begun && entries == n);
+        let record = job
+            .record()
+            .iter()
+            .flat_map(|entry| [entry.task.number(), entry.worker.number()]);
+        assert_eq!(record.collect::<Vec<_>>(), memory.executed[..2 * entries]);
+        for (i, row) in memory.rows.iter().enumerate() {
+            let worker = WorkerId::new(i as u32);
+            let owned = memory.counters.chunks(memory.rows.len()).nth(i).unwrap_or(&[]);
+            let load = owned.iter().map(|&counter| i64::from(counter)).sum();
+            assert_eq!(job.load(worker), begun.then_some(load));
+            assert_eq!(
+                job.phase(worker).map(|phase| phase.number()),
+                begun.then_some(row[PHASE])
+            );
+            let held = Some(row[HELD]).filter(|&held| *begun && (held as usize) < n);
+            assert_eq!(job.held(worker).map(TaskId::number), held);
+        }
+        let beyond = WorkerId::new(memory.rows.len() as u32);
+        assert_eq!(
+            (job.load(beyond), job.phase(beyond), job.held(beyond)),
+            (None, None, None)
+        );
+    }
+}
+
+/// Damages tables in one place: a word, or the length of a list.
+fn damage(draw: &mut Draw, graph: &mut Graph) {
+    let n = graph.weights.len() as u32;
+    let word = draw.pick(&[0, 1, n.saturating_sub(1), n, n + 1, 65_535, 65_536, u32::MAX]);
+    let list = match draw.below(3) {
+        0 => &mut graph.weights,
+        1 => &mut graph.preds.starts,
+        _ => &mut graph.preds.words,
+    };
+    match draw.below(4) {
+        0 => list.push(word),
+        1 => drop(list.pop()),
+        _ if list.is_empty() => {}
+        _ => {
+            let place = draw.below(list.len());
+            list[place] = word;
+        }
+    }
+}
+
+/// How often each number was answered, at 0 the accepted calls.
+type Counts = [usize; 14];
+
+fn drawn_job(seed: u64, counts: &mut Counts) {
+    let draw = &mut Draw::new(seed);
+    let most = draw.pick(&[3, 12, 12, 40]);
+    let mut graph = graphs::any(draw, most);
+    if draw.below(4) == 0 {
+        damage(draw, &mut graph);
+    }
+    let workers = draw.pick(&[1, 1, 2, 2, 3, 4, 16, 0, 17, usize::MAX]);
+    let slots = draw.pick(&[2, 2, 2, 3, 4, 8, 64, 64, 1, 65, usize::MAX]);
+    let mut pair = Pair::new(&graph, workers, slots);
+    let check = tables_of(&graph).check().map_err(self::pair);
+    assert_eq!(check, model::check(model::Limits::ENGINE, &graph).map_err(model_pair));
+    let beyond = [16, 17, 65_535, u32::MAX];
+    let begin_at = draw.below(4);
+    for call in 0..draw.between(20, 30 + 12 * graph.weights.len()) {
+        let worker = match draw.below(40) {
+            0 => draw.pick(&beyond),
+            _ => draw.below(workers.clamp(1, 16)) as u32,
+        };
+        let answer = if call == begin_at || draw.below(200) == 0 {
+            pair.begin().err()
+        } else {
+            pair.step(draw.pick(&Step::ALL), worker)
+        };
+        counts[answer.map_or(0, |(number, _)| number as usize)] += 1;
+        pair.compare_views();
+        if draw.below(8) == 0 {
+            let task = draw.below(graph.weights.len() + 2) as u32;
+            pair.look_up(draw.below(2) == 0, task);
+        }
+    }
+}
+
+#[test]
+fn drawn_jobs() {
+    let mut counts = Counts::default();
+    (0..20_000).for_each(|seed| drawn_job(seed, &mut counts));
+    for number in [0, 1, 2, 3, 4, 5, 6, 7, 8, 9, 10, 11] {
+        assert!(counts[number] >= 20, "number {number} is met {} times", counts[number]);
+    }
+    assert_eq!((counts[12], counts[13]), (0, 0));
+}
+
+/// Drawn graphs go through to the end, whoever moves: 3N + E accepted steps, each task after its predecessors.
+#[test]
+fn whole_runs() {
+    for seed in 0..300 {
+        let draw = &mut Draw::new(seed);
+        let graph = graphs::any(draw, 60);
+        let mut pair = Pair::new(&graph, draw.between(1, 16), draw.between(8, 64));
+        if pair.begin().is_err() {
+            continue;
+        }
+        while !pair.job.is_finished() {
+            let worker = draw.below(pair.job.workers()) as u32;
+            let mut steps = Step::ALL;
+            draw.shuffle(&mut steps);
+            steps.into_iter().any(|step| pair.step(step, worker).is_none());
+        }
+        pair.compare_views();
+        let Pair { job, .. } = pair;
+        assert_eq!(job.accepted() as usize, 3 * job.tasks() + job.edges());
+        let mut done = vec![false; job.tasks()];
+        for entry in job.record() {
+            let preds = job.lookup(Side::Predecessors, entry.task).expect("a task");
+            assert!(preds.iter().all(|pred| done[pred.number() as usize]));
+            done[entry.task.number() as usize] = true;
+        }
+        assert!(done.into_iter().all(|done| done));
+    }
+}

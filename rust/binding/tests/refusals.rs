@@ -1,0 +1,281 @@
+//! Each number that the safe interface can meet, on the example of document 01's table: the typed refusal, its words,
+//! and that the job is as it was. 12 can't be met: `Complete` finds N entries only where N tasks are completed, and
+//! then no worker runs one.
+
+use yolluvek::{Job, Phase, Refusal, Side, Tables, TaskId, WorkerId};
+
+const DIAMOND: &[u8] = b"2\n0 0 0\n1 5 1 0\n2 3 1 0\n3 0 2 1 2\n";
+
+/// The tables of each task's predecessors, every weight 1.
+fn tables(lists: &[&[u32]]) -> Tables {
+    let ends = lists.iter().scan(0, |end, list| {
+        *end += list.len() as u32;
+        Some(*end)
+    });
+    Tables {
+        weights: vec![1; lists.len()],
+        pred_starts: std::iter::once(0).chain(ends).collect(),
+        preds: lists.concat().into_iter().map(TaskId::new).collect(),
+    }
+}
+
+/// What a call on the job is refused with; refused twice alike, the job being as it was.
+fn refused<T: std::fmt::Debug>(job: &mut Job, call: impl Fn(&mut Job) -> Result<T, Refusal>) -> Refusal {
+    let before = job.clone();
+    let refusal = call(job).expect_err("it is refused");
+    assert_eq!(*job, before, "a refused call has written");
+    assert_eq!(call(job).expect_err("it is refused again"), refusal);
+    refusal
+}
+
+fn refused_begin(tables: Tables, workers: usize, slots: usize) -> Refusal {
+    let mut job = Job::from_tables(tables, workers, slots);
+    let refusal = refused(&mut job, Job::begin);
+    assert!(!job.is_begun());
+    refusal
+}
+
+/// Number, detail and words of a refusal.
+fn assert_says(refusal: Refusal, number: u32, detail: u32, words: &str) {
+    assert_eq!((refusal.number(), refusal.detail()), (number, detail));
+    assert_eq!(refusal.to_string(), words);
+}
+
+fn begun(tables: Tables, workers: usize, slots: usize) -> Job {
+    let mut job = Job::from_tables(tables, workers, slots);
+    assert_eq!(job.begin(), Ok(()));
+    job
+}
+
+fn execute(job: &mut Job, worker: WorkerId) {
+    job.fetch(worker).expect("a task waits");
+    job.start(worker).expect("it is fetched");
+    job.complete(worker).expect("it is running");
+}
+
+const LENGTH: &str = "a list has the wrong length: there has to be one predecessor start more than there are weights";
+
+#[test]
+fn number_1() {
+    for starts in [vec![], vec![0], vec![0, 0], vec![0; 4]] {
+        let wrong = Tables {
+            pred_starts: starts,
+            ..tables(&[&[], &[]])
+        };
+        assert_eq!(wrong.check(), Err(Refusal::WrongLength));
+        assert_says(refused_begin(wrong.clone(), 1, 2), 1, 0, LENGTH);
+        let mut job = Job::from_tables(wrong, 1, 2);
+        let worker = WorkerId::new(0);
+        assert_eq!(refused(&mut job, |job| job.fetch(worker)), Refusal::WrongLength);
+        let lookup = job.lookup(Side::Predecessors, TaskId::new(0));
+        assert_eq!(lookup, Err(Refusal::WrongLength));
+    }
+}
+
+const LIMITS: &str =
+    "a size, a weight or the text is beyond its limit: at most 1024 tasks, 8192 edges, a weight of 65535, a text of \
+                      65536 bytes, 1 to 16 workers, 2 to 64 slots";
+
+#[test]
+fn number_2_by_workers_and_slots() {
+    let far = usize::MAX;
+    let workers = [0, 17, 65_536, far / 2, far].map(|workers| (workers, 4));
+    let slots = [0, 1, 65, 65_536, far / 2, far].map(|slots| (2, slots));
+    for (workers, slots) in workers.into_iter().chain(slots).chain([(0, 0), (far, far)]) {
+        assert_says(refused_begin(tables(&[&[], &[0]]), workers, slots), 2, 0, LIMITS);
+        let mut job = Job::from_tables(tables(&[&[], &[0]]), workers, slots);
+        let worker = WorkerId::new(0);
+        assert_eq!(refused(&mut job, |job| job.fetch(worker)), Refusal::BeyondLimit);
+        assert_eq!(refused(&mut job, |job| job.start(worker)), Refusal::BeyondLimit);
+        assert_eq!(refused(&mut job, |job| job.complete(worker)), Refusal::BeyondLimit);
+        assert_eq!(refused(&mut job, |job| job.release(worker)), Refusal::BeyondLimit);
+        // a lookup has no workers and slots
+        let task = [TaskId::new(0)];
+        assert_eq!(job.lookup(Side::Predecessors, TaskId::new(1)), Ok(&task[..]));
+    }
+}
+
+/// N, E and a weight, each just beyond and far beyond; the limits themselves are accepted.
+#[test]
+fn number_2_by_tables() {
+    let of = |tasks: usize, edges: usize, weight: u32| Tables {
+        weights: vec![weight; tasks],
+        pred_starts: vec![0; tasks + 1],
+        preds: vec![TaskId::new(0); edges],
+    };
+    for tables in [of(1_025, 0, 0), of(300_000, 0, 0), of(2, 8_193, 0), of(2, 300_000, 0)] {
+        assert_eq!(tables.check(), Err(Refusal::BeyondLimit));
+        let mut job = Job::from_tables(tables.clone(), 16, 64);
+        let lookup = job.lookup(Side::Predecessors, TaskId::new(0));
+        assert_eq!(lookup, Err(Refusal::BeyondLimit));
+        let worker = WorkerId::new(0);
+        assert_eq!(refused(&mut job, |job| job.release(worker)), Refusal::BeyondLimit);
+        assert_says(refused_begin(tables, 16, 64), 2, 0, LIMITS);
+    }
+    assert_says(refused_begin(of(2, 0, 65_536), 1, 4), 2, 0, LIMITS);
+    assert_says(refused_begin(of(2, 0, u32::MAX), 1, 4), 2, 0, LIMITS);
+    assert_eq!(begun(of(1_008, 0, 65_535), 16, 64).tasks(), 1_008);
+    assert_eq!(of(1_024, 0, 65_535).check(), Ok(()));
+}
+
+#[test]
+fn number_2_by_a_text() {
+    let long = [DIAMOND, &vec![b' '; 65_537]].concat();
+    assert_eq!(Tables::from_text(&long), Err(Refusal::BeyondLimit));
+    assert_eq!(Tables::from_text(b"1023\n"), Err(Refusal::BeyondLimit));
+}
+
+/// "N 2, predecessor 2"; a wrong first or last start names N; a lookup names the task.
+#[test]
+fn number_3() {
+    let bad = tables(&[&[], &[2]]);
+    let words = "task 1 has a bad start or a bad task number in its part of a table";
+    assert_says(refused_begin(bad.clone(), 1, 2), 3, 1, words);
+    assert_eq!(bad.check(), Err(Refusal::BadPart { task: TaskId::new(1) }));
+    let job = Job::from_tables(bad, 1, 2);
+    assert_says(job.lookup(Side::Predecessors, TaskId::new(1)).unwrap_err(), 3, 1, words);
+    let missing = job.lookup(Side::Predecessors, TaskId::new(2)).unwrap_err();
+    assert_says(missing, 3, 2, "task 2 doesn't exist: there are 2 tasks");
+    // before begin there are no successors
+    let successors = job.lookup(Side::Successors, TaskId::new(0)).unwrap_err();
+    assert_eq!(successors, Refusal::BadPart { task: TaskId::new(0) });
+
+    let ends = Tables {
+        pred_starts: vec![0, 0, 0],
+        ..tables(&[&[], &[0]])
+    };
+    let words = "the first predecessor start isn't 0, or the last one isn't the number of predecessors";
+    assert_says(refused_begin(ends, 1, 2), 3, 2, words);
+
+    let single = begun(tables(&[&[]]), 1, 2);
+    let missing = single.lookup(Side::Successors, TaskId::new(u32::MAX)).unwrap_err();
+    assert_says(missing, 3, u32::MAX, "task 4294967295 doesn't exist: there is 1 task");
+}
+
+/// "task 3: 1, 1"
+#[test]
+fn number_4() {
+    let twice = tables(&[&[], &[], &[], &[1, 1]]);
+    assert_says(refused_begin(twice, 1, 4), 4, 3, "a predecessor stands twice in task 3");
+}
+
+/// "1 after 2, 2 after 1: detail 1"
+#[test]
+fn number_5() {
+    let cycle = tables(&[&[], &[2], &[1]]);
+    assert_says(
+        refused_begin(cycle, 1, 4),
+        5,
+        1,
+        "the tasks form a cycle, and task 1 is on it",
+    );
+}
+
+/// "P 2, K 2, three roots"; two are accepted.
+#[test]
+fn number_6() {
+    let words = "too many roots for the rings: 3 tasks have no predecessors, and there is room for 2";
+    assert_says(refused_begin(tables(&[&[], &[], &[]]), 2, 2), 6, 3, words);
+    begun(tables(&[&[], &[]]), 2, 2);
+}
+
+/// "P 2, worker 2"
+#[test]
+fn number_7() {
+    let mut job = Job::from_text(DIAMOND, 2, 4).expect("a text");
+    job.begin().expect("a graph");
+    for number in [2, 3, 65_535, u32::MAX] {
+        let worker = WorkerId::new(number);
+        let words = format!("worker {number} doesn't exist: there are 2 workers");
+        assert_says(refused(&mut job, |job| job.fetch(worker)), 7, number, &words);
+        assert_says(refused(&mut job, |job| job.start(worker)), 7, number, &words);
+        assert_says(refused(&mut job, |job| job.complete(worker)), 7, number, &words);
+        assert_says(refused(&mut job, |job| job.release(worker)), 7, number, &words);
+    }
+    let mut single = begun(tables(&[&[]]), 1, 2);
+    let refusal = refused(&mut single, |job| job.fetch(WorkerId::new(1)));
+    assert_says(refusal, 7, 1, "worker 1 doesn't exist: there is 1 worker");
+}
+
+/// Before an accepted begin, every step of every worker.
+#[test]
+fn number_8() {
+    let mut job = Job::from_text(DIAMOND, 2, 4).expect("a text");
+    let words = "a damaged word in the lent memory: there was no accepted begin, or something else has written it";
+    for worker in [0, 1].map(WorkerId::new) {
+        assert_says(refused(&mut job, |job| job.fetch(worker)), 8, 0, words);
+        assert_says(refused(&mut job, |job| job.start(worker)), 8, 0, words);
+        assert_says(refused(&mut job, |job| job.complete(worker)), 8, 0, words);
+        assert_says(refused(&mut job, |job| job.release(worker)), 8, 0, words);
+        assert_eq!(
+            (job.phase(worker), job.held(worker), job.load(worker)),
+            (None, None, None)
+        );
+    }
+    assert_eq!((job.accepted(), job.record()), (0, [].as_slice()));
+}
+
+/// The eight pairs of phase and step that don't suit.
+#[test]
+fn number_9() {
+    let worker = WorkerId::new(0);
+    let mut job = begun(tables(&[&[], &[0]]), 1, 2);
+    let idle = "the step doesn't suit the worker's phase: it is idle, which suits Release and Fetch";
+    assert_says(refused(&mut job, |job| job.start(worker)), 9, 0, idle);
+    assert_says(refused(&mut job, |job| job.complete(worker)), 9, 0, idle);
+    job.fetch(worker).expect("a task waits");
+    let fetched = "the step doesn't suit the worker's phase: it has fetched a task, which suits Start";
+    assert_says(refused(&mut job, |job| job.fetch(worker)), 9, 1, fetched);
+    assert_says(refused(&mut job, |job| job.complete(worker)), 9, 1, fetched);
+    assert_says(refused(&mut job, |job| job.release(worker)), 9, 1, fetched);
+    job.start(worker).expect("it is fetched");
+    let running = "the step doesn't suit the worker's phase: it is running its task, which suits Complete";
+    assert_says(refused(&mut job, |job| job.fetch(worker)), 9, 2, running);
+    assert_says(refused(&mut job, |job| job.start(worker)), 9, 2, running);
+    let refusal = refused(&mut job, |job| job.release(worker));
+    assert_says(refusal, 9, 2, running);
+    assert_eq!(refusal, Refusal::WrongPhase { phase: Phase::Running });
+}
+
+/// "P 2, one root, worker 1 fetches first"
+#[test]
+fn number_10() {
+    let mut job = begun(tables(&[&[], &[0]]), 2, 4);
+    let worker = WorkerId::new(1);
+    let fetch = "nothing there to fetch: no task waits in the worker's rings";
+    assert_says(refused(&mut job, |job| job.fetch(worker)), 10, 0, fetch);
+    let release = "nothing there to release: no completed task of the worker has a successor left";
+    assert_says(refused(&mut job, |job| job.release(worker)), 10, 0, release);
+}
+
+/// "P 1, K 2, edges 0→1, 0→2: second Release"; after a Fetch there is room.
+#[test]
+fn number_11() {
+    let worker = WorkerId::new(0);
+    let mut job = begun(tables(&[&[], &[0], &[0]]), 1, 2);
+    execute(&mut job, worker);
+    job.release(worker).expect("the ring is empty");
+    let words = "no room for task 2: all rings that the worker fills are full";
+    assert_says(refused(&mut job, |job| job.release(worker)), 11, 2, words);
+    execute(&mut job, worker);
+    assert!(job.release(worker).is_ok());
+}
+
+/// "line "1 5 2 0""
+#[test]
+fn number_13() {
+    let refusal = Job::from_text(b"2\n0 0 0\n1 5 2 0\n2 3 1 0\n3 0 2 1 2\n", 2, 4).unwrap_err();
+    assert_says(refusal, 13, 3, "the text breaks the layout in line 3");
+    let early = Tables::from_text(b"").unwrap_err();
+    assert_says(early, 13, 1, "the text breaks the layout in line 1");
+}
+
+/// A refusal can be handed on as any other error.
+#[test]
+fn a_refusal_is_an_error() {
+    fn begin() -> Result<(), Box<dyn std::error::Error>> {
+        Job::from_text(b"0\n0 0 0\n1 0 0\n", 0, 2)?.begin()?;
+        Ok(())
+    }
+    assert_eq!(begin().unwrap_err().to_string(), LIMITS);
+}
