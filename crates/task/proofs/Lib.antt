@@ -1,2 +1,3 @@
 pub mod PhaseTable
 pub mod Rows
+pub mod Said
