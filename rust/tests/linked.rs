@@ -19,8 +19,8 @@ struct Part {
 
 extern "C" {
     fn yolluvek_check_graph(
-        tasks: usize,
-        edges: usize,
+        most_tasks: usize,
+        most_edges: usize,
         weights: *const u32,
         weights_len: usize,
         starts: *const u32,
@@ -30,8 +30,8 @@ extern "C" {
     ) -> Reply;
 
     fn yolluvek_link_graph(
-        tasks: usize,
-        edges: usize,
+        most_tasks: usize,
+        most_edges: usize,
         weights: *const u32,
         weights_len: usize,
         starts: *const u32,

@@ -2,19 +2,18 @@
 use Prim.Native.Nat.{ℕ, _+_}
 use mathlib.Core.Path.{_≡_, sym, _∙_}
 use mathlib.Core.List.{List}
+use Rattle.task.specs.Refusals.{Said, outcomeSays, stepSays}
+use Rattle.task.specs.Rows.{Acceptance}
 use Rattle.task.specs.declared.Limits.{Limits}
 use Rattle.task.specs.declared.Step.{Step}
 use Rattle.task.specs.declared.Step.the-variants.{Fetch, Start, Complete, Release}
 use Rattle.task.specs.declared.StepOutcome.{StepOutcome}
-use Rattle.task.specs.declared.StepAnswer.{StepAnswer}
-use Rattle.task.specs.declared.StepAnswer.the-variants.{Accepted}
 use Rattle.ring.specs.Ring.{capacity}
 use Rattle.rules.specs.Memory.{Mem, acceptedIn}
 use Rattle.rules.specs.Updates.{Update, written}
 use Rattle.rules.specs.Steps.{step}
 use Rattle.rules.specs.Plans.{withCount}
 use Rattle.rules.specs.Moves.{Allowed, AcceptedStep}
-use Rattle.rules.proofs.Plans.{outcome-accepts}
 use Rattle.rules.proofs.Moves.{accepted-step}
 use Rattle.algorithm1.specs.Algorithm.{Lines, Does}
 use Rattle.algorithm1.specs.Reading.{stateOf}
@@ -23,9 +22,6 @@ use Rattle.algorithm1.proofs.Fetched.{fetch-does, start-does}
 use Rattle.algorithm1.proofs.Completed.{complete-does}
 use Rattle.algorithm1.proofs.Released.{release-does}
 use Rattle.algorithm1.proofs.Unique.{does-one}
-
-same-outcome : {a b : StepOutcome} → _≡_ {A = StepAnswer} (Accepted a) (Accepted b) → a ≡ b
-same-outcome e = cc
 
 module _ (limits : Limits) (p k i : ℕ) where
   made-lines : (s : Step) (m : Mem) (o : StepOutcome) (us : List Update) → Allowed limits p k i s m o us
@@ -43,11 +39,11 @@ module _ (limits : Limits) (p k i : ℕ) where
           lines = rw (r .left) (made-lines s m (r .outcome) (r .updates) (r .allowed));
         }
 
-    accepted-does : (o : StepOutcome) → step limits p k i s m .answer ≡ Accepted o
-        → Does p (capacity k) i s (stateOf p k m) (stateOf p k (step limits p k i s m .memory)) o
-    accepted-does o e =
-        let r : AcceptedStep limits p k i s m = accepted-step limits p k i s m (rw e (outcome-accepts o)) in
-        rw (same-outcome (sym e ∙ r .answered)) (step-does r)
+    accepted-does : (said : Said) → stepSays (step limits p k i s m .answer) ≡ said → Acceptance said
+        → (o : StepOutcome) × (said ≡ outcomeSays o) × Does p (capacity k) i s (stateOf p k m) (stateOf p k (step limits p k i s m .memory)) o
+    accepted-does said e a =
+        let r : AcceptedStep limits p k i s m = accepted-step limits p k i s m (rw e a) in
+        (r .outcome, sym e ∙ r .answered, step-does r)
 
 pub follows-algorithm1 : FollowsAlgorithm1
 follows-algorithm1 = record { follows = accepted-does; determined = does-one }

@@ -14,6 +14,6 @@ digitsBefore (suc most) n rest = cond (ltb n 10) ((digit0 + n) ∷ rest) (digits
 unfoldable pub digitsOf : ℕ → List ℕ
 digitsOf n = digitsBefore (suc n) n []
 
--- two numbers "parted by single spaces", and "LF after every line"
+-- two numbers in a line, as in the paper's example: "`4 16`, `0 0`, .."; LF after every line (docs/DECISIONS.md)
 unfoldable pub pairLine : ℕ → ℕ → List ℕ
 pairLine a b = digitsOf a ++ (space ∷ digitsOf b ++ (lf ∷ []))

@@ -1,7 +1,7 @@
 -- PROMISE: the judging call answers 0 and 0 exactly if the lookup is accepted, an accepted lookup hands back the task's part of
 -- the table, and a refused one an empty part.
 use Prim.Native.Nat.{ℕ, _+_, _≤_}
-use mathlib.Core.Path.{_≡_, refl, ap}
+use mathlib.Core.Path.{_≡_, refl}
 use mathlib.Core.Logic.{_⊎_, inl, inr, _↔_}
 use mathlib.Core.List.{[]}
 use native.Mathlib.Omega.{arith}
@@ -9,7 +9,8 @@ use native.Mathlib.Decide.{ℕ-discrete, decLe, decLt}
 use lib.ListN.{length}
 use Rattle.task.specs.Types.{capped, engine}
 use Rattle.task.specs.Refusals.{answerSays, accepted, numberOf, detailOf}
-use Rattle.task.specs.Rows.{Given, Clear}
+use Rattle.task.specs.Rows.{Clear}
+use Rattle.task.proofs.Said.{zero-accepts}
 use Rattle.task.specs.declared.Answer.{Answer}
 use Rattle.task.specs.declared.Answer.the-variants.{Refused, Accepted}
 use Rattle.task.specs.declared.Side.{Side}
@@ -65,19 +66,12 @@ module _ (side : Side) (l : Lent) (t : ℕ) where
       go Accepted e = refl
       go (Refused n d) e = absurd (let z : _≡_ {A = ℕ} 0 1 = cc in omega arith)
 
-  numbered : (d : ℕ) → ¬ (Given (lookupRows side l t) 0 d)
-  numbered d (inl p) = omega (arith, p .0)
-  numbered d (inr (_, inl p)) = omega (arith, p .0)
-  numbered d (inr (_, inr (_, inl p))) = omega (arith, p .0)
-  numbered d (inr (_, inr (_, inr (_, p)))) = p
-
   -- "which answers 0 and 0 exactly if the lookup is accepted"
   pub judge-zero : ((numberOf (answerSays (judgeAnswer side l t)) ≡ 0) × (detailOf (answerSays (judgeAnswer side l t)) ≡ 0)) ↔ LookupFits side l t
-  judge-zero = (λ p. judge-accepts .0 (go (judgeAnswer side l t) refl (p .0)), λ a. rw (judge-accepts .1 a) (refl, refl))
-    where
-      go : (a : Answer) → judgeAnswer side l t ≡ a → numberOf (answerSays a) ≡ 0 → answerSays (judgeAnswer side l t) ≡ accepted
-      go Accepted e z = rw e
-      go (Refused n d) e z = absurd (numbered d (rw z at (judge-follows side l t .refuses n d .0 (ap answerSays e))))
+  judge-zero = (
+    λ p. clear-fits (judge-follows side l t .accepts .0 (zero-accepts (lookupRows side l t) _ (judge-follows side l t) refl .0 (p .0))),
+    λ a. rw (judge-accepts .1 a) (refl, refl),
+  )
 
   -- the part of an accepted lookup
   pub lookup-part : LookupFits side l t → neighboursOf side l t ≡ part (startsOn side l) (wordsOn side l) t

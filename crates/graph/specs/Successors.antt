@@ -18,7 +18,7 @@ use Rattle.graph.specs.Check.{checkAnswer}
 unfoldable pub succsBelow : Graph → ℕ → ℕ → List ℕ
 succsBelow g n u = joined n (λ t. replicate (occ u (predsOf g t)) t)
 
--- "Successors .., same shape, each task's successors rising"
+-- "successors E, same shape, each task's successors rising"
 abbrev pub succsOf : Graph → ℕ → List ℕ
 succsOf g u = succsBelow g (g .tasks) u
 

@@ -18,7 +18,7 @@ use Rattle.replies.specs.Replies.{replyOf}
 
 -- limits on N and E; the others are the engine's
 abbrev pub limitsOf : ℕ → ℕ → Limits
-limitsOf n e = record { tasks = n; edges = e; workers = engine .workers; slots = engine .slots }
+limitsOf tasks edges = record { tasks = tasks; edges = edges; workers = engine .workers; slots = engine .slots }
 
 -- side 0 is that of the predecessors, any other that of the successors
 abbrev pub sideOf : ℕ → Side

@@ -27,19 +27,19 @@ fn limits(tasks: usize, edges: usize) -> Limits
     }
 }
 
-// The graph check alone.
+// The graph check alone, with these limits on N and E.
 #[no_mangle]
 pub extern "C" fn yolluvek_check_graph(
-    tasks: usize,
-    edges: usize,
+    most_tasks: usize,
+    most_edges: usize,
     weights: &[u32],
     starts: &[u32],
     preds: &[u32],
 ) -> Reply
-    ensures { λ r. ⌜ r ≡ replyOf (checkAnswer (limitsOf tasks edges) true true (now (weights .entry)) (now (starts .entry)) (now (preds .entry))) ⌝ }
+    ensures { λ r. ⌜ r ≡ replyOf (checkAnswer (limitsOf «most_tasks» «most_edges») true true (now (weights .entry)) (now (starts .entry)) (now (preds .entry))) ⌝ }
 {
     replies::reply_of(graph_check::check_graph(
-        limits(tasks, edges),
+        limits(most_tasks, most_edges),
         true,
         true,
         weights,
@@ -48,11 +48,11 @@ pub extern "C" fn yolluvek_check_graph(
     ))
 }
 
-// The check, and where it accepts successor starts, successors and degrees.
+// The same check, and where it accepts successor starts, successors and degrees.
 #[no_mangle]
 pub extern "C" fn yolluvek_link_graph(
-    tasks: usize,
-    edges: usize,
+    most_tasks: usize,
+    most_edges: usize,
     weights: &[u32],
     starts: &[u32],
     preds: &[u32],
@@ -60,9 +60,9 @@ pub extern "C" fn yolluvek_link_graph(
     succs: &mut [u32],
     degrees: &mut [u32],
 ) -> Reply
-    ensures { λ r. ⌜ repliedOf r (now («succ_starts» .exit)) (now (succs .exit)) (now (degrees .exit)) ≡ replied (linked (limitsOf tasks edges) (now (weights .entry)) (now (starts .entry)) (now (preds .entry)) (now («succ_starts» .entry)) (now (succs .entry)) (now (degrees .entry))) ⌝ }
+    ensures { λ r. ⌜ repliedOf r (now («succ_starts» .exit)) (now (succs .exit)) (now (degrees .exit)) ≡ replied (linked (limitsOf «most_tasks» «most_edges») (now (weights .entry)) (now (starts .entry)) (now (preds .entry)) (now («succ_starts» .entry)) (now (succs .entry)) (now (degrees .entry))) ⌝ }
 {
-    let within = limits(tasks, edges);
+    let within = limits(most_tasks, most_edges);
     replies::reply_of(link::link_graph(within, weights, starts, preds, succ_starts, succs, degrees))
 }
 

@@ -12,7 +12,7 @@ use Rattle.layout.specs.Marks.{Line}
 use Rattle.layout.specs.Tasks.{Task, edgesOf, Tables, tablesOf}
 use Rattle.layout.specs.Layout.{Keeps, Spells}
 use Rattle.layout.specs.Reader.{lines, spelled, verdict, readAs, onto, laid, readText}
-use Rattle.layout.specs.Promises.{Beyond, Exceeds, Lent, Within}
+use Rattle.layout.specs.Tables.{Beyond, Exceeds, Lent, Within}
 use Rattle.layout.proofs.Tables.{weights-length}
 use Rattle.layout.proofs.Lines.{lines-are}
 use Rattle.layout.proofs.Unique.{keeps-unique, spells-keeps}

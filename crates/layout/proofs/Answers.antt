@@ -13,7 +13,7 @@ use Rattle.task.specs.Refusals.{wrongLength, beyondLimit, brokenLayout}
 use Rattle.task.specs.declared.ReadAnswer.the-variants.{Refused, Accepted}
 use Rattle.layout.specs.Tasks.{Task, weightsOf, startsOf, predsOf, edgesOf}
 use Rattle.layout.specs.Reader.{Verdict, spelled, broken, over, verdict, readAs, onto, laid, lentFit, readText}
-use Rattle.layout.specs.Promises.{LentWrong, Lent}
+use Rattle.layout.specs.Tables.{LentWrong, Lent}
 
 module _ (w s p : List ℕ) where
   pub laid-spelled : (xs : List Task)

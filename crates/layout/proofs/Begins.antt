@@ -9,7 +9,7 @@ use Rattle.lists.proofs.Appends.{take-part}
 use Rattle.layout.specs.Marks.{Each, Line, Numbers}
 use Rattle.layout.specs.Tasks.{Task, emptyTask, tablesOf}
 use Rattle.layout.specs.Layout.{NoLf, Lines, Reads, Content, taskRows, Job, Keeps}
-use Rattle.layout.specs.Promises.{Begins, Fits}
+use Rattle.layout.specs.Tables.{Begins, Fits}
 use Rattle.layout.proofs.Each.{each-append}
 use Rattle.layout.proofs.Lines.{joinLines, lines-joined}
 use Rattle.layout.proofs.Fields.{row-line}

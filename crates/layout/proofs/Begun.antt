@@ -12,7 +12,7 @@ use Rattle.lists.proofs.Appends.{no-members}
 use Rattle.layout.specs.Marks.{Numbers}
 use Rattle.layout.specs.Tasks.{Task, emptyTask, edgesOf}
 use Rattle.layout.specs.Layout.{taskRow, taskRows, Job}
-use Rattle.layout.specs.Promises.{Beyond}
+use Rattle.layout.specs.Tables.{Beyond}
 use Rattle.layout.proofs.TaskRows.{Dummies, Given, rows-append, rows-length, row-at, rows-edges}
 
 -- done are the first of n + 2 tasks

@@ -9,7 +9,7 @@ use Rattle.layout.specs.Marks.{Each}
 use Rattle.layout.specs.Tasks.{weightsOf, startsFrom, predsOf}
 use Rattle.layout.specs.Layout.{Spells}
 use Rattle.layout.specs.Reader.{lines, trim, skipped, fields, digits, valueOf, rowOf, taskOf, contents, tasksFrom, Verdict, spelled, broken, over, verdict}
-use Rattle.layout.specs.Promises.{Beyond}
+use Rattle.layout.specs.Tables.{Beyond}
 use Rattle.layout.proofs.Tables.{task, tables}
 use Rattle.layout.proofs.Accepted.{spells-verdict}
 

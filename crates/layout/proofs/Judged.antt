@@ -15,7 +15,7 @@ use Rattle.layout.specs.Tasks.{Task, edgesOf}
 use Rattle.layout.specs.Layout.{Reads, taskRow, Job, Keeps}
 use Rattle.layout.specs.Reader.{lines, skipped, rowOf, taskOf, numbered, contents}
 use Rattle.layout.specs.Reader.{Verdict, spelled, broken, over, more, tasksFrom, headed, fromFirst, verdict}
-use Rattle.layout.specs.Promises.{Beyond, Fits, Exceeds}
+use Rattle.layout.specs.Tables.{Beyond, Fits, Exceeds}
 use Rattle.layout.proofs.Clauses.{contents-nil, contents-skip, contents-line, all-read, line-after, ends-early, one-more, verdict-is}
 use Rattle.layout.proofs.Tables.{no-edges}
 use Rattle.layout.proofs.Fields.{row-reads}

@@ -12,7 +12,7 @@ use Rattle.layout.specs.Marks.{Line, Numbers}
 use Rattle.layout.specs.Tasks.{Task}
 use Rattle.layout.specs.Layout.{Reads, Content, Job}
 use Rattle.layout.specs.Reader.{skipped, rowOf}
-use Rattle.layout.specs.Promises.{Beyond, Fits, Exceeds}
+use Rattle.layout.specs.Tables.{Beyond, Fits, Exceeds}
 use Rattle.layout.proofs.Fields.{skipped-yes, skipped-no, reads-row}
 use Rattle.layout.proofs.Contents.{content-unique, content-append, content-split, content-skip}
 use Rattle.layout.proofs.TaskRows.{beyond-more}

@@ -17,7 +17,7 @@ use Rattle.layout.specs.Marks.{Line, Numbers}
 use Rattle.layout.specs.Tasks.{Task, Tables, edgesOf, tablesOf}
 use Rattle.layout.specs.Layout.{NoLf, Lines, Keeps, Spells}
 use Rattle.layout.specs.Reader.{Verdict, spelled, broken, over, verdict, Read, readAs, laid, readText}
-use Rattle.layout.specs.Promises.{Begins, Breaks, Beyond, Fits, Exceeds, LentWrong, readerRows}
+use Rattle.layout.specs.Tables.{Begins, Breaks, Beyond, Fits, Exceeds, LentWrong, readerRows}
 use Rattle.layout.proofs.Each.{each-take}
 use Rattle.layout.proofs.Unique.{spells-keeps}
 use Rattle.layout.proofs.Lines.{lines-unique, lines-free}

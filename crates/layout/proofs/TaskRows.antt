@@ -16,7 +16,7 @@ use Rattle.layout.specs.Marks.{Numbers}
 use Rattle.layout.specs.Tasks.{Task, emptyTask, predsOf, edgesOf}
 use Rattle.layout.specs.Layout.{taskRow, taskRows}
 use Rattle.layout.specs.Reader.{dummyFits, taskOf}
-use Rattle.layout.specs.Promises.{Beyond}
+use Rattle.layout.specs.Tables.{Beyond}
 use Rattle.layout.proofs.Clauses.{task-some, task-is}
 
 -- what `dummyFits` tests

@@ -8,7 +8,7 @@ use lib.ListN.{length}
 use Rattle.layout.specs.Marks.{Blank, Digit, Each, Line, Numbers}
 use Rattle.layout.specs.Tasks.{Task, Tables, tablesOf}
 use Rattle.layout.specs.Layout.{NoLf, Skipped, Content, Reads, taskRows, Job, Spells}
-use Rattle.layout.specs.Promises.{Writable}
+use Rattle.layout.specs.Tables.{Writable}
 use Rattle.layout.proofs.Each.{each-append, each-map}
 use Rattle.layout.proofs.Lines.{joinLines, lines-joined}
 use Rattle.layout.proofs.Begins.{HasLine, row-lines}

@@ -1,4 +1,4 @@
--- "Task text. Standard Task Graph Set, without communication costs": which texts spell which graph.
+-- "Standard Task Graph Set, without communication costs.": which texts spell which graph.
 use Prim.Native.Nat.{ℕ, suc, _+_, _*_, _-_, _≤_}
 use mathlib.Core.Path.{_≡_}
 use mathlib.Core.Logic.{_⊎_}

@@ -4,4 +4,4 @@ pub mod Layout
 pub mod Alike
 pub mod Reader
 pub mod Scan
-pub mod Promises
+pub mod Tables

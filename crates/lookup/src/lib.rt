@@ -91,7 +91,8 @@ fn part_at<'a>(starts: &[u32], words: &'a [u32], t: usize) -> &'a [u32]
 }
 
 // The neighbours on the side named; a refused lookup hands back an empty part. Only the two tables can be handed back: no
-// other list has the result's lifetime.
+// other list has the result's lifetime. Left free: which of the two a refused lookup's empty part belongs to. The contract
+// equates words; the table is the type's to say, and the place `part_at`'s.
 pub fn neighbours<'a>(
     weights: &[u32],
     pred_starts: &[u32],

@@ -15,7 +15,7 @@ use Rattle.task.specs.declared.ReadAnswer.the-variants as read-answer
 use Rattle.layout.specs.Tasks.{Tables}
 use Rattle.layout.specs.Layout.{Spells}
 use Rattle.layout.specs.Reader.{Read, readAs, readText}
-use Rattle.layout.specs.Promises.{Lent, Within}
+use Rattle.layout.specs.Tables.{Lent, Within}
 use Rattle.layout.proofs.Accepted.{ReadAs, read-accepted}
 use Rattle.rules.specs.Memory.{Mem, tasks, entriesIn, acceptedIn}
 use Rattle.rules.specs.Sizes.{Fits}

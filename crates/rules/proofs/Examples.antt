@@ -2,6 +2,7 @@
 -- that they leave.
 use Prim.Native.Nat.{ℕ, _+_, _*_}
 use mathlib.Core.Path.{_≡_, refl}
+use mathlib.Core.Bool.{true}
 use mathlib.Core.List.{List, [], _∷_}
 use native.Mathlib.Decide.{ℕ-discrete, decLe, decLt}
 use lib.ListN.{length, drop, replicate}
@@ -24,7 +25,7 @@ use Rattle.graph.specs.Successors.{succsBelow, succStart, succStarts, succWords
 use Rattle.ring.specs.Ring.{capacity, slotAt, endsAt, storeEnds, sound, empty, full, headOn, tailOn}
 use Rattle.choice.specs.Least.{load, loads, leastFrom, least, target}
 use Rattle.choice.specs.Search.{search}
-use Rattle.rules.specs.Memory.{Mem, memOf, allSteps, allEntries}
+use Rattle.rules.specs.Memory.{Mem, memOf, allSteps, allEntries, entriesIn, acceptedIn}
 use Rattle.rules.specs.Sizes.{numbersFit, othersFit, lengthsFit}
 use Rattle.rules.specs.Words.{countersFit}
 use Rattle.rules.specs.Updates.{putEnds, putEntries, putRow, updated, written}
@@ -132,6 +133,12 @@ pub record Examples : Type 0 where
   pub sixtyFive : says 2 65 (by 0 Start) (fresh 2 4 diamond) ≡ refused 2 0
   pub sixteenWorkers : beginSays 16 2 (lent 16 2 [] (0 ∷ []) []) ≡ accepted
   pub sixtyFourSlots : beginSays 1 64 (lent 1 64 [] (0 ∷ []) []) ≡ accepted
+  -- 2: N 1,025, E 8,193 and weight 65,536, but not N 1,024, E 8,192 and weight 65,535
+  pub mostTasksAndEdges : sizesFit engine 1024 8192 ≡ true
+  pub tooManyTasks : beginSays 1 2 (lent 1 2 (replicate 1025 0) (replicate 1026 0) []) ≡ refused 2 0
+  pub tooManyEdges : beginSays 1 2 (lent 1 2 (0 ∷ []) (0 ∷ 8193 ∷ []) (replicate 8193 0)) ≡ refused 2 0
+  pub greatestWeight : beginSays 1 2 (lent 1 2 (65535 ∷ []) (0 ∷ 0 ∷ []) []) ≡ accepted
+  pub tooHeavy : beginSays 1 2 (lent 1 2 (65536 ∷ []) (0 ∷ 0 ∷ []) []) ≡ refused 2 0
   -- 3: "N 2, predecessor 2"
   pub three : beginSays 1 2 (lent 1 2 (0 ∷ 0 ∷ []) (0 ∷ 0 ∷ 1 ∷ []) (2 ∷ [])) ≡ refused 3 1
   -- 4: "task 3: 1, 1"
@@ -158,9 +165,11 @@ pub record Examples : Type 0 where
       (2 ∷ 1 ∷ []) (1 ∷ 1 ∷ []) (pos 0 ∷ []) (0 ∷ 0 ∷ 0 ∷ []) (0 ∷ 0 ∷ 1 ∷ 0 ∷ 2 ∷ 0 ∷ []) (3 ∷ 11 ∷ []) (rowOf 0 65535 0 1 1 0 ∷ []))
   -- 12: "entries word N, phase 2"
   pub twelve : says 2 2 (by 0 Complete) (written (putEntries 1 ∷ putRow 0 (rowOf 2 0 0 0 0 0) ∷ []) (fresh 2 2 single)) ≡ refused 12 0
-  -- N 0: "0 steps, begun is finished", and nothing is left to do
+  -- N 0: "0 steps, begun is finished": as begun, the run words are what they are at the end of a run; and nothing is left to do
   pub noSteps : allSteps (fresh 1 2 nothing) ≡ 0
   pub noEntries : allEntries (fresh 1 2 nothing) ≡ 0
+  pub allAccepted : acceptedIn (fresh 1 2 nothing) ≡ allSteps (fresh 1 2 nothing)
+  pub allRecorded : entriesIn (fresh 1 2 nothing) ≡ allEntries (fresh 1 2 nothing)
   pub noTasks : Runs 1 2 nothing
       (by 0 Fetch ∷ by 0 Start ∷ by 0 Complete ∷ by 0 Release ∷ [])
       (refused 10 0 ∷ refused 9 0 ∷ refused 9 0 ∷ refused 10 0 ∷ [])
@@ -206,6 +215,11 @@ examples =
       sixtyFive = refl;
       sixteenWorkers = refl;
       sixtyFourSlots = refl;
+      mostTasksAndEdges = refl;
+      tooManyTasks = refl;
+      tooManyEdges = refl;
+      greatestWeight = refl;
+      tooHeavy = refl;
       three = refl;
       four = refl;
       five = refl;
@@ -218,6 +232,8 @@ examples =
       twelve = refl;
       noSteps = refl;
       noEntries = refl;
+      allAccepted = refl;
+      allRecorded = refl;
       noTasks = record { begins = refl; answered = refl; leaves = refl };
       rooted = refl;
       rootsFetched = record { begins = refl; answered = refl; leaves = refl };

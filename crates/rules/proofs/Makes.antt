@@ -9,14 +9,13 @@ use lib.Dec.{leb, eqb}
 use borrow.Author.Tests.{lt-ltb, le-leb, eq-eqb, ne-eqb}
 use Rattle.lists.proofs.Told.{told-pass, told-fail}
 use Rattle.task.specs.Phases.{suits, nextPhase}
-use Rattle.task.specs.Refusals.{stepSays}
+use Rattle.task.specs.Refusals.{outcomeSays, stepSays}
 use Rattle.task.specs.Rows.{Acceptance}
 use Rattle.task.specs.declared.Limits.{Limits}
 use Rattle.task.specs.declared.Row.{Row}
 use Rattle.task.specs.declared.Step.{Step}
 use Rattle.task.specs.declared.Step.the-variants.{Fetch, Start, Complete, Release}
 use Rattle.task.specs.declared.StepOutcome.{StepOutcome}
-use Rattle.task.specs.declared.StepAnswer.the-variants.{Accepted}
 use Rattle.lists.specs.Circles.{after}
 use Rattle.graph.specs.Conditions.{Good}
 use Rattle.ring.specs.Ring.{headOn, tailOn}
@@ -150,9 +149,9 @@ module _ (limits : Limits) (p k i : ℕ) (s : Step) (m : Mem) where
 
   -- a step that is allowed is accepted, with that outcome and those updates
   pub made-accepted : (o : StepOutcome) (us : List Update) → Allowed limits p k i s m o us
-      → (step limits p k i s m .answer ≡ Accepted o) × (step limits p k i s m .memory ≡ written (putAccepted (acceptedIn m + 1) ∷ us) m)
+      → (stepSays (step limits p k i s m .answer) ≡ outcomeSays o) × (step limits p k i s m .memory ≡ written (putAccepted (acceptedIn m + 1) ∷ us) m)
   unfolding step carriedOut
-  made-accepted o us r = (ap (λ (plan : Plan). carriedOut plan m .answer) q, ap (λ (plan : Plan). carriedOut plan m .memory) q)
+  made-accepted o us r = (ap (λ (plan : Plan). stepSays (carriedOut plan m .answer)) q, ap (λ (plan : Plan). carriedOut plan m .memory) q)
     where
       q : stepPlan limits p k i s m ≡ accept o (withCount m us)
       q =

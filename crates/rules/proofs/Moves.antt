@@ -257,7 +257,7 @@ accepted-step limits p k i s m a = go (stepPlan limits p k i s m) refl a
           outcome = o;
           updates = r .others;
           allowed = r .allowed;
-          answered = ap (λ (plan : Plan). carriedOut plan m .answer) e;
+          answered = ap (λ (plan : Plan). stepSays (carriedOut plan m .answer)) e;
           left = ap (λ (plan : Plan). carriedOut plan m .memory) (e ∙ ap (accept o) (r .whole));
         }
 

@@ -7,6 +7,7 @@ use mathlib.Core.List.{List, [], _∷_}
 use lib.IntN.{pos, _+ℤ_, _-ℤ_}
 use Rattle.task.specs.Types.{nil}
 use Rattle.task.specs.Phases.{suits}
+use Rattle.task.specs.Refusals.{outcomeSays, stepSays}
 use Rattle.task.specs.declared.Limits.{Limits}
 use Rattle.task.specs.declared.Row.{Row}
 use Rattle.task.specs.declared.Step.{Step}
@@ -14,7 +15,6 @@ use Rattle.task.specs.declared.Step.the-variants.{Fetch, Start, Complete, Relea
 use Rattle.task.specs.declared.StepOutcome.{StepOutcome}
 use Rattle.task.specs.declared.StepOutcome.the-variants.{Moved, Fetched, Released}
 use Rattle.task.specs.declared.ReleaseOutcome.the-variants.{DegreeLeft, Placed}
-use Rattle.task.specs.declared.StepAnswer.the-variants.{Accepted}
 use Rattle.ring.specs.Ring.{slotAt, Empty, Full}
 use Rattle.choice.specs.Least.{Target}
 use Rattle.rules.specs.Memory.{Mem, tasks, edges, ringNumber, endsIn, headWord, counterIn, weightIn, degreeIn, firstSucc, pastSucc, succCount, bufferAt, rowIn, withHand, withPointer, withPlaces, held, entriesIn, acceptedIn, oldest, successor}
@@ -171,7 +171,7 @@ pub record AcceptedStep (limits : Limits) (p k i : ℕ) (s : Step) (m : Mem) : T
   pub outcome : StepOutcome
   pub updates : List Update
   pub allowed : Allowed limits p k i s m outcome updates
-  pub answered : step limits p k i s m .answer ≡ Accepted outcome
+  pub answered : stepSays (step limits p k i s m .answer) ≡ outcomeSays outcome
   -- "Each accepted step adds 1 to the accepted word."
   pub left : step limits p k i s m .memory ≡ written (putAccepted (acceptedIn m + 1) ∷ updates) m
 

@@ -1,5 +1,5 @@
 -- What follows for a run at any time: no task is recorded before its predecessors, no two workers hold one task; and for a finished one: it
--- records the same tasks as any other of its graph, and accepts no further step.
+-- records the same tasks as any other of its graph, and accepts no further step. With N 0 begun is finished.
 use Prim.Native.Nat.{ℕ, _<_}
 use mathlib.Core.Path.{_≡_, refl, sym, ap, _∙_}
 use mathlib.Core.Logic.{inl, inr}
@@ -12,32 +12,36 @@ use Rattle.lists.proofs.Decided.{stable, both?}
 use Rattle.lists.proofs.Blocks.{getD-tabulate}
 use Rattle.lists.proofs.Occurrences.{occ-hit, at-occ}
 use Rattle.lists.proofs.Positions.{place-member, place-at, place-least, before-member}
-use Rattle.task.specs.Refusals.{stepSays, refused, recordFull, numberOf}
+use Rattle.task.specs.Types.{engine}
+use Rattle.task.specs.Refusals.{answerSays, stepSays, refused, recordFull, numberOf}
 use Rattle.task.specs.Rows.{Acceptance, Given}
 use Rattle.task.specs.declared.Limits.{Limits}
 use Rattle.task.specs.declared.Step.{Step}
 use Rattle.task.specs.declared.Step.the-variants.{Complete}
 use Rattle.graph.specs.Graph.{Graph, predsOf, Edge}
+use Rattle.graph.specs.Conditions.{EndsFit}
 use Rattle.exchange.specs.Pairs.{eachOnce}
-use Rattle.rules.specs.Memory.{Mem, graphIn, rowIn, held, entriesIn}
+use Rattle.rules.specs.Memory.{Mem, tasks, graphIn, rowIn, held, entriesIn}
 use Rattle.rules.specs.Steps.{step}
+use Rattle.rules.specs.Begin.{begin}
 use Rattle.rules.specs.Tables.{completeRows, stepRows}
+use Rattle.rules.proofs.Examples.{nothing, examples}
 use Rattle.rules.proofs.Moves.{accepted-step}
 use Rattle.rules.proofs.Follows.{step-follows}
-use Rattle.rules.proofs.Numbers.{TwoOrOne, other-step}
+use Rattle.rules.proofs.Numbers.{TwoOrOne, other-step, other-begin}
 use Rattle.algorithm1.specs.Reading.{threadIn}
 use Rattle.algorithm1.proofs.Readings.{thread-at}
 use Rattle.system.specs.Stages.{inHand}
 use Rattle.system.proofs.Progress as progress
 use Rattle.runs.specs.Calls.{Run, memoryOf, eventsOf}
-use Rattle.runs.specs.Demand.{acceptedCompletes, Finished, taskWord, orderOf, OneGraph}
+use Rattle.runs.specs.Demand.{acceptedSteps, acceptedCompletes, Finished, taskWord, orderOf, OneGraph}
 use Rattle.runs.proofs.Invariant.{itemsOf, meaning}
 use Rattle.runs.proofs.Calls.{graph-reached}
 use Rattle.runs.proofs.Begun.{items-reversed}
 use Rattle.runs.proofs.Hands.{hand-holds}
 use Rattle.runs.proofs.Events.{entries-word}
 use Rattle.runs.proofs.Honest.{systemIn, honest-run}
-use Rattle.runs.proofs.Demand.{run-sound, invariant-run, recorded, recorded-words, recorded-length, finished-count, finished-full, finished-order, running-open}
+use Rattle.runs.proofs.Demand.{run-sound, invariant-run, recorded, recorded-words, recorded-length, finished-count, finished-full, finished-order, running-open, demand-3}
 
 module _ (r : Run) where
   abbrev p : ℕ
@@ -106,6 +110,32 @@ pub no-more : (r : Run) → Finished r → (limits : Limits) (p k i : ℕ) (s : 
 no-more r f limits p k i s a =
     omega (arith, accepted-step limits p k i s (memoryOf r) a .allowed .low, finished-count r (finished-full r f))
 
+-- N 0: "0 steps, begun is finished", whatever is called
+pub nothing-finished : (r : Run) → _≡_ {A = ℕ} (tasks (r .lent)) 0 → Finished r × (_≡_ {A = ℕ} (acceptedSteps (eventsOf r)) 0)
+nothing-finished r none = (finished, omega (arith, none, demand-3 .one r .steps finished, rw none at (ends .last), ends .first))
+  where
+    finished : Finished r
+    finished = record { completes = omega (arith, none) }
+
+    ends : EndsFit (graphIn (r .lent))
+    ends = rw (graph-reached r) at (run-sound r .ends)
+
+-- the run on the table's N 0, begun and not called
+abbrev pub begunAlone : Run
+begunAlone = record { limits = engine; workers = 1; slots = 2; lent = nothing; accepts = examples .noTasks .begins; calls = [] }
+
+pub begun-finished : Finished begunAlone × (_≡_ {A = ℕ} (acceptedSteps (eventsOf begunAlone)) 0)
+begun-finished = nothing-finished begunAlone refl
+
+-- "A call with another P or K than begin's meets 2 or 1.", a step or a begin, at any time of the run
+pub other-numbers : (r : Run) (p k : ℕ) → ¬ ((p ≡ r .workers) × (k ≡ r .slots))
+    → ((i : ℕ) (s : Step) → TwoOrOne (stepSays (step (r .limits) p k i s (memoryOf r) .answer)))
+    × TwoOrOne (answerSays (begin (r .limits) p k (memoryOf r) .answer))
+other-numbers r p k n = (
+  other-step (r .limits) (r .workers) (r .slots) p k (memoryOf r) (honest-run r .fits .lengths) n,
+  other-begin (r .limits) (r .workers) (r .slots) p k (memoryOf r) (honest-run r .fits .lengths) n,
+)
+
 -- in memory begun and stepped by the engine Complete never meets 12, whatever P, K and worker
 pub never-full : (r : Run) (p k i d : ℕ) → ¬ (stepSays (step (r .limits) p k i Complete (memoryOf r) .answer) ≡ refused recordFull d)
 never-full r p k i d e = go (both? p k (r .workers) (r .slots))
@@ -137,7 +167,7 @@ never-full r p k i d e = go (both? p k (r .workers) (r .slots))
 
     go : Dec ((p ≡ r .workers) × (k ≡ r .slots)) → ⊥
     go (yes (ep, ek)) = given p k ep (step-follows (r .limits) p k i Complete (memoryOf r) .refuses recordFull d .0 e)
-    go (no n) = other (other-step (r .limits) (r .workers) (r .slots) p k (memoryOf r) (honest-run r .fits .lengths) n i Complete)
+    go (no n) = other (other-numbers r p k n .0 i Complete)
       where
         other : TwoOrOne (stepSays (step (r .limits) p k i Complete (memoryOf r) .answer)) → ⊥
         other (inl q) = omega (arith, ap numberOf (sym e ∙ q))

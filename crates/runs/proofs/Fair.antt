@@ -13,7 +13,7 @@ use borrow.Author.Tests.{eq-eqb, ne-eqb}
 use Rattle.lists.proofs.Told.{cond-either}
 use Rattle.lists.proofs.Circles.{mod-reached}
 use Rattle.lists.proofs.Places.{place-lt}
-use Rattle.task.specs.Refusals.{Said, taskFetched, outcomeSays, stepSays}
+use Rattle.task.specs.Refusals.{Said, taskFetched, outcomeSays}
 use Rattle.task.specs.declared.Limits.{Limits}
 use Rattle.task.specs.declared.Step.{Step}
 use Rattle.task.specs.declared.Step.the-variants.{Fetch, Start, Complete, Release}
@@ -119,7 +119,7 @@ module _ (limits : Limits) (p k : ℕ) where
 
       answer : says limits this m ≡ taskFetched (fetch .task)
       unfolding says
-      answer = ap stepSays (a .answered) ∙ ap outcomeSays (fetch .outcome)
+      answer = a .answered ∙ ap outcomeSays (fetch .outcome)
 
       fetch-owned : owned limits owner this m ≡ true
       fetch-owned = rw (eq-eqb owner owner refl, answer) refl

@@ -1,3 +1,4 @@
 pub mod PhaseTable
 pub mod Rows
 pub mod Counters
+pub mod Said
