@@ -13,7 +13,7 @@ use prog.Memory.{Memory}
 use prog.Routine.{Routine}
 use prog.Wp.{Heap, Calls, Loops, WpFn, Tables}
 use ghost.Atoms.{Atoms}
-use contract.Lifetimes.{Lfts}
+use contract.Lifetimes.{Lfts, Shares}
 use contract.Monad.{Fun, fact}
 use contract.Running.{givenOf, tables, tablesOf}
 use types.Kit.{Given, Item, ‵, raw, some, later, _⊛_, ⋆, _$_, _∵_, !, qed, by, move, keep, use1, split, join, pick, fsplit, fjoin, feqL, group, suffices, frame, await, done}
@@ -26,11 +26,11 @@ use denote.Plain.{uint-makes, uint-vals, uint-tells}
 use denote.Builtin.{usize, u32, i32}
 use denote.Ref.{RefT}
 use denote.Slice.{sliceVal, MutSlice, ShrSlice, Room, slice-vals, mut-slice-tells, shr-slice-tells, shr-slice-copy, finally}
-use denote.Signature.{plain}
+use denote.Signature.{plain, typesAt}
 use denote.Steps.{owned, peeks, heard, nothing}
 use denote.Struct.Laws as LL
 use denote.Enum.Laws as EL
-use denote.Triple.Entry.{onEntry, Args}
+use denote.Triple.Entry.{onEntry, Args, Vals}
 use denote.Triple.Spec.{Meets, tripleOf}
 use denote.Triple.Statement.{Contract, Triple}
 use denote.Triple.Call.{calls-at}
@@ -52,12 +52,13 @@ use Rattle.task.proofs.StepAnswer as An
 use Rattle.task.proofs.StepAnswer.Laws as An′
 use Rattle.rules.specs.Memory.{memOf}
 use Rattle.rules.specs.Steps.{step}
-use Rattle.rules.specs.Plans.{resultOf}
+use Rattle.engine.specs.Engine.{result}
 use Rattle.row_list.proofs.Laws.{R, worker-val, worker-is}
 use Rattle.replies.specs.declared.StepReply.{StepReply}
 use Rattle.replies.specs.Replies.{stepReplyOf}
 use Rattle.replies.proofs.StepReply as Rp
 use Rattle.replies.proofs.StepReply.Laws as Rp′
+use Rattle.engine_ref.proofs.Lists.{sliceOf}
 use Rattle.engine_export.proofs.Laws.{step-reply}
 use Rattle.engine_export.proofs.Calls.{limits-engine-triple, to-limits, said-limits, step-reply-of-triple, to-step-reply-of, asked-step-reply-of, said-step-reply-of}
 use Rattle.task.proofs.Limits.engine as limits-engine
@@ -84,93 +85,57 @@ abbrev stayed : Stays (fn.ended .signature .params) (fn.ended .kept)
 stayed = (stay-none-slice (0 ∷ []) tt (plain (λ _. u32)) yes, (stay-none-slice (1 ∷ []) tt (plain (λ _. u32)) yes, (stay-none-slice (2 ∷ []) tt (plain (λ _. u32)) yes, (stay-none-slice (3 ∷ []) tt (plain (λ _. u32)) yes, (stay-none-slice (4 ∷ []) tt (plain (λ _. u32)) yes, (stay-none-slice (5 ∷ []) tt (plain (λ _. u32)) yes, (stay-none-slice (6 ∷ []) tt (plain (λ _. u32)) yes, (gave-slice (7 ∷ []) tt (plain (λ _. u32)), (gave-slice (8 ∷ []) tt (plain (λ _. i32)), (stay-none-slice (9 ∷ []) tt (plain (λ _. u32)) yes, (stay-none-slice (10 ∷ []) tt (plain (λ _. u32)) yes, (gave-slice (11 ∷ []) tt (plain (λ _. u32)), (gave-slice (12 ∷ []) tt (plain (λ _. R)), (stay-none (λ _. usize) yes, (stay-none (λ _. usize) yes, (stay-none (λ _. u32) yes, tt))))))))))))))))
 
 module _ {M : Type 1} (𝓤 : URA M) (H : Heap 𝓤) (A : Atoms 𝓤) (W : Given 𝓤 H A) (mem : Memory → SProp 𝓤) (run : Routine → Fun 𝓤)
-    (κ0 : Lft) (q0 : Share) (x0 : RefT (List ℕ))
-    (κ1 : Lft) (q1 : Share) (x1 : RefT (List ℕ))
-    (κ2 : Lft) (q2 : Share) (x2 : RefT (List ℕ))
-    (κ3 : Lft) (q3 : Share) (x3 : RefT (List ℕ))
-    (κ4 : Lft) (q4 : Share) (x4 : RefT (List ℕ))
-    (κ5 : Lft) (q5 : Share) (x5 : RefT (List ℕ))
-    (κ6 : Lft) (q6 : Share) (x6 : RefT (List ℕ))
-    (κ7 : Lft) (q7 : Share) (x7 : RefT (List ℕ))
-    (κ8 : Lft) (q8 : Share) (x8 : RefT (List ℤ))
-    (κ9 : Lft) (q9 : Share) (x9 : RefT (List ℕ))
-    (κ10 : Lft) (q10 : Share) (x10 : RefT (List ℕ))
-    (κ11 : Lft) (q11 : Share) (x11 : RefT (List ℕ))
+    (κ0 : Lft) (q0 : Share) (weights : RefT (List ℕ))
+    (κ1 : Lft) (q1 : Share) (pred-starts : RefT (List ℕ))
+    (κ2 : Lft) (q2 : Share) (preds : RefT (List ℕ))
+    (κ3 : Lft) (q3 : Share) (succ-starts : RefT (List ℕ))
+    (κ4 : Lft) (q4 : Share) (succs : RefT (List ℕ))
+    (κ5 : Lft) (q5 : Share) (degrees : RefT (List ℕ))
+    (κ6 : Lft) (q6 : Share) (rings : RefT (List ℕ))
+    (κ7 : Lft) (q7 : Share) (ends : RefT (List ℕ))
+    (κ8 : Lft) (q8 : Share) (counters : RefT (List ℤ))
+    (κ9 : Lft) (q9 : Share) (buffers : RefT (List ℕ))
+    (κ10 : Lft) (q10 : Share) (executed : RefT (List ℕ))
+    (κ11 : Lft) (q11 : Share) (run-words : RefT (List ℕ))
     (κ : Lft) (q : Share) (b o : ℕ) (γ : GName) (ys : List Row)
     (p k i : ℕ) (p-fits : p < 2 ^ 64) (k-fits : k < 2 ^ 64) (i-fits : i < 2 ^ 32)
-    (room0 : Room u32 (length (x0 .now))) (room1 : Room u32 (length (x1 .now))) (room2 : Room u32 (length (x2 .now))) (room3 : Room u32 (length (x3 .now))) (room4 : Room u32 (length (x4 .now))) (room5 : Room u32 (length (x5 .now))) (room6 : Room u32 (length (x6 .now))) (room7 : Room u32 (length (x7 .now))) (room8 : Room i32 (length (x8 .now))) (room9 : Room u32 (length (x9 .now))) (room10 : Room u32 (length (x10 .now))) (room11 : Room u32 (length (x11 .now))) (room : Room R (length ys)) where
+    (room0 : Room u32 (length (weights .now))) (room1 : Room u32 (length (pred-starts .now))) (room2 : Room u32 (length (preds .now))) (room3 : Room u32 (length (succ-starts .now))) (room4 : Room u32 (length (succs .now))) (room5 : Room u32 (length (degrees .now))) (room6 : Room u32 (length (rings .now))) (room7 : Room u32 (length (ends .now))) (room8 : Room i32 (length (counters .now))) (room9 : Room u32 (length (buffers .now))) (room10 : Room u32 (length (executed .now))) (room11 : Room u32 (length (run-words .now))) (room : Room R (length ys)) where
   abbrev x : List Row → RefT (List Row)
   x l = record { ptr = (b, o); name = γ; now = l }
 
   abbrev s : Val
   s = sliceVal (b, o) (length ys)
 
-  abbrev s0 : Val
-  s0 = sliceVal (x0 .ptr) (length (x0 .now))
-
-  abbrev s1 : Val
-  s1 = sliceVal (x1 .ptr) (length (x1 .now))
-
-  abbrev s2 : Val
-  s2 = sliceVal (x2 .ptr) (length (x2 .now))
-
-  abbrev s3 : Val
-  s3 = sliceVal (x3 .ptr) (length (x3 .now))
-
-  abbrev s4 : Val
-  s4 = sliceVal (x4 .ptr) (length (x4 .now))
-
-  abbrev s5 : Val
-  s5 = sliceVal (x5 .ptr) (length (x5 .now))
-
-  abbrev s6 : Val
-  s6 = sliceVal (x6 .ptr) (length (x6 .now))
-
-  abbrev s7 : Val
-  s7 = sliceVal (x7 .ptr) (length (x7 .now))
-
-  abbrev s8 : Val
-  s8 = sliceVal (x8 .ptr) (length (x8 .now))
-
-  abbrev s9 : Val
-  s9 = sliceVal (x9 .ptr) (length (x9 .now))
-
-  abbrev s10 : Val
-  s10 = sliceVal (x10 .ptr) (length (x10 .now))
-
-  abbrev s11 : Val
-  s11 = sliceVal (x11 .ptr) (length (x11 .now))
-
   abbrev who : WorkerId
   who = record { 0 = i }
 
-  abbrev Arg : Type 0
-  Arg = RefT (List ℕ) × (RefT (List ℕ) × (RefT (List ℕ) × (RefT (List ℕ) × (RefT (List ℕ) × (RefT (List ℕ) × (RefT (List ℕ) × (RefT (List ℕ) × (RefT (List ℤ) × (RefT (List ℕ) × (RefT (List ℕ) × (RefT (List ℕ) × (RefT (List Row) × (ℕ × (ℕ × (ℕ × Unit {0})))))))))))))))
-
-  abbrev a : Arg
-  a = (x0, (x1, (x2, (x3, (x4, (x5, (x6, (x7, (x8, (x9, (x10, (x11, (x ys, (p, (k, (i, tt))))))))))))))))
-
-  abbrev At : Type 0
-  At = List Val × (List Val × (List Val × (List Val × (List Val × (List Val × (List Val × (List Val × (List Val × (List Val × (List Val × (List Val × (List Val × (List Val × (List Val × (List Val × (Unit {0}))))))))))))))))
-
-  abbrev at : At
-  at = (s0 ∷ [], (s1 ∷ [], (s2 ∷ [], (s3 ∷ [], (s4 ∷ [], (s5 ∷ [], (s6 ∷ [], (s7 ∷ [], (s8 ∷ [], (s9 ∷ [], (s10 ∷ [], (s11 ∷ [], (s ∷ [], (vint w64 p ∷ [], (vint w64 k ∷ [], (vint w32 i ∷ [], tt))))))))))))))))
-
-  abbrev Post : Val → SProp 𝓤
-  Post = walkOf 𝓤 H A fn.ended stayed (fn.clauses 𝓤 H A mem run) .post (((κ0, (κ1, (κ2, (κ3, (κ4, (κ5, (κ6, (κ7, (κ8, (κ9, (κ10, (κ11, (κ, tt))))))))))))), (q0, (q1, (q2, (q3, (q4, (q5, (q6, (q7, (q8, (q9, (q10, (q11, (q, tt))))))))))))), tt, a, at), tt)
-
-  -- the call is made with all lists, at their own lifetimes, shares and names
   abbrev κs : Lfts 13
   κs = (κ0, (κ1, (κ2, (κ3, (κ4, (κ5, (κ6, (κ7, (κ8, (κ9, (κ10, (κ11, (κ, tt)))))))))))))
 
+  abbrev qs : Shares 13
+  qs = (q0, (q1, (q2, (q3, (q4, (q5, (q6, (q7, (q8, (q9, (q10, (q11, (q, tt)))))))))))))
+
+  abbrev a : Args fn.signature κs
+  a = (weights, (pred-starts, (preds, (succ-starts, (succs, (degrees, (rings, (ends, (counters, (buffers, (executed, (run-words, (x ys, (p, (k, (i, tt))))))))))))))))
+
+  abbrev at : Vals fn.signature κs
+  at = (sliceOf weights ∷ [], (sliceOf pred-starts ∷ [], (sliceOf preds ∷ [], (sliceOf succ-starts ∷ [], (sliceOf succs ∷ [], (sliceOf degrees ∷ [], (sliceOf rings ∷ [], (sliceOf ends ∷ [], (sliceOf counters ∷ [], (sliceOf buffers ∷ [], (sliceOf executed ∷ [], (sliceOf run-words ∷ [], (s ∷ [], (vint w64 p ∷ [], (vint w64 k ∷ [], (vint w32 i ∷ [], tt))))))))))))))))
+
+  abbrev here : walkOf 𝓤 H A fn.ended stayed (fn.clauses 𝓤 H A mem run) .Ghost
+  here = ((κs, qs, tt, a, at), tt)
+
+  abbrev Post : Val → SProp 𝓤
+  Post = walkOf 𝓤 H A fn.ended stayed (fn.clauses 𝓤 H A mem run) .post here
+
+  -- the call is made with all lists, at their own lifetimes, shares and names
   abbrev call-args : Limits → Args fetch.signature κs
-  call-args lim = (lim, (x0, (x1, (x2, (x3, (x4, (x5, (x6, (x7, (x8, (x9, (x10, (x11, (x ys, (p, (k, (who, tt)))))))))))))))))
+  call-args lim = (lim, (weights, (pred-starts, (preds, (succ-starts, (succs, (degrees, (rings, (ends, (counters, (buffers, (executed, (run-words, (x ys, (p, (k, (who, tt)))))))))))))))))
 
   abbrev to-call : Limits → Val → fetch-triple 𝓤 H A mem run .Ghost
-  to-call lim v = ((κs, (q0, (q1, (q2, (q3, (q4, (q5, (q6, (q7, (q8, (q9, (q10, (q11, (q, tt))))))))))))), tt, call-args lim, (v ∷ [], (s0 ∷ [], (s1 ∷ [], (s2 ∷ [], (s3 ∷ [], (s4 ∷ [], (s5 ∷ [], (s6 ∷ [], (s7 ∷ [], (s8 ∷ [], (s9 ∷ [], (s10 ∷ [], (s11 ∷ [], (s ∷ [], (vint w64 p ∷ [], (vint w64 k ∷ [], (worker-val i ∷ [], tt)))))))))))))))))), tt)
+  to-call lim v = ((κs, qs, tt, call-args lim, (v ∷ [], (sliceOf weights ∷ [], (sliceOf pred-starts ∷ [], (sliceOf preds ∷ [], (sliceOf succ-starts ∷ [], (sliceOf succs ∷ [], (sliceOf degrees ∷ [], (sliceOf rings ∷ [], (sliceOf ends ∷ [], (sliceOf counters ∷ [], (sliceOf buffers ∷ [], (sliceOf executed ∷ [], (sliceOf run-words ∷ [], (s ∷ [], (vint w64 p ∷ [], (vint w64 k ∷ [], (worker-val i ∷ [], tt)))))))))))))))))), tt)
 
   abbrev Asked : List (Item 𝓤)
-  Asked = (‵ (flft κ0 q0) ⊛ ‵ (flft κ1 q1) ⊛ ‵ (flft κ2 q2) ⊛ ‵ (flft κ3 q3) ⊛ ‵ (flft κ4 q4) ⊛ ‵ (flft κ5 q5) ⊛ ‵ (flft κ6 q6) ⊛ ‵ (flft κ7 q7) ⊛ ‵ (flft κ8 q8) ⊛ ‵ (flft κ9 q9) ⊛ ‵ (flft κ10 q10) ⊛ ‵ (flft κ11 q11) ⊛ ‵ (flft κ q) ⊛ ‵ ftrue) ∷ ‵ (ShrSlice (named 0) κ0 u32 .own x0 (s0 ∷ [])) ∷ ‵ (ShrSlice (named 1) κ1 u32 .own x1 (s1 ∷ [])) ∷ ‵ (ShrSlice (named 2) κ2 u32 .own x2 (s2 ∷ [])) ∷ ‵ (ShrSlice (named 3) κ3 u32 .own x3 (s3 ∷ [])) ∷ ‵ (ShrSlice (named 4) κ4 u32 .own x4 (s4 ∷ [])) ∷ ‵ (ShrSlice (named 5) κ5 u32 .own x5 (s5 ∷ [])) ∷ ‵ (ShrSlice (named 6) κ6 u32 .own x6 (s6 ∷ [])) ∷ ‵ (MutSlice (named 7) κ7 u32 .own x7 (s7 ∷ [])) ∷ ‵ (MutSlice (named 8) κ8 i32 .own x8 (s8 ∷ [])) ∷ ‵ (ShrSlice (named 9) κ9 u32 .own x9 (s9 ∷ [])) ∷ ‵ (ShrSlice (named 10) κ10 u32 .own x10 (s10 ∷ [])) ∷ ‵ (MutSlice (named 11) κ11 u32 .own x11 (s11 ∷ [])) ∷ ‵ (MutSlice (named 12) κ R .own (x ys) (s ∷ [])) ∷ []
+  Asked = (‵ (flft κ0 q0) ⊛ ‵ (flft κ1 q1) ⊛ ‵ (flft κ2 q2) ⊛ ‵ (flft κ3 q3) ⊛ ‵ (flft κ4 q4) ⊛ ‵ (flft κ5 q5) ⊛ ‵ (flft κ6 q6) ⊛ ‵ (flft κ7 q7) ⊛ ‵ (flft κ8 q8) ⊛ ‵ (flft κ9 q9) ⊛ ‵ (flft κ10 q10) ⊛ ‵ (flft κ11 q11) ⊛ ‵ (flft κ q) ⊛ ‵ ftrue) ∷ ‵ (ShrSlice (named 0) κ0 u32 .own weights (sliceOf weights ∷ [])) ∷ ‵ (ShrSlice (named 1) κ1 u32 .own pred-starts (sliceOf pred-starts ∷ [])) ∷ ‵ (ShrSlice (named 2) κ2 u32 .own preds (sliceOf preds ∷ [])) ∷ ‵ (ShrSlice (named 3) κ3 u32 .own succ-starts (sliceOf succ-starts ∷ [])) ∷ ‵ (ShrSlice (named 4) κ4 u32 .own succs (sliceOf succs ∷ [])) ∷ ‵ (ShrSlice (named 5) κ5 u32 .own degrees (sliceOf degrees ∷ [])) ∷ ‵ (ShrSlice (named 6) κ6 u32 .own rings (sliceOf rings ∷ [])) ∷ ‵ (MutSlice (named 7) κ7 u32 .own ends (sliceOf ends ∷ [])) ∷ ‵ (MutSlice (named 8) κ8 i32 .own counters (sliceOf counters ∷ [])) ∷ ‵ (ShrSlice (named 9) κ9 u32 .own buffers (sliceOf buffers ∷ [])) ∷ ‵ (ShrSlice (named 10) κ10 u32 .own executed (sliceOf executed ∷ [])) ∷ ‵ (MutSlice (named 11) κ11 u32 .own run-words (sliceOf run-words ∷ [])) ∷ ‵ (MutSlice (named 12) κ R .own (x ys) (s ∷ [])) ∷ []
 
   asked-call : (lim : Limits) (v : Val) → Is Lm.the-row lim (v ∷ []) → ent 𝓤 (⋆ 𝓤 H A Asked) (fetch-triple 𝓤 H A mem run .pre (to-call lim v))
   asked-call lim v lim-is =
@@ -184,19 +149,19 @@ module _ {M : Type 1} (𝓤 : URA M) (H : Heap 𝓤) (A : Atoms 𝓤) (W : Given
       done !
 
   abbrev Said : (lim : Limits) → StepAnswer → Lasts fetch.ended κs (call-args lim) → Type 0
-  Said lim g zs = resultOf g (memOf (x0 .now) (x1 .now) (x2 .now) (x3 .now) (x4 .now) (x5 .now) (x6 .now) (zs .1 .1 .1 .1 .1 .1 .1 .1 .0) (zs .1 .1 .1 .1 .1 .1 .1 .1 .1 .0) (x9 .now) (x10 .now) (zs .1 .1 .1 .1 .1 .1 .1 .1 .1 .1 .1 .1 .0) (zs .1 .1 .1 .1 .1 .1 .1 .1 .1 .1 .1 .1 .1 .0)) ≡ step lim p k i Fetch (memOf (x0 .now) (x1 .now) (x2 .now) (x3 .now) (x4 .now) (x5 .now) (x6 .now) (x7 .now) (x8 .now) (x9 .now) (x10 .now) (x11 .now) ys)
+  Said lim g zs = result g (memOf (weights .now) (pred-starts .now) (preds .now) (succ-starts .now) (succs .now) (degrees .now) (rings .now) (zs .1 .1 .1 .1 .1 .1 .1 .1 .0) (zs .1 .1 .1 .1 .1 .1 .1 .1 .1 .0) (buffers .now) (executed .now) (zs .1 .1 .1 .1 .1 .1 .1 .1 .1 .1 .1 .1 .0) (zs .1 .1 .1 .1 .1 .1 .1 .1 .1 .1 .1 .1 .1 .0)) ≡ step lim p k i Fetch (memOf (weights .now) (pred-starts .now) (preds .now) (succ-starts .now) (succs .now) (degrees .now) (rings .now) (ends .now) (counters .now) (buffers .now) (executed .now) (run-words .now) ys)
 
   -- what is left at exit
   abbrev Left : (lim : Limits) → Lasts fetch.ended κs (call-args lim) → List (Item 𝓤)
-  Left lim zs = (‵ (flft κ0 q0) ⊛ ‵ (flft κ1 q1) ⊛ ‵ (flft κ2 q2) ⊛ ‵ (flft κ3 q3) ⊛ ‵ (flft κ4 q4) ⊛ ‵ (flft κ5 q5) ⊛ ‵ (flft κ6 q6) ⊛ ‵ (flft κ7 q7) ⊛ ‵ (flft κ8 q8) ⊛ ‵ (flft κ9 q9) ⊛ ‵ (flft κ10 q10) ⊛ ‵ (flft κ11 q11) ⊛ ‵ (flft κ q) ⊛ ‵ ftrue) ∷ ‵ (finally R γ (zs .1 .1 .1 .1 .1 .1 .1 .1 .1 .1 .1 .1 .1 .0)) ∷ ‵ (ShrSlice (named 0) κ0 u32 .own x0 (s0 ∷ [])) ∷ ‵ (ShrSlice (named 1) κ1 u32 .own x1 (s1 ∷ [])) ∷ ‵ (ShrSlice (named 2) κ2 u32 .own x2 (s2 ∷ [])) ∷ ‵ (ShrSlice (named 3) κ3 u32 .own x3 (s3 ∷ [])) ∷ ‵ (ShrSlice (named 4) κ4 u32 .own x4 (s4 ∷ [])) ∷ ‵ (ShrSlice (named 5) κ5 u32 .own x5 (s5 ∷ [])) ∷ ‵ (ShrSlice (named 6) κ6 u32 .own x6 (s6 ∷ [])) ∷ ‵ (finally u32 (x7 .name) (zs .1 .1 .1 .1 .1 .1 .1 .1 .0)) ∷ ‵ (finally i32 (x8 .name) (zs .1 .1 .1 .1 .1 .1 .1 .1 .1 .0)) ∷ ‵ (ShrSlice (named 9) κ9 u32 .own x9 (s9 ∷ [])) ∷ ‵ (ShrSlice (named 10) κ10 u32 .own x10 (s10 ∷ [])) ∷ ‵ (finally u32 (x11 .name) (zs .1 .1 .1 .1 .1 .1 .1 .1 .1 .1 .1 .1 .0)) ∷ []
+  Left lim zs = (‵ (flft κ0 q0) ⊛ ‵ (flft κ1 q1) ⊛ ‵ (flft κ2 q2) ⊛ ‵ (flft κ3 q3) ⊛ ‵ (flft κ4 q4) ⊛ ‵ (flft κ5 q5) ⊛ ‵ (flft κ6 q6) ⊛ ‵ (flft κ7 q7) ⊛ ‵ (flft κ8 q8) ⊛ ‵ (flft κ9 q9) ⊛ ‵ (flft κ10 q10) ⊛ ‵ (flft κ11 q11) ⊛ ‵ (flft κ q) ⊛ ‵ ftrue) ∷ ‵ (finally R γ (zs .1 .1 .1 .1 .1 .1 .1 .1 .1 .1 .1 .1 .1 .0)) ∷ ‵ (ShrSlice (named 0) κ0 u32 .own weights (sliceOf weights ∷ [])) ∷ ‵ (ShrSlice (named 1) κ1 u32 .own pred-starts (sliceOf pred-starts ∷ [])) ∷ ‵ (ShrSlice (named 2) κ2 u32 .own preds (sliceOf preds ∷ [])) ∷ ‵ (ShrSlice (named 3) κ3 u32 .own succ-starts (sliceOf succ-starts ∷ [])) ∷ ‵ (ShrSlice (named 4) κ4 u32 .own succs (sliceOf succs ∷ [])) ∷ ‵ (ShrSlice (named 5) κ5 u32 .own degrees (sliceOf degrees ∷ [])) ∷ ‵ (ShrSlice (named 6) κ6 u32 .own rings (sliceOf rings ∷ [])) ∷ ‵ (finally u32 (ends .name) (zs .1 .1 .1 .1 .1 .1 .1 .1 .0)) ∷ ‵ (finally i32 (counters .name) (zs .1 .1 .1 .1 .1 .1 .1 .1 .1 .0)) ∷ ‵ (ShrSlice (named 9) κ9 u32 .own buffers (sliceOf buffers ∷ [])) ∷ ‵ (ShrSlice (named 10) κ10 u32 .own executed (sliceOf executed ∷ [])) ∷ ‵ (finally u32 (run-words .name) (zs .1 .1 .1 .1 .1 .1 .1 .1 .1 .1 .1 .1 .0)) ∷ []
 
   exits : (lim : Limits) → lim ≡ engine → (g : StepAnswer) (zs : Lasts fetch.ended κs (call-args lim)) (r : StepReply) (t : Val) → r ≡ stepReplyOf g → Said lim g zs
-      → Is Rp.the-row r (t ∷ []) → (l : length (zs .1 .1 .1 .1 .1 .1 .1 .1 .1 .1 .1 .1 .1 .0) ≡ length ys) (l7 : length (zs .1 .1 .1 .1 .1 .1 .1 .1 .0) ≡ length (x7 .now)) (l8 : length (zs .1 .1 .1 .1 .1 .1 .1 .1 .1 .0) ≡ length (x8 .now)) (l11 : length (zs .1 .1 .1 .1 .1 .1 .1 .1 .1 .1 .1 .1 .0) ≡ length (x11 .now))
+      → Is Rp.the-row r (t ∷ []) → (l : length (zs .1 .1 .1 .1 .1 .1 .1 .1 .1 .1 .1 .1 .1 .0) ≡ length ys) (l7 : length (zs .1 .1 .1 .1 .1 .1 .1 .1 .0) ≡ length (ends .now)) (l8 : length (zs .1 .1 .1 .1 .1 .1 .1 .1 .1 .0) ≡ length (counters .now)) (l11 : length (zs .1 .1 .1 .1 .1 .1 .1 .1 .1 .1 .1 .1 .0) ≡ length (run-words .now))
       → ent 𝓤 (⋆ 𝓤 H A (Left lim zs)) (Post t)
   exits lim own g zs r t told said is l l7 l8 l11 =
       qed W (Left lim zs) ∵
-      suffices ! _ (ends-at 𝓤 H A fn.ended stayed (fn.clauses 𝓤 H A mem run) W (((κ0, (κ1, (κ2, (κ3, (κ4, (κ5, (κ6, (κ7, (κ8, (κ9, (κ10, (κ11, (κ, tt))))))))))))), (q0, (q1, (q2, (q3, (q4, (q5, (q6, (q7, (q8, (q9, (q10, (q11, (q, tt))))))))))))), tt, a, at), tt) t r (tt, (tt, (tt, (tt, (tt, (tt, (tt, (zs .1 .1 .1 .1 .1 .1 .1 .1 .0, (zs .1 .1 .1 .1 .1 .1 .1 .1 .1 .0, (tt, (tt, (zs .1 .1 .1 .1 .1 .1 .1 .1 .1 .1 .1 .1 .0, (zs .1 .1 .1 .1 .1 .1 .1 .1 .1 .1 .1 .1 .1 .0, (tt, (tt, (tt, tt)))))))))))))))) (tt, (tt, (tt, (tt, (tt, (tt, (tt, (l7, (l8, (tt, (tt, (l11, (l, (tt, (tt, (tt, tt))))))))))))))))) $
-      says ! (step-reply lim own p k (memOf (x0 .now) (x1 .now) (x2 .now) (x3 .now) (x4 .now) (x5 .now) (x6 .now) (x7 .now) (x8 .now) (x9 .now) (x10 .now) (x11 .now) ys) (memOf (x0 .now) (x1 .now) (x2 .now) (x3 .now) (x4 .now) (x5 .now) (x6 .now) (zs .1 .1 .1 .1 .1 .1 .1 .1 .0) (zs .1 .1 .1 .1 .1 .1 .1 .1 .1 .0) (x9 .now) (x10 .now) (zs .1 .1 .1 .1 .1 .1 .1 .1 .1 .1 .1 .1 .0) (zs .1 .1 .1 .1 .1 .1 .1 .1 .1 .1 .1 .1 .1 .0)) Fetch i r g told said) $
+      suffices ! _ (ends-at 𝓤 H A fn.ended stayed (fn.clauses 𝓤 H A mem run) W here t r (tt, (tt, (tt, (tt, (tt, (tt, (tt, (zs .1 .1 .1 .1 .1 .1 .1 .1 .0, (zs .1 .1 .1 .1 .1 .1 .1 .1 .1 .0, (tt, (tt, (zs .1 .1 .1 .1 .1 .1 .1 .1 .1 .1 .1 .1 .0, (zs .1 .1 .1 .1 .1 .1 .1 .1 .1 .1 .1 .1 .1 .0, (tt, (tt, (tt, tt)))))))))))))))) (tt, (tt, (tt, (tt, (tt, (tt, (tt, (l7, (l8, (tt, (tt, (l11, (l, (tt, (tt, (tt, tt))))))))))))))))) $
+      says ! (step-reply lim own p k (memOf (weights .now) (pred-starts .now) (preds .now) (succ-starts .now) (succs .now) (degrees .now) (rings .now) (ends .now) (counters .now) (buffers .now) (executed .now) (run-words .now) ys) (memOf (weights .now) (pred-starts .now) (preds .now) (succ-starts .now) (succs .now) (degrees .now) (rings .now) (zs .1 .1 .1 .1 .1 .1 .1 .1 .0) (zs .1 .1 .1 .1 .1 .1 .1 .1 .1 .0) (buffers .now) (executed .now) (zs .1 .1 .1 .1 .1 .1 .1 .1 .1 .1 .1 .1 .0) (zs .1 .1 .1 .1 .1 .1 .1 .1 .1 .1 .1 .1 .1 .0)) Fetch i r g told said) $
       frame ! $ nothing ! $ owned ! u32 (Is u32) (uint-makes 𝓤 H A W w32) i _ (refl, i-fits) $ fjoin ! $
       owned ! usize (Is usize) (uint-makes 𝓤 H A W w64) k _ (refl, k-fits) $ fjoin ! $
       owned ! usize (Is usize) (uint-makes 𝓤 H A W w64) p _ (refl, p-fits) $ fjoin ! $ move ! (1 ∷ 0 ∷ []) $ fjoin ! $ move ! (12 ∷ 0 ∷ []) $
@@ -209,9 +174,9 @@ module _ {M : Type 1} (𝓤 : URA M) (H : Heap 𝓤) (A : Atoms 𝓤) (W : Given
       (known0 : Triple 𝓤 (C #task·Limits·engine) (limits-engine-triple 𝓤 H A mem run))
       (known1 : Triple 𝓤 (C #engine-ref·fetch) (fetch-triple 𝓤 H A mem run))
       (known2 : Triple 𝓤 (C #replies·step-reply-of) (step-reply-of-triple 𝓤 H A mem run)) where
-    walk : ent 𝓤 (onEntry 𝓤 H A fn.signature (κ0, (κ1, (κ2, (κ3, (κ4, (κ5, (κ6, (κ7, (κ8, (κ9, (κ10, (κ11, (κ, tt))))))))))))) (q0, (q1, (q2, (q3, (q4, (q5, (q6, (q7, (q8, (q9, (q10, (q11, (q, tt))))))))))))) a at) (WpFn 𝓤 H C Λ code.function (s0 ∷ s1 ∷ s2 ∷ s3 ∷ s4 ∷ s5 ∷ s6 ∷ s7 ∷ s8 ∷ s9 ∷ s10 ∷ s11 ∷ s ∷ vint w64 p ∷ vint w64 k ∷ vint w32 i ∷ []) Post)
+    walk : ent 𝓤 (onEntry 𝓤 H A fn.signature κs qs a at) (WpFn 𝓤 H C Λ code.function (sliceOf weights ∷ sliceOf pred-starts ∷ sliceOf preds ∷ sliceOf succ-starts ∷ sliceOf succs ∷ sliceOf degrees ∷ sliceOf rings ∷ sliceOf ends ∷ sliceOf counters ∷ sliceOf buffers ∷ sliceOf executed ∷ sliceOf run-words ∷ s ∷ vint w64 p ∷ vint w64 k ∷ vint w32 i ∷ []) Post)
     walk =
-        qed W ((‵ (flft κ0 q0) ⊛ ‵ (flft κ1 q1) ⊛ ‵ (flft κ2 q2) ⊛ ‵ (flft κ3 q3) ⊛ ‵ (flft κ4 q4) ⊛ ‵ (flft κ5 q5) ⊛ ‵ (flft κ6 q6) ⊛ ‵ (flft κ7 q7) ⊛ ‵ (flft κ8 q8) ⊛ ‵ (flft κ9 q9) ⊛ ‵ (flft κ10 q10) ⊛ ‵ (flft κ11 q11) ⊛ ‵ (flft κ q) ⊛ ‵ ftrue) ∷ ‵ (owns (ShrSlice (named 0) κ0 u32 ∷ ShrSlice (named 1) κ1 u32 ∷ ShrSlice (named 2) κ2 u32 ∷ ShrSlice (named 3) κ3 u32 ∷ ShrSlice (named 4) κ4 u32 ∷ ShrSlice (named 5) κ5 u32 ∷ ShrSlice (named 6) κ6 u32 ∷ MutSlice (named 7) κ7 u32 ∷ MutSlice (named 8) κ8 i32 ∷ ShrSlice (named 9) κ9 u32 ∷ ShrSlice (named 10) κ10 u32 ∷ MutSlice (named 11) κ11 u32 ∷ MutSlice (named 12) κ R ∷ usize ∷ usize ∷ u32 ∷ []) a at) ∷ []) ∵ enter ! C Λ code.function (s0 ∷ s1 ∷ s2 ∷ s3 ∷ s4 ∷ s5 ∷ s6 ∷ s7 ∷ s8 ∷ s9 ∷ s10 ∷ s11 ∷ s ∷ vint w64 p ∷ vint w64 k ∷ vint w32 i ∷ []) _ $
+        qed W ((‵ (flft κ0 q0) ⊛ ‵ (flft κ1 q1) ⊛ ‵ (flft κ2 q2) ⊛ ‵ (flft κ3 q3) ⊛ ‵ (flft κ4 q4) ⊛ ‵ (flft κ5 q5) ⊛ ‵ (flft κ6 q6) ⊛ ‵ (flft κ7 q7) ⊛ ‵ (flft κ8 q8) ⊛ ‵ (flft κ9 q9) ⊛ ‵ (flft κ10 q10) ⊛ ‵ (flft κ11 q11) ⊛ ‵ (flft κ q) ⊛ ‵ ftrue) ∷ ‵ (owns (typesAt (fn.signature .params) κs) a at) ∷ []) ∵ enter ! C Λ code.function (sliceOf weights ∷ sliceOf pred-starts ∷ sliceOf preds ∷ sliceOf succ-starts ∷ sliceOf succs ∷ sliceOf degrees ∷ sliceOf rings ∷ sliceOf ends ∷ sliceOf counters ∷ sliceOf buffers ∷ sliceOf executed ∷ sliceOf run-words ∷ s ∷ vint w64 p ∷ vint w64 k ∷ vint w32 i ∷ []) _ $
         alloc1 ! (λ l₀. alloc1 ! (λ l₁. alloc1 ! (λ l₂. alloc1 ! (λ l₃. alloc1 ! (λ l₄. alloc1 ! (λ l₅. alloc1 ! (λ l₆. alloc1 ! (λ l₇. alloc1 ! (λ l₈. alloc1 ! (λ l₉. alloc1 ! (λ l₁₀. alloc1 ! (λ l₁₁. alloc1 ! (λ l₁₂. alloc1 ! (λ l₁₃. alloc1 ! (λ l₁₄. alloc1 ! (λ l₁₅. alloc1 ! (λ l₁₆. alloc1 ! (λ l₁₇. alloc1 ! (λ l₁₈. alloc1 ! (λ l₁₉. alloc1 ! (λ l₂₀. alloc1 ! (λ l₂₁. alloc1 ! (λ l₂₂. alloc1 ! (λ l₂₃. alloc1 ! (λ l₂₄. alloc1 ! (λ l₂₅. alloc1 ! (λ l₂₆. alloc1 ! (λ l₂₇. alloc0 ! $
         params1 ! $
         pass1 ! (init ! 52 refl (tt, (tt, (record { fits = room0 .0 }, tt)))) $
@@ -248,23 +213,23 @@ module _ {M : Type 1} (𝓤 : URA M) (H : Heap 𝓤) (A : Atoms 𝓤) (W : Given
         move ! (59 ∷ []) $ fsplit ! $ move ! (1 ∷ []) $ fsplit ! $ move ! (1 ∷ []) $ fsplit ! $ move ! (1 ∷ []) $ fsplit ! $ move ! (1 ∷ []) $
         fsplit ! $ move ! (1 ∷ []) $ fsplit ! $ move ! (1 ∷ []) $ fsplit ! $ move ! (1 ∷ []) $ fsplit ! $ move ! (1 ∷ []) $ fsplit ! $
         move ! (1 ∷ []) $ fsplit ! $ move ! (1 ∷ []) $ fsplit ! $ move ! (1 ∷ []) $ fsplit ! $ move ! (1 ∷ []) $ fsplit ! $ move ! (13 ∷ []) $
-        use1 W (‵ (ShrSlice (named 0) κ0 u32 .own x0 (s0 ∷ [])) ⊛ ‵ (ShrSlice (named 0) κ0 u32 .own x0 (s0 ∷ []))) (shr-slice-copy 𝓤 H A W (named 0) κ0 u32 .twice x0 (s0 ∷ [])) $
+        use1 W (‵ (ShrSlice (named 0) κ0 u32 .own weights (sliceOf weights ∷ [])) ⊛ ‵ (ShrSlice (named 0) κ0 u32 .own weights (sliceOf weights ∷ []))) (shr-slice-copy 𝓤 H A W (named 0) κ0 u32 .twice weights (sliceOf weights ∷ [])) $
         split ! $ move ! (14 ∷ []) $
-        use1 W (‵ (ShrSlice (named 1) κ1 u32 .own x1 (s1 ∷ [])) ⊛ ‵ (ShrSlice (named 1) κ1 u32 .own x1 (s1 ∷ []))) (shr-slice-copy 𝓤 H A W (named 1) κ1 u32 .twice x1 (s1 ∷ [])) $
+        use1 W (‵ (ShrSlice (named 1) κ1 u32 .own pred-starts (sliceOf pred-starts ∷ [])) ⊛ ‵ (ShrSlice (named 1) κ1 u32 .own pred-starts (sliceOf pred-starts ∷ []))) (shr-slice-copy 𝓤 H A W (named 1) κ1 u32 .twice pred-starts (sliceOf pred-starts ∷ [])) $
         split ! $ move ! (15 ∷ []) $
-        use1 W (‵ (ShrSlice (named 2) κ2 u32 .own x2 (s2 ∷ [])) ⊛ ‵ (ShrSlice (named 2) κ2 u32 .own x2 (s2 ∷ []))) (shr-slice-copy 𝓤 H A W (named 2) κ2 u32 .twice x2 (s2 ∷ [])) $
+        use1 W (‵ (ShrSlice (named 2) κ2 u32 .own preds (sliceOf preds ∷ [])) ⊛ ‵ (ShrSlice (named 2) κ2 u32 .own preds (sliceOf preds ∷ []))) (shr-slice-copy 𝓤 H A W (named 2) κ2 u32 .twice preds (sliceOf preds ∷ [])) $
         split ! $ move ! (16 ∷ []) $
-        use1 W (‵ (ShrSlice (named 3) κ3 u32 .own x3 (s3 ∷ [])) ⊛ ‵ (ShrSlice (named 3) κ3 u32 .own x3 (s3 ∷ []))) (shr-slice-copy 𝓤 H A W (named 3) κ3 u32 .twice x3 (s3 ∷ [])) $
+        use1 W (‵ (ShrSlice (named 3) κ3 u32 .own succ-starts (sliceOf succ-starts ∷ [])) ⊛ ‵ (ShrSlice (named 3) κ3 u32 .own succ-starts (sliceOf succ-starts ∷ []))) (shr-slice-copy 𝓤 H A W (named 3) κ3 u32 .twice succ-starts (sliceOf succ-starts ∷ [])) $
         split ! $ move ! (17 ∷ []) $
-        use1 W (‵ (ShrSlice (named 4) κ4 u32 .own x4 (s4 ∷ [])) ⊛ ‵ (ShrSlice (named 4) κ4 u32 .own x4 (s4 ∷ []))) (shr-slice-copy 𝓤 H A W (named 4) κ4 u32 .twice x4 (s4 ∷ [])) $
+        use1 W (‵ (ShrSlice (named 4) κ4 u32 .own succs (sliceOf succs ∷ [])) ⊛ ‵ (ShrSlice (named 4) κ4 u32 .own succs (sliceOf succs ∷ []))) (shr-slice-copy 𝓤 H A W (named 4) κ4 u32 .twice succs (sliceOf succs ∷ [])) $
         split ! $ move ! (18 ∷ []) $
-        use1 W (‵ (ShrSlice (named 5) κ5 u32 .own x5 (s5 ∷ [])) ⊛ ‵ (ShrSlice (named 5) κ5 u32 .own x5 (s5 ∷ []))) (shr-slice-copy 𝓤 H A W (named 5) κ5 u32 .twice x5 (s5 ∷ [])) $
+        use1 W (‵ (ShrSlice (named 5) κ5 u32 .own degrees (sliceOf degrees ∷ [])) ⊛ ‵ (ShrSlice (named 5) κ5 u32 .own degrees (sliceOf degrees ∷ []))) (shr-slice-copy 𝓤 H A W (named 5) κ5 u32 .twice degrees (sliceOf degrees ∷ [])) $
         split ! $ move ! (19 ∷ []) $
-        use1 W (‵ (ShrSlice (named 6) κ6 u32 .own x6 (s6 ∷ [])) ⊛ ‵ (ShrSlice (named 6) κ6 u32 .own x6 (s6 ∷ []))) (shr-slice-copy 𝓤 H A W (named 6) κ6 u32 .twice x6 (s6 ∷ [])) $
+        use1 W (‵ (ShrSlice (named 6) κ6 u32 .own rings (sliceOf rings ∷ [])) ⊛ ‵ (ShrSlice (named 6) κ6 u32 .own rings (sliceOf rings ∷ []))) (shr-slice-copy 𝓤 H A W (named 6) κ6 u32 .twice rings (sliceOf rings ∷ [])) $
         split ! $ move ! (18 ∷ []) $
-        use1 W (‵ (ShrSlice (named 9) κ9 u32 .own x9 (s9 ∷ [])) ⊛ ‵ (ShrSlice (named 9) κ9 u32 .own x9 (s9 ∷ []))) (shr-slice-copy 𝓤 H A W (named 9) κ9 u32 .twice x9 (s9 ∷ [])) $
+        use1 W (‵ (ShrSlice (named 9) κ9 u32 .own buffers (sliceOf buffers ∷ [])) ⊛ ‵ (ShrSlice (named 9) κ9 u32 .own buffers (sliceOf buffers ∷ []))) (shr-slice-copy 𝓤 H A W (named 9) κ9 u32 .twice buffers (sliceOf buffers ∷ [])) $
         split ! $ move ! (19 ∷ []) $
-        use1 W (‵ (ShrSlice (named 10) κ10 u32 .own x10 (s10 ∷ [])) ⊛ ‵ (ShrSlice (named 10) κ10 u32 .own x10 (s10 ∷ []))) (shr-slice-copy 𝓤 H A W (named 10) κ10 u32 .twice x10 (s10 ∷ [])) $
+        use1 W (‵ (ShrSlice (named 10) κ10 u32 .own executed (sliceOf executed ∷ [])) ⊛ ‵ (ShrSlice (named 10) κ10 u32 .own executed (sliceOf executed ∷ []))) (shr-slice-copy 𝓤 H A W (named 10) κ10 u32 .twice executed (sliceOf executed ∷ [])) $
         split ! $ move ! (81 ∷ 16 ∷ 14 ∷ 12 ∷ 10 ∷ 8 ∷ 6 ∷ 4 ∷ 22 ∷ 21 ∷ 2 ∷ 0 ∷ 20 ∷ 18 ∷ []) $ group ! 14 $
         use1 W (raw (fetch-triple 𝓤 H A mem run .pre (to-call lim v))) (asked-call lim v lim-is) $
         calls-at ! fm (fetch-triple 𝓤 H A mem run) known1 (to-call lim v) (and-then ! (load ! (from ! (stop !)) (look ! 31 refl)) (and-then ! (load ! (from ! (stop !)) (look ! 65 refl)) (and-then ! (load ! (from ! (stop !)) (look ! 63 refl)) (and-then ! (load ! (from ! (stop !)) (look ! 61 refl)) (and-then ! (load ! (from ! (stop !)) (look ! 59 refl)) (and-then ! (load ! (from ! (stop !)) (look ! 57 refl)) (and-then ! (load ! (from ! (stop !)) (look ! 55 refl)) (and-then ! (load ! (from ! (stop !)) (look ! 53 refl)) (and-then ! (load ! (from ! (stop !)) (look ! 27 refl)) (and-then ! (load ! (from ! (stop !)) (look ! 23 refl)) (and-then ! (load ! (from ! (stop !)) (look ! 47 refl)) (and-then ! (load ! (from ! (stop !)) (look ! 45 refl)) (and-then ! (load ! (from ! (stop !)) (look ! 19 refl)) (and-then ! (load ! (from ! (stop !)) (look ! 15 refl)) (and-then ! (load ! (from ! (stop !)) (look ! 39 refl)) (and-then ! (load ! (from ! (stop !)) (look ! 37 refl)) (and-then ! (load ! (from ! (stop !)) (look ! 13 refl)) (no-more !)))))))))))))))))) (λ u.

@@ -1,14 +1,20 @@
--- The record of the lent lengths, by its machine value.
+-- Lent lists and the record of their lengths, by their machine values.
 use mathlib.Core.Path.{refl}
 use Prim.Native.Nat.{ℕ, _<_, _^_}
-use mathlib.Core.List.{[], _∷_}
+use mathlib.Core.List.{List, [], _∷_}
+use lib.ListN.{length}
 use mir.Syntax.{w64}
 use mir.Val.{Val, vint, vstruct, vnil, vcons}
 use denote.Laws.{Is}
+use denote.Ref.{RefT}
+use denote.Slice.{sliceVal}
 use denote.Struct.Laws as LL
 use Rattle.admission.specs.declared.Sizes.{Sizes}
 use Rattle.admission.proofs.Sizes as Sz
 use Rattle.admission.proofs.Sizes.Laws as Sz′
+
+abbrev pub sliceOf : {A : Type 0} → RefT (List A) → Val
+sliceOf x = sliceVal (x .ptr) (length (x .now))
 
 module _ (w ps p ss s d r e c b x n rows : ℕ) where
   abbrev pub sizesAre : Sizes
