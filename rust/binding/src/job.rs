@@ -107,9 +107,11 @@ pub enum Side {
 /// | [`WrongPhase`](Refusal::WrongPhase) | a step | another step suits this worker now: see [`Phase`] |
 /// | [`NothingToFetch`](Refusal::NothingToFetch), [`NothingToRelease`](Refusal::NothingToRelease) | Fetch, Release | no fault: another step, or another worker, is next |
 /// | [`NoRoom`](Refusal::NoRoom) | Release | let a worker fetch, then release again |
-/// | [`DamagedWord`](Refusal::DamagedWord) | a step | there was no accepted begin; beyond a limit or with a wrong length, a step says that first |
+/// | [`DamagedWord`](Refusal::DamagedWord) | a step | there was no accepted begin |
 /// | [`NoSuchTask`](Refusal::NoSuchTask), [`BadPart`](Refusal::BadPart) | a lookup | there is no such task; its part of the table is bad, as all of the successors' is before begin |
 /// | [`RecordFull`](Refusal::RecordFull), [`Unknown`](Refusal::Unknown) | no call | a job doesn't answer them |
+///
+/// Where begin is refused with `BeyondLimit` or `WrongLength`, a step or a lookup may be too.
 ///
 /// The graph, the workers and the slots of a job stay as they are; for others, make another job, of
 /// [`into_tables`](Job::into_tables) perhaps. Two jobs are equal if all their memory is, so a copy made before a refused
