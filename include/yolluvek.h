@@ -2,7 +2,11 @@
  * Yolluvek: the scheduling core of a job console, proved. The calls for C and C++.
  *
  * A host lends lists of 32-bit words, each as a pointer and a length, and the calls read and write them; nothing is
- * allocated or kept between calls. A call uses at most about 41 KB of stack. examples/diamond.c is a whole program.
+ * allocated or kept between calls. A call uses at most about 41 KB of stack.
+ *
+ * A run: fill the weights and the predecessor table, by yolluvek_read_text or otherwise; call yolluvek_begin; let each
+ * worker take steps, by yolluvek_fetch, _start, _complete and _release, until run[0] is the number of tasks. Then
+ * `executed` is the record: task and worker, in the order of completion. examples/diamond.c is a whole program.
  * docs/RULE.md says which worker a released task goes to, docs/REFUSALS.md what to do about each refusal.
  *
  * Link libgraph_export.a, libstg_export.a and libengine_export.a, which `rt staticlib` writes to target/staticlib
@@ -16,7 +20,8 @@
  * Nothing is assumed of the words, lengths and numbers: any are taken, and the wrong ones are refused.
  *
  * N is the number of tasks and E that of edges: the lengths of `weights` and of `preds`. Tasks are numbered 0 to N - 1.
- * P is the number of workers, numbered 0 to P - 1, and K that of the slots of a ring, which holds K - 1 tasks.
+ * P is the number of workers, numbered 0 to P - 1, and K that of the slots of a ring, which holds K - 1 tasks; they are
+ * handed over as `p` and `k`.
  */
 #ifndef YOLLUVEK_H
 #define YOLLUVEK_H
@@ -156,28 +161,28 @@ yolluvek_read_reply yolluvek_read_text(
     uint32_t *preds, size_t preds_len);
 
 /*
- * Checks a graph, as begin does, with limits on N and E that are the caller's; above the engine's they count as the
- * engine's.
+ * Checks a graph, as begin does. `most_tasks` and `most_edges` are the caller's limits on N and E, not N and E, which
+ * are the lengths here too; a limit above the engine's counts as the engine's.
  *
  * Task t's predecessors stand in `preds` from place starts[t] up to but not including starts[t + 1].
  * Lengths: weights N, starts N + 1, preds E.
  * Refused: 2, 1, 3, 4, 5, the first in this order.
  */
 yolluvek_reply yolluvek_check_graph(
-    size_t tasks, size_t edges,
+    size_t most_tasks, size_t most_edges,
     const uint32_t *weights, size_t weights_len,
     const uint32_t *starts, size_t starts_len,
     const uint32_t *preds, size_t preds_len);
 
 /*
- * The same check; where it accepts, the successor table is written, each task's successors rising, and the degrees,
- * which are the numbers of predecessors.
+ * The same check with the same limits; where it accepts, the successor table is written, each task's successors
+ * rising, and the degrees, which are the numbers of predecessors.
  *
  * Lengths: weights N, starts N + 1, preds E, succ_starts N + 1, succs E, degrees N.
  * Refused: 2, 1, 3, 4, 5, the first in this order.
  */
 yolluvek_reply yolluvek_link_graph(
-    size_t tasks, size_t edges,
+    size_t most_tasks, size_t most_edges,
     const uint32_t *weights, size_t weights_len,
     const uint32_t *starts, size_t starts_len,
     const uint32_t *preds, size_t preds_len,
@@ -249,10 +254,10 @@ yolluvek_reply yolluvek_begin(
     uint32_t *executed, size_t executed_len,
     uint32_t *run, size_t run_len,
     yolluvek_row *rows, size_t rows_len,
-    size_t workers, size_t slots);
+    size_t p, size_t k);
 
 /*
- * The four steps of a worker.
+ * The four steps of a worker. The lists that a step is lent as `const` are those that it never writes.
  *
  * The run is finished when the record has N entries; it has 3N + E accepted steps then. Until then some worker has a
  * step that is accepted.
@@ -268,15 +273,15 @@ yolluvek_step_reply yolluvek_fetch(
     const uint32_t *preds, size_t preds_len,
     const uint32_t *succ_starts, size_t succ_starts_len,
     const uint32_t *succs, size_t succs_len,
-    uint32_t *degrees, size_t degrees_len,
-    uint32_t *rings, size_t rings_len,
+    const uint32_t *degrees, size_t degrees_len,
+    const uint32_t *rings, size_t rings_len,
     uint32_t *ends, size_t ends_len,
     int32_t *counters, size_t counters_len,
-    uint32_t *buffers, size_t buffers_len,
-    uint32_t *executed, size_t executed_len,
+    const uint32_t *buffers, size_t buffers_len,
+    const uint32_t *executed, size_t executed_len,
     uint32_t *run, size_t run_len,
     yolluvek_row *rows, size_t rows_len,
-    size_t workers, size_t slots, uint32_t worker);
+    size_t p, size_t k, uint32_t worker);
 
 /* Start: a worker starts the task that it has fetched. */
 yolluvek_step_reply yolluvek_start(
@@ -285,15 +290,15 @@ yolluvek_step_reply yolluvek_start(
     const uint32_t *preds, size_t preds_len,
     const uint32_t *succ_starts, size_t succ_starts_len,
     const uint32_t *succs, size_t succs_len,
-    uint32_t *degrees, size_t degrees_len,
-    uint32_t *rings, size_t rings_len,
-    uint32_t *ends, size_t ends_len,
-    int32_t *counters, size_t counters_len,
-    uint32_t *buffers, size_t buffers_len,
-    uint32_t *executed, size_t executed_len,
+    const uint32_t *degrees, size_t degrees_len,
+    const uint32_t *rings, size_t rings_len,
+    const uint32_t *ends, size_t ends_len,
+    const int32_t *counters, size_t counters_len,
+    const uint32_t *buffers, size_t buffers_len,
+    const uint32_t *executed, size_t executed_len,
     uint32_t *run, size_t run_len,
     yolluvek_row *rows, size_t rows_len,
-    size_t workers, size_t slots, uint32_t worker);
+    size_t p, size_t k, uint32_t worker);
 
 /* Complete: the task that a worker is running joins the record, and the worker's buffer if it has successors. */
 yolluvek_step_reply yolluvek_complete(
@@ -302,15 +307,15 @@ yolluvek_step_reply yolluvek_complete(
     const uint32_t *preds, size_t preds_len,
     const uint32_t *succ_starts, size_t succ_starts_len,
     const uint32_t *succs, size_t succs_len,
-    uint32_t *degrees, size_t degrees_len,
-    uint32_t *rings, size_t rings_len,
-    uint32_t *ends, size_t ends_len,
-    int32_t *counters, size_t counters_len,
+    const uint32_t *degrees, size_t degrees_len,
+    const uint32_t *rings, size_t rings_len,
+    const uint32_t *ends, size_t ends_len,
+    const int32_t *counters, size_t counters_len,
     uint32_t *buffers, size_t buffers_len,
     uint32_t *executed, size_t executed_len,
     uint32_t *run, size_t run_len,
     yolluvek_row *rows, size_t rows_len,
-    size_t workers, size_t slots, uint32_t worker);
+    size_t p, size_t k, uint32_t worker);
 
 /*
  * Release: the next successor of the oldest task in an idle worker's buffer waits for one task less. Answers how many
@@ -327,11 +332,11 @@ yolluvek_step_reply yolluvek_release(
     uint32_t *rings, size_t rings_len,
     uint32_t *ends, size_t ends_len,
     int32_t *counters, size_t counters_len,
-    uint32_t *buffers, size_t buffers_len,
-    uint32_t *executed, size_t executed_len,
+    const uint32_t *buffers, size_t buffers_len,
+    const uint32_t *executed, size_t executed_len,
     uint32_t *run, size_t run_len,
     yolluvek_row *rows, size_t rows_len,
-    size_t workers, size_t slots, uint32_t worker);
+    size_t p, size_t k, uint32_t worker);
 
 /* The layouts that the library has: words without gaps, in the order declared. */
 #if defined(__cplusplus) && __cplusplus >= 201103L

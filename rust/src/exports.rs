@@ -19,13 +19,13 @@ pub struct StepReply {
     pub second: u32,
 }
 
-/// Begin's answer as the model gives it.
+/// The answer of begin, of a call on a graph or of the judging call, as the model gives it.
 impl From<Reply> for Result<(), Refusal> {
     #[inline]
     fn from(reply: Reply) -> Self {
         match reply {
             Reply { number: 0, detail } => {
-                assert_eq!(detail, 0, "an accepted begin has detail 0");
+                assert_eq!(detail, 0, "an accepted call has detail 0");
                 Ok(())
             }
             Reply { number, detail } => Err(Refusal { number, detail }),

@@ -72,8 +72,8 @@ macro_rules! export {
                 run_len: usize,
                 rows: *mut [u32; ROW_WORDS],
                 rows_len: usize,
-                workers: usize,
-                slots: usize,
+                p: usize,
+                k: usize,
                 $($number: $of)?
             ) -> $reply {
                 let mut lent = Lent {
@@ -91,7 +91,7 @@ macro_rules! export {
                     run: from_raw_parts_mut(run, run_len),
                     rows: from_raw_parts_mut(rows, rows_len),
                 };
-                plain_engine::$call(&mut lent, workers, slots $(, $number)?).into()
+                plain_engine::$call(&mut lent, p, k $(, $number)?).into()
             }
         )*
     };

@@ -13,9 +13,20 @@ pub const PROVED: Engine = Engine {
     step: |memory, p, k, worker, which| step(&mut Lent::of(memory), p, k, worker, which),
 };
 
-/// Declares exports that take the lent lists in document 01's order, P, K and what is named here.
+/// Declares exports that take the lent lists in document 01's order, P, K and what is named here. Whether an export writes a
+/// list is named for each that some export writes and another doesn't.
 macro_rules! declare {
-    ($($export:ident($($number:ident: $of:ty)?) -> $reply:ty;)*) => {
+    ($($export:ident(
+        succ_starts: $succ_starts:tt,
+        succs: $succs:tt,
+        degrees: $degrees:tt,
+        rings: $rings:tt,
+        ends: $ends:tt,
+        counters: $counters:tt,
+        buffers: $buffers:tt,
+        executed: $executed:tt,
+        $($number:ident: $of:ty,)?
+    ) -> $reply:ty;)*) => {
         extern "C" {
             $(fn $export(
                 weights: *const u32,
@@ -24,28 +35,28 @@ macro_rules! declare {
                 pred_starts_len: usize,
                 preds: *const u32,
                 preds_len: usize,
-                succ_starts: *mut u32,
+                succ_starts: *$succ_starts u32,
                 succ_starts_len: usize,
-                succs: *mut u32,
+                succs: *$succs u32,
                 succs_len: usize,
-                degrees: *mut u32,
+                degrees: *$degrees u32,
                 degrees_len: usize,
-                rings: *mut u32,
+                rings: *$rings u32,
                 rings_len: usize,
-                ends: *mut u32,
+                ends: *$ends u32,
                 ends_len: usize,
-                counters: *mut i32,
+                counters: *$counters i32,
                 counters_len: usize,
-                buffers: *mut u32,
+                buffers: *$buffers u32,
                 buffers_len: usize,
-                executed: *mut u32,
+                executed: *$executed u32,
                 executed_len: usize,
                 run: *mut u32,
                 run_len: usize,
                 rows: *mut [u32; ROW_WORDS],
                 rows_len: usize,
-                workers: usize,
-                slots: usize,
+                p: usize,
+                k: usize,
                 $($number: $of)?
             ) -> $reply;)*
         }
@@ -53,11 +64,30 @@ macro_rules! declare {
 }
 
 declare! {
-    yolluvek_begin() -> Reply;
-    yolluvek_fetch(worker: u32) -> StepReply;
-    yolluvek_start(worker: u32) -> StepReply;
-    yolluvek_complete(worker: u32) -> StepReply;
-    yolluvek_release(worker: u32) -> StepReply;
+    yolluvek_begin(
+        succ_starts: mut, succs: mut, degrees: mut, rings: mut,
+        ends: mut, counters: mut, buffers: mut, executed: mut,
+    ) -> Reply;
+    yolluvek_fetch(
+        succ_starts: const, succs: const, degrees: const, rings: const,
+        ends: mut, counters: mut, buffers: const, executed: const,
+        worker: u32,
+    ) -> StepReply;
+    yolluvek_start(
+        succ_starts: const, succs: const, degrees: const, rings: const,
+        ends: const, counters: const, buffers: const, executed: const,
+        worker: u32,
+    ) -> StepReply;
+    yolluvek_complete(
+        succ_starts: const, succs: const, degrees: const, rings: const,
+        ends: const, counters: const, buffers: mut, executed: mut,
+        worker: u32,
+    ) -> StepReply;
+    yolluvek_release(
+        succ_starts: const, succs: const, degrees: mut, rings: mut,
+        ends: mut, counters: mut, buffers: const, executed: const,
+        worker: u32,
+    ) -> StepReply;
 }
 
 // Each is inlined, so that a program that calls other exports alone needs no archive of these.

@@ -1,14 +1,9 @@
 //! The proved code, called through its exports, against the model, on the stored trials and on further ones.
 
-use engine_model::model::{check, link, Answer, Graph, Lent, Limits, Lookup, Refusal, Side};
+use engine_model::exports::Reply;
+use engine_model::model::{check, link, Answer, Graph, Lent, Limits, Lookup, Side};
 use engine_model::text::{GraphTrial, LookupTrial, Trial};
 use engine_model::trials;
-
-#[repr(C)]
-struct Reply {
-    number: u32,
-    detail: u32,
-}
 
 /// Where a lookup's part stands in the table on the side named, and how many neighbours it has; 0 and 0 where it is refused.
 #[repr(C)]
@@ -77,18 +72,10 @@ extern "C" {
     ) -> Part;
 }
 
-fn answer(reply: Reply) -> Answer {
-    let Reply { number, detail } = reply;
-    match number {
-        0 => Ok(()),
-        _ => Err(Refusal { number, detail }),
-    }
-}
-
 fn proved_check(limits: Limits, graph: &Graph) -> Answer {
     let (weights, starts, preds) = (&graph.weights, &graph.preds.starts, &graph.preds.words);
     // each pointer and length is that of a list that lives through the call
-    answer(unsafe {
+    let reply = unsafe {
         yolluvek_check_graph(
             limits.tasks as usize,
             limits.edges as usize,
@@ -99,13 +86,14 @@ fn proved_check(limits: Limits, graph: &Graph) -> Answer {
             preds.as_ptr(),
             preds.len(),
         )
-    })
+    };
+    reply.into()
 }
 
 fn proved_link(limits: Limits, graph: &Graph, lent: &mut Lent) -> Answer {
     let (weights, starts, preds) = (&graph.weights, &graph.preds.starts, &graph.preds.words);
     // as above; the three lists that are written are lent alone
-    answer(unsafe {
+    let reply = unsafe {
         yolluvek_link_graph(
             limits.tasks as usize,
             limits.edges as usize,
@@ -122,7 +110,8 @@ fn proved_link(limits: Limits, graph: &Graph, lent: &mut Lent) -> Answer {
             lent.degrees.as_mut_ptr(),
             lent.degrees.len(),
         )
-    })
+    };
+    reply.into()
 }
 
 /// Calls an export that takes a lookup's arguments.
@@ -189,7 +178,7 @@ fn line(trial: &GraphTrial) -> String {
 fn compare_lookup(trial: &LookupTrial) {
     for &(side, task) in &trial.questions {
         let lookup = &trial.lookup;
-        let judged = answer(looked_up!(yolluvek_judge_lookup, lookup, side, task));
+        let judged: Answer = looked_up!(yolluvek_judge_lookup, lookup, side, task).into();
         assert_eq!(judged, lookup.judge(side, task), "{side:?} {task} {lookup:?}");
         let Part { place, count } = looked_up!(yolluvek_lookup, lookup, side, task);
         let part = (place as usize, count as usize);

@@ -66,8 +66,8 @@ extern "C" {
     ) -> ReadReply;
 
     fn yolluvek_check_graph(
-        tasks: usize,
-        edges: usize,
+        most_tasks: usize,
+        most_edges: usize,
         weights: *const u32,
         weights_len: usize,
         starts: *const u32,
@@ -75,80 +75,6 @@ extern "C" {
         preds: *const TaskId,
         preds_len: usize,
     ) -> Reply;
-}
-
-/// Declares calls that are lent weights and both tables, and asked for a side and a task.
-macro_rules! declare_lookups {
-    ($($call:ident -> $reply:ty;)*) => {
-        extern "C" {
-            $(fn $call(
-                weights: *const u32,
-                weights_len: usize,
-                pred_starts: *const u32,
-                pred_starts_len: usize,
-                preds: *const TaskId,
-                preds_len: usize,
-                succ_starts: *const u32,
-                succ_starts_len: usize,
-                succs: *const TaskId,
-                succs_len: usize,
-                side: u32,
-                task: u32,
-            ) -> $reply;)*
-        }
-    };
-}
-
-declare_lookups! {
-    yolluvek_judge_lookup -> Reply;
-    yolluvek_lookup -> Part;
-}
-
-/// Declares calls that are lent all lists; the successor table as named, since begin alone writes it.
-macro_rules! declare_run_calls {
-    ($($call:ident(*$table:tt $(, $worker:ident: $of:ty)?) -> $reply:ty;)*) => {
-        extern "C" {
-            $(fn $call(
-                weights: *const u32,
-                weights_len: usize,
-                pred_starts: *const u32,
-                pred_starts_len: usize,
-                preds: *const TaskId,
-                preds_len: usize,
-                succ_starts: *$table u32,
-                succ_starts_len: usize,
-                succs: *$table TaskId,
-                succs_len: usize,
-                degrees: *mut u32,
-                degrees_len: usize,
-                rings: *mut u32,
-                rings_len: usize,
-                ends: *mut u32,
-                ends_len: usize,
-                counters: *mut i32,
-                counters_len: usize,
-                buffers: *mut u32,
-                buffers_len: usize,
-                executed: *mut Entry,
-                executed_len: usize,
-                run: *mut Run,
-                run_len: usize,
-                rows: *mut Row,
-                rows_len: usize,
-                workers: usize,
-                slots: usize,
-                $($worker: $of,)?
-            ) -> $reply;)*
-        }
-    };
-}
-
-declare_run_calls! {
-    yolluvek_begin(*mut) -> Reply;
-    yolluvek_fetch(*const, worker: WorkerId) -> StepReply;
-    yolluvek_start(*const, worker: WorkerId) -> StepReply;
-    yolluvek_complete(*const, worker: WorkerId) -> StepReply;
-    yolluvek_release(*const, worker: WorkerId) -> StepReply;
 }
 
 /// Reads a text into lists of 1,024, 1,025 and 8,192 words, else it is refused with 1.
@@ -168,13 +94,19 @@ pub(crate) fn read_text(text: &[u8], weights: &mut [u32], starts: &mut [u32], pr
     }
 }
 
-/// The graph check with these limits on N and E.
-pub(crate) fn check_graph(tasks: usize, edges: usize, weights: &[u32], starts: &[u32], preds: &[TaskId]) -> Reply {
+/// The graph check with these limits on N and E, which are the lengths of weights and predecessors.
+pub(crate) fn check_graph(
+    most_tasks: usize,
+    most_edges: usize,
+    weights: &[u32],
+    starts: &[u32],
+    preds: &[TaskId],
+) -> Reply {
     // SAFETY: good, alone: three slices; apart: none is written
     unsafe {
         yolluvek_check_graph(
-            tasks,
-            edges,
+            most_tasks,
+            most_edges,
             weights.as_ptr(),
             weights.len(),
             starts.as_ptr(),
@@ -185,101 +117,195 @@ pub(crate) fn check_graph(tasks: usize, edges: usize, weights: &[u32], starts: &
     }
 }
 
-/// Calls a lookup on the tables of a borrowed `Memory`.
-macro_rules! look_up {
-    ($call:ident, $memory:expr, $side:expr, $task:expr) => {{
-        let memory: &Memory = $memory;
-        // SAFETY: good, alone: five vectors of one borrow; apart: none is written
-        unsafe {
-            $call(
-                memory.weights.as_ptr(),
-                memory.weights.len(),
-                memory.pred_starts.as_ptr(),
-                memory.pred_starts.len(),
-                memory.preds.as_ptr(),
-                memory.preds.len(),
-                memory.succ_starts.as_ptr(),
-                memory.succ_starts.len(),
-                memory.succs.as_ptr(),
-                memory.succs.len(),
-                $side,
-                $task.number(),
-            )
+/// Declares calls on weights and both tables, and makes them on those of a `Memory`; side 0 is that of the predecessors,
+/// any other that of the successors.
+macro_rules! lookups {
+    ($(
+        $(#[$says:meta])*
+        $name:ident = $call:ident -> $reply:ty;
+    )*) => {
+        extern "C" {
+            $(fn $call(
+                weights: *const u32,
+                weights_len: usize,
+                pred_starts: *const u32,
+                pred_starts_len: usize,
+                preds: *const TaskId,
+                preds_len: usize,
+                succ_starts: *const u32,
+                succ_starts_len: usize,
+                succs: *const TaskId,
+                succs_len: usize,
+                side: u32,
+                task: TaskId,
+            ) -> $reply;)*
         }
-    }};
+
+        $($(#[$says])*
+        pub(crate) fn $name(memory: &Memory, side: u32, task: TaskId) -> $reply {
+            // SAFETY: good, alone: five vectors of one borrow; apart: none is written
+            unsafe {
+                $call(
+                    memory.weights.as_ptr(),
+                    memory.weights.len(),
+                    memory.pred_starts.as_ptr(),
+                    memory.pred_starts.len(),
+                    memory.preds.as_ptr(),
+                    memory.preds.len(),
+                    memory.succ_starts.as_ptr(),
+                    memory.succ_starts.len(),
+                    memory.succs.as_ptr(),
+                    memory.succs.len(),
+                    side,
+                    task,
+                )
+            }
+        })*
+    };
 }
 
-/// The judging call of a lookup; side 0 is that of the predecessors, any other that of the successors.
-pub(crate) fn judge_lookup(memory: &Memory, side: u32, task: TaskId) -> Reply {
-    look_up!(yolluvek_judge_lookup, memory, side, task)
+lookups! {
+    /// The judging call of a lookup.
+    judge_lookup = yolluvek_judge_lookup -> Reply;
+
+    /// Where a lookup's part stands; 0 and 0 where it is refused.
+    lookup = yolluvek_lookup -> Part;
 }
 
-/// Where a lookup's part stands; 0 and 0 where it is refused.
-pub(crate) fn lookup(memory: &Memory, side: u32, task: TaskId) -> Part {
-    look_up!(yolluvek_lookup, memory, side, task)
+/// A list of a borrowed `Memory` as the pointer that a call is declared with.
+macro_rules! lent {
+    (const $list:expr) => {
+        $list.as_ptr()
+    };
+    (mut $list:expr) => {
+        $list.as_mut_ptr()
+    };
 }
 
-/// Calls begin or a step on all lists of a mutably borrowed `Memory`.
-macro_rules! call_run {
-    ($call:ident, $memory:expr, $table:ident, $($number:expr),*) => {{
-        let memory: &mut Memory = $memory;
-        // SAFETY: good: twelve vectors, and a Run, which is its two words; an Entry is two words, so their count is
-        // twice the vector's length, which is at most 1,024. Apart, alone: fields of one mutable borrow
-        unsafe {
-            $call(
-                memory.weights.as_ptr(),
-                memory.weights.len(),
-                memory.pred_starts.as_ptr(),
-                memory.pred_starts.len(),
-                memory.preds.as_ptr(),
-                memory.preds.len(),
-                memory.succ_starts.$table(),
-                memory.succ_starts.len(),
-                memory.succs.$table(),
-                memory.succs.len(),
-                memory.degrees.as_mut_ptr(),
-                memory.degrees.len(),
-                memory.rings.as_mut_ptr(),
-                memory.rings.len(),
-                memory.ends.as_mut_ptr(),
-                memory.ends.len(),
-                memory.counters.as_mut_ptr(),
-                memory.counters.len(),
-                memory.buffers.as_mut_ptr(),
-                memory.buffers.len(),
-                memory.executed.as_mut_ptr(),
-                2 * memory.executed.len(),
-                &mut memory.run,
-                2,
-                memory.rows.as_mut_ptr(),
-                memory.rows.len(),
-                $($number),*
-            )
+/// Declares calls on the lists of a run, and makes them on those of a `Memory`. Whether a call writes a list is named for
+/// each that some call writes and another doesn't; none writes the first three, and each writes the last two.
+macro_rules! run_calls {
+    ($(
+        $(#[$says:meta])*
+        $name:ident = $call:ident(
+            succ_starts: $succ_starts:tt,
+            succs: $succs:tt,
+            degrees: $degrees:tt,
+            rings: $rings:tt,
+            ends: $ends:tt,
+            counters: $counters:tt,
+            buffers: $buffers:tt,
+            executed: $executed:tt,
+            $($worker:ident: $number:ty,)?
+        ) -> $reply:ty;
+    )*) => {
+        extern "C" {
+            $(fn $call(
+                weights: *const u32,
+                weights_len: usize,
+                pred_starts: *const u32,
+                pred_starts_len: usize,
+                preds: *const TaskId,
+                preds_len: usize,
+                succ_starts: *$succ_starts u32,
+                succ_starts_len: usize,
+                succs: *$succs TaskId,
+                succs_len: usize,
+                degrees: *$degrees u32,
+                degrees_len: usize,
+                rings: *$rings u32,
+                rings_len: usize,
+                ends: *$ends u32,
+                ends_len: usize,
+                counters: *$counters i32,
+                counters_len: usize,
+                buffers: *$buffers u32,
+                buffers_len: usize,
+                executed: *$executed Entry,
+                executed_len: usize,
+                run: *mut Run,
+                run_len: usize,
+                rows: *mut Row,
+                rows_len: usize,
+                p: usize,
+                k: usize,
+                $($worker: $number,)?
+            ) -> $reply;)*
         }
-    }};
+
+        $($(#[$says])*
+        pub(crate) fn $name(memory: &mut Memory, p: usize, k: usize $(, $worker: $number)?) -> $reply {
+            // SAFETY: good: twelve vectors, and a Run, which is its two words; an Entry is two words, so their count is
+            // twice the vector's length, which is at most 1,024. Apart, alone: fields of one mutable borrow
+            unsafe {
+                $call(
+                    memory.weights.as_ptr(),
+                    memory.weights.len(),
+                    memory.pred_starts.as_ptr(),
+                    memory.pred_starts.len(),
+                    memory.preds.as_ptr(),
+                    memory.preds.len(),
+                    lent!($succ_starts memory.succ_starts),
+                    memory.succ_starts.len(),
+                    lent!($succs memory.succs),
+                    memory.succs.len(),
+                    lent!($degrees memory.degrees),
+                    memory.degrees.len(),
+                    lent!($rings memory.rings),
+                    memory.rings.len(),
+                    lent!($ends memory.ends),
+                    memory.ends.len(),
+                    lent!($counters memory.counters),
+                    memory.counters.len(),
+                    lent!($buffers memory.buffers),
+                    memory.buffers.len(),
+                    lent!($executed memory.executed),
+                    2 * memory.executed.len(),
+                    &mut memory.run,
+                    2,
+                    memory.rows.as_mut_ptr(),
+                    memory.rows.len(),
+                    p,
+                    k,
+                    $($worker,)?
+                )
+            }
+        })*
+    };
 }
 
-/// Begin, with P and K.
-pub(crate) fn begin(memory: &mut Memory, workers: usize, slots: usize) -> Reply {
-    call_run!(yolluvek_begin, memory, as_mut_ptr, workers, slots)
-}
+run_calls! {
+    /// Begin, with P and K.
+    begin = yolluvek_begin(
+        succ_starts: mut, succs: mut, degrees: mut, rings: mut,
+        ends: mut, counters: mut, buffers: mut, executed: mut,
+    ) -> Reply;
 
-/// Fetch, with P, K and the worker.
-pub(crate) fn fetch(memory: &mut Memory, workers: usize, slots: usize, worker: WorkerId) -> StepReply {
-    call_run!(yolluvek_fetch, memory, as_ptr, workers, slots, worker)
-}
+    /// Fetch, with P, K and the worker.
+    fetch = yolluvek_fetch(
+        succ_starts: const, succs: const, degrees: const, rings: const,
+        ends: mut, counters: mut, buffers: const, executed: const,
+        worker: WorkerId,
+    ) -> StepReply;
 
-/// Start, with P, K and the worker.
-pub(crate) fn start(memory: &mut Memory, workers: usize, slots: usize, worker: WorkerId) -> StepReply {
-    call_run!(yolluvek_start, memory, as_ptr, workers, slots, worker)
-}
+    /// Start, with P, K and the worker.
+    start = yolluvek_start(
+        succ_starts: const, succs: const, degrees: const, rings: const,
+        ends: const, counters: const, buffers: const, executed: const,
+        worker: WorkerId,
+    ) -> StepReply;
 
-/// Complete, with P, K and the worker.
-pub(crate) fn complete(memory: &mut Memory, workers: usize, slots: usize, worker: WorkerId) -> StepReply {
-    call_run!(yolluvek_complete, memory, as_ptr, workers, slots, worker)
-}
+    /// Complete, with P, K and the worker.
+    complete = yolluvek_complete(
+        succ_starts: const, succs: const, degrees: const, rings: const,
+        ends: const, counters: const, buffers: mut, executed: mut,
+        worker: WorkerId,
+    ) -> StepReply;
 
-/// Release, with P, K and the worker.
-pub(crate) fn release(memory: &mut Memory, workers: usize, slots: usize, worker: WorkerId) -> StepReply {
-    call_run!(yolluvek_release, memory, as_ptr, workers, slots, worker)
+    /// Release, with P, K and the worker.
+    release = yolluvek_release(
+        succ_starts: const, succs: const, degrees: mut, rings: mut,
+        ends: mut, counters: mut, buffers: const, executed: const,
+        worker: WorkerId,
+    ) -> StepReply;
 }

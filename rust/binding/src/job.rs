@@ -69,11 +69,53 @@ pub enum Side {
 
 /// A task graph with the memory of its run, for a number of workers and of slots in each ring.
 ///
-/// A job is made first, which never begins a run, and begun by [`begin`](Job::begin); called again, that starts another
-/// run from the beginning. Before an accepted begin every step is refused with 8. The graph and the two numbers stay as
-/// they are; for others, make another job, of [`into_tables`](Job::into_tables) perhaps.
+/// 1. Make a job: [`from_text`](Job::from_text) or [`from_tables`](Job::from_tables).
+/// 2. Begin a run: [`begin`](Job::begin). Called again, it starts another run from the beginning.
+/// 3. Drive it until it [`is_finished`](Job::is_finished), each call being one step of one worker:
+///    [`fetch`](Job::fetch) gives it a task, [`start`](Job::start) says that the task runs, [`complete`](Job::complete)
+///    that it is done, and each [`release`](Job::release) lets one successor of a completed task wait for one task less.
+/// 4. Read the [`record`](Job::record): which worker completed which task, in order.
 ///
-/// Two jobs are equal if all their memory is, so a copy made before a refused call equals the job after it.
+/// ```
+/// use yolluvek::{Job, Refusal, WorkerId};
+///
+/// // task 1 after task 0; one worker, two slots in a ring
+/// let mut job = Job::from_text(b"0\n0 0 0\n1 0 1 0\n", 1, 2)?;
+/// job.begin()?;
+/// let worker = WorkerId::new(0);
+/// while !job.is_finished() {
+///     let task = job.fetch(worker)?;
+///     job.start(worker)?;
+///     // here the worker runs the task
+///     job.complete(worker)?;
+///     assert_eq!(job.record().last().map(|entry| entry.task), Some(task));
+///     while job.release(worker).is_ok() {}
+/// }
+/// assert_eq!(job.record().len(), job.tasks());
+/// # Ok::<(), Refusal>(())
+/// ```
+///
+/// The [crate's page](crate) has the loop for several workers. A refused call has changed nothing, and says why:
+///
+/// | [`Refusal`] | of | means |
+/// |---|---|---|
+/// | [`BadLayout`](Refusal::BadLayout) | a text | it isn't laid out as the Standard Task Graph Set, from this line on |
+/// | [`BeyondLimit`](Refusal::BeyondLimit) | a text, begin | too large, or too few or too many workers or slots: see [`limits`](crate::limits) |
+/// | [`WrongLength`](Refusal::WrongLength), [`BadPart`](Refusal::BadPart), [`BadEnds`](Refusal::BadEnds), [`PredecessorTwice`](Refusal::PredecessorTwice), [`Cycle`](Refusal::Cycle) | begin | the tables are no task graph |
+/// | [`TooManyRoots`](Refusal::TooManyRoots) | begin | more workers or slots are needed |
+/// | [`NoSuchWorker`](Refusal::NoSuchWorker) | a step | workers have the numbers 0 to [`workers`](Job::workers) − 1 |
+/// | [`WrongPhase`](Refusal::WrongPhase) | a step | another step suits this worker now: see [`Phase`] |
+/// | [`NothingToFetch`](Refusal::NothingToFetch), [`NothingToRelease`](Refusal::NothingToRelease) | Fetch, Release | no fault: another step, or another worker, is next |
+/// | [`NoRoom`](Refusal::NoRoom) | Release | let a worker fetch, then release again |
+/// | [`DamagedWord`](Refusal::DamagedWord) | a step | there was no accepted begin |
+/// | [`NoSuchTask`](Refusal::NoSuchTask), [`BadPart`](Refusal::BadPart) | a lookup | there is no such task; its part of the table is bad, as all of the successors' is before begin |
+/// | [`RecordFull`](Refusal::RecordFull), [`Unknown`](Refusal::Unknown) | no call | a job doesn't answer them |
+///
+/// Where begin is refused with `BeyondLimit` or `WrongLength`, a step or a lookup may be too.
+///
+/// The graph, the workers and the slots of a job stay as they are; for others, make another job, of
+/// [`into_tables`](Job::into_tables) perhaps. Two jobs are equal if all their memory is, so a copy made before a refused
+/// call equals the job after it.
 #[derive(Clone, Debug, PartialEq, Eq)]
 pub struct Job {
     memory: Memory,
@@ -83,7 +125,7 @@ pub struct Job {
 }
 
 impl Job {
-    /// Reads a job from a text of the Standard Task Graph Set.
+    /// Reads a job from a text of the Standard Task Graph Set, for this number of workers and of slots in each ring.
     ///
     /// # Errors
     ///
@@ -104,7 +146,8 @@ impl Job {
         Ok(Job::from_tables(tables, workers, slots))
     }
 
-    /// Makes a job of tables. They and the two numbers are judged by [`begin`](Job::begin), whatever they are.
+    /// Makes a job of tables, for this number of workers and of slots in each ring. Nothing is judged here; all of it is by
+    /// [`begin`](Job::begin).
     ///
     /// ```
     /// use yolluvek::{Job, Refusal, TaskId, Tables};

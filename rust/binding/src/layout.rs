@@ -206,6 +206,16 @@ fn replies_of_steps() {
     assert_eq!(memory.executed[..2], entries);
 }
 
+fn read_reply(words: [u32; 4]) -> ReadReply {
+    let [number, detail, tasks, edges] = words;
+    ReadReply {
+        number,
+        detail,
+        tasks,
+        edges,
+    }
+}
+
 #[test]
 fn replies_of_the_other_calls() {
     let [weights, starts] = [[0; 3].as_slice(), &[0, 0, 1, 2]];
@@ -232,18 +242,6 @@ fn replies_of_the_other_calls() {
         let (mut weights, mut starts, mut preds) = (vec![0; 1_024], vec![0; 1_025], vec![TaskId::new(0); 8_192]);
         ffi::read_text(text, &mut weights, &mut starts, &mut preds)
     };
-    let accepted = ReadReply {
-        number: 0,
-        detail: 0,
-        tasks: 3,
-        edges: 2,
-    };
-    assert_eq!(read(b"1\n0 0 0\n1 7 1 0\n2 0 1 1\n"), accepted);
-    let refused = ReadReply {
-        number: 13,
-        detail: 3,
-        tasks: 0,
-        edges: 0,
-    };
-    assert_eq!(read(b"1\n0 0 0\n1 7 2 0\n2 0 1 1\n"), refused);
+    assert_eq!(read(b"1\n0 0 0\n1 7 1 0\n2 0 1 1\n"), read_reply([0, 0, 3, 2]));
+    assert_eq!(read(b"1\n0 0 0\n1 7 2 0\n2 0 1 1\n"), read_reply([13, 3, 0, 0]));
 }

@@ -1,5 +1,5 @@
-//! include/yolluvek.h beside the exports: the same functions with the same parameters in the same order, and the same
-//! fields.
+//! include/yolluvek.h beside the exports: the same functions with the same parameters in the same order, `const` exactly
+//! where an export lends shared, and the same fields. The Rust declarations of begin and the steps write the same lists.
 
 use std::collections::BTreeMap;
 use std::fs;
@@ -60,10 +60,10 @@ type Functions = BTreeMap<String, (Vec<Parameter>, String)>;
 fn in_c(of: &str) -> &'static str {
     match of {
         "u8" => "uint8_t",
-        "u32" => "uint32_t",
+        "u32" | "TaskId" => "uint32_t",
         "i32" => "int32_t",
         "usize" => "size_t",
-        "Row" | "[u32; 6]" => "yolluvek_row",
+        "Row" => "yolluvek_row",
         "Reply" => "yolluvek_reply",
         "StepReply" => "yolluvek_step_reply",
         "ReadReply" => "yolluvek_read_reply",
@@ -83,14 +83,7 @@ fn exported_parameter(item: &str) -> Vec<Parameter> {
     match (of.strip_prefix("&mut ["), of.strip_prefix("&[")) {
         (Some(elements), _) => list(elements, true),
         (_, Some(elements)) => list(elements, false),
-        _ => {
-            let name = match name {
-                "p" => "workers",
-                "k" => "slots",
-                _ => name,
-            };
-            vec![parameter(in_c(of), name, false)]
-        }
+        _ => vec![parameter(in_c(of), name, false)],
     }
 }
 
@@ -136,64 +129,76 @@ fn declared() -> Functions {
     functions
 }
 
-/// Every export is declared, and nothing else; a list that a call writes isn't `const`.
+/// Every export is declared, and nothing else; a list is `const` exactly if the export lends it shared.
 #[test]
 fn the_functions_are_the_exports() {
     let (exported, declared) = (exported(), declared());
     assert_eq!(exported.len(), 10);
     let names = |functions: &Functions| functions.keys().cloned().collect::<Vec<_>>();
     assert_eq!(names(&declared), names(&exported));
-    for (name, (parameters, answer)) in &exported {
-        let (found, answered) = &declared[name];
-        assert_eq!(answered, answer, "{name}");
-        let typed = |list: &[Parameter]| {
-            list.iter()
-                .map(|one| (one.of.clone(), one.name.clone()))
-                .collect::<Vec<_>>()
-        };
-        assert_eq!(typed(found), typed(parameters), "{name}");
-        for (found, parameter) in found.iter().zip(parameters) {
-            assert!(found.written || !parameter.written, "{name}: {}", parameter.name);
+    for (name, function) in &exported {
+        assert_eq!(&declared[name], function, "{name}");
+    }
+}
+
+/// The Rust declarations of begin and the steps name which lists each writes, but for the five that all treat alike.
+#[test]
+fn the_rust_declarations_write_what_the_exports_do() {
+    let exported = exported();
+    for file in ["rust/binding/src/ffi.rs", "rust/src/proved_engine.rs"] {
+        let stored = stored(file);
+        for step in ["begin", "fetch", "start", "complete", "release"] {
+            let name = format!("yolluvek_{step}");
+            let named = trimmed(between(&stored, &format!("{name}(\n"), ")"));
+            let named: BTreeMap<&str, &str> = named.filter_map(|item| item.split_once(": ")).collect();
+            let lists = exported[&name].0.iter().filter(|one| one.of.ends_with('*'));
+            for Parameter {
+                name: list, written, ..
+            } in lists
+            {
+                let how = match list.as_str() {
+                    "weights" | "pred_starts" | "preds" => "const",
+                    "run" | "rows" => "mut",
+                    list => named[list],
+                };
+                assert_eq!(how, if *written { "mut" } else { "const" }, "{file}: {list} of {name}");
+            }
         }
     }
 }
 
-/// The names of the fields of a struct of the crate, in order.
-fn fields(source: &str, name: &str) -> Vec<String> {
-    let body = between(source, &format!("pub struct {name} {{"), "}");
-    let names = trimmed(body).map(|field| field.strip_prefix("pub ").unwrap_or(field));
-    names
-        .map(|field| String::from(field.split(':').next().unwrap_or_default()))
+/// C's types and the names of the fields of a struct of the crate, in order.
+fn fields(source: &str, name: &str) -> Vec<(String, String)> {
+    let body = between(source, &format!("#[repr(C)]\npub struct {name} {{"), "}");
+    let fields = trimmed(body).map(|field| field.strip_prefix("pub ").expect("a public field"));
+    fields
+        .map(|field| field.split_once(": ").expect("a name and a type"))
+        .map(|(name, of)| (String::from(in_c(of)), String::from(name)))
         .collect()
 }
 
-/// The names of the fields of a type of the header, in order; all are words.
-fn declared_fields(name: &str) -> Vec<String> {
+/// The types and names of the fields of a type of the header, in order.
+fn declared_fields(name: &str) -> Vec<(String, String)> {
     let header = header();
     let (before, _) = header.split_once(&format!("}} {name};")).expect("the type's end");
     let (_, body) = before.rsplit_once("typedef struct {").expect("the type's beginning");
     let fields = body.split(';').map(str::trim).filter(|field| !field.is_empty());
     fields
-        .map(|field| String::from(field.strip_prefix("uint32_t ").expect("a word")))
+        .map(|field| field.split_once(' ').expect("a type and a name"))
+        .map(|(of, name)| (String::from(of), String::from(name)))
         .collect()
 }
 
 #[test]
 fn the_fields_are_the_exports() {
-    for (name, crates) in [
-        ("Row", vec!["task"]),
-        ("Reply", vec!["graph_export", "engine_export"]),
-        ("StepReply", vec!["engine_export"]),
-        ("ReadReply", vec!["stg_export"]),
-        ("Part", vec!["graph_export"]),
+    for (name, of) in [
+        ("Row", "task"),
+        ("Reply", "replies"),
+        ("StepReply", "replies"),
+        ("ReadReply", "stg_export"),
+        ("Part", "graph_export"),
     ] {
-        for each in crates {
-            assert_eq!(
-                declared_fields(in_c(name)),
-                fields(&source(each), name),
-                "{name} of {each}"
-            );
-        }
+        assert_eq!(declared_fields(in_c(name)), fields(&source(of), name), "{name} of {of}");
     }
 }
 
