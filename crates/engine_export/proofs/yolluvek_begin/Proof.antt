@@ -48,7 +48,7 @@ use Rattle.task.proofs.Answer as An
 use Rattle.task.proofs.Answer.Laws as An′
 use Rattle.rules.specs.Memory.{memOf}
 use Rattle.rules.specs.Begin.{begin as begun}
-use Rattle.engine.specs.Engine.{result}
+use Rattle.rules.specs.Plans.{resultOf}
 use Rattle.row_list.proofs.Laws.{R}
 use Rattle.replies.specs.declared.Reply.{Reply}
 use Rattle.replies.specs.Replies.{replyOf}
@@ -141,7 +141,7 @@ module _ {M : Type 1} (𝓤 : URA M) (H : Heap 𝓤) (A : Atoms 𝓤) (W : Given
       done !
 
   abbrev Said : (lim : Limits) → Answer → Lasts begin.ended κs (call-args lim) → Type 0
-  Said lim g zs = result g (memOf (weights .now) (pred-starts .now) (preds .now) (zs .1 .1 .1 .1 .0) (zs .1 .1 .1 .1 .1 .0) (zs .1 .1 .1 .1 .1 .1 .0) (zs .1 .1 .1 .1 .1 .1 .1 .0) (zs .1 .1 .1 .1 .1 .1 .1 .1 .0) (zs .1 .1 .1 .1 .1 .1 .1 .1 .1 .0) (zs .1 .1 .1 .1 .1 .1 .1 .1 .1 .1 .0) (zs .1 .1 .1 .1 .1 .1 .1 .1 .1 .1 .1 .0) (zs .1 .1 .1 .1 .1 .1 .1 .1 .1 .1 .1 .1 .0) (zs .1 .1 .1 .1 .1 .1 .1 .1 .1 .1 .1 .1 .1 .0)) ≡ begun lim p k (memOf (weights .now) (pred-starts .now) (preds .now) (succ-starts .now) (succs .now) (degrees .now) (rings .now) (ends .now) (counters .now) (buffers .now) (executed .now) (run-words .now) ys)
+  Said lim g zs = resultOf g (memOf (weights .now) (pred-starts .now) (preds .now) (zs .1 .1 .1 .1 .0) (zs .1 .1 .1 .1 .1 .0) (zs .1 .1 .1 .1 .1 .1 .0) (zs .1 .1 .1 .1 .1 .1 .1 .0) (zs .1 .1 .1 .1 .1 .1 .1 .1 .0) (zs .1 .1 .1 .1 .1 .1 .1 .1 .1 .0) (zs .1 .1 .1 .1 .1 .1 .1 .1 .1 .1 .0) (zs .1 .1 .1 .1 .1 .1 .1 .1 .1 .1 .1 .0) (zs .1 .1 .1 .1 .1 .1 .1 .1 .1 .1 .1 .1 .0) (zs .1 .1 .1 .1 .1 .1 .1 .1 .1 .1 .1 .1 .1 .0)) ≡ begun lim p k (memOf (weights .now) (pred-starts .now) (preds .now) (succ-starts .now) (succs .now) (degrees .now) (rings .now) (ends .now) (counters .now) (buffers .now) (executed .now) (run-words .now) ys)
 
   -- what is left at exit
   abbrev Left : (lim : Limits) → Lasts begin.ended κs (call-args lim) → List (Item 𝓤)
