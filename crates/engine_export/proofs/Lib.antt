@@ -1,3 +1,3 @@
 pub mod Laws
-pub mod Zero
+pub mod Told
 pub mod Calls

@@ -1,10 +1,11 @@
--- PROMISE: the number of a reply is 0 exactly if the call was accepted: no row of the published table has the number 0.
-use Prim.Native.Nat.{ℕ}
+-- PROMISE: the number of a reply is 0 exactly if the call was accepted, and else number and detail are those of the first row of the
+-- published table that holds.
+use Prim.Native.Nat.{ℕ, _≤_}
 use mathlib.Core.Path.{_≡_, refl}
 use mathlib.Core.Bool.{true}
 use mathlib.Core.Logic.{_↔_}
 use Rattle.task.specs.Refusals.{answerSays, stepSays}
-use Rattle.task.specs.Rows.{Acceptance}
+use Rattle.task.specs.Rows.{Given, Acceptance}
 use Rattle.task.proofs.Said.{numbered, zero-accepts}
 use Rattle.task.specs.declared.Limits.{Limits}
 use Rattle.task.specs.declared.Step.{Step}
@@ -16,10 +17,15 @@ use Rattle.rules.specs.Tables.{beginRows, stepRows}
 use Rattle.rules.proofs.Begin.{begin-follows}
 use Rattle.rules.proofs.Follows.{step-follows}
 use Rattle.replies.specs.Replies.{replyOf, stepReplyOf}
+use Rattle.replies.proofs.Told.{tells-refusal}
 
 module _ (limits : Limits) (p k : ℕ) (m : Mem) where
   pub begin-zero : (replyOf (begin limits p k m .answer) .number ≡ 0) ↔ Acceptance (answerSays (begin limits p k m .answer))
   begin-zero = zero-accepts (beginRows limits p k m) _ (begin-follows limits p k m) refl
+
+  pub begin-tells : (n d : ℕ) → 1 ≤ n
+      → ((replyOf (begin limits p k m .answer) .number ≡ n) × (replyOf (begin limits p k m .answer) .detail ≡ d)) ↔ Given (beginRows limits p k m) n d
+  begin-tells = tells-refusal (beginRows limits p k m) _ (begin-follows limits p k m)
 
   rows-numbered : (i : ℕ) (s : Step) → numbered (stepRows limits p k i s m) ≡ true
   rows-numbered i Fetch = refl
@@ -29,3 +35,8 @@ module _ (limits : Limits) (p k : ℕ) (m : Mem) where
 
   pub step-zero : (i : ℕ) (s : Step) → (stepReplyOf (step limits p k i s m .answer) .number ≡ 0) ↔ Acceptance (stepSays (step limits p k i s m .answer))
   step-zero i s = zero-accepts (stepRows limits p k i s m) _ (step-follows limits p k i s m) (rows-numbered i s)
+
+  pub step-tells : (i : ℕ) (s : Step) (n d : ℕ) → 1 ≤ n
+      → ((stepReplyOf (step limits p k i s m .answer) .number ≡ n) × (stepReplyOf (step limits p k i s m .answer) .detail ≡ d))
+      ↔ Given (stepRows limits p k i s m) n d
+  step-tells i s = tells-refusal (stepRows limits p k i s m) _ (step-follows limits p k i s m)
