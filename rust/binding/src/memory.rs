@@ -62,8 +62,8 @@ impl Memory {
     /// by that number judges the number first and answers 2.
     ///
     /// Begin writes every word but the tables'. Before that the rows and the successor table hold words that no run
-    /// has, so that a job which isn't begun can't be taken for one that is: a step is refused with 8, a lookup of
-    /// successors with 3.
+    /// has, so that a job which isn't begun can't be taken for one that is: a step that passes 2, 1 and 7 is refused with 8,
+    /// a lookup of successors with 3.
     pub fn sized(tables: Tables, workers: usize, slots: usize) -> Memory {
         let n = tables.weights.len().min(MAX_TASKS);
         let e = tables.preds.len().min(MAX_EDGES);
