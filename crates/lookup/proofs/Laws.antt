@@ -21,6 +21,7 @@ use Rattle.graph.specs.Check.{sizesFit}
 use Rattle.graph.specs.Lookup.{Lent, startsOn, wordsOn, lengthsFit, taskFits, judgeAnswer, neighboursOf, LookupFits}
 use Rattle.graph.proofs.Lookup.{judge-accepts, lookup-part}
 use Rattle.task.specs.Refusals.{answerSays}
+use Rattle.lookup.specs.Place.{wordPtr, tablePtr, InPlace}
 
 module _ (n t : ℕ) where
   pub fits-not : (b : Bool) → n ≤ t → false ≡ (ltb t n && b)
@@ -64,11 +65,11 @@ module _ (side : Side) (l : Lent) (t : ℕ) (limits : Limits) (is : limits ≡ e
       unfolding judgeAnswer
       judge-accepted q = simp (fit, not-false ok e, not-false (lengthsFit l) g, sym p, not-false f q)
 
--- where the judging call accepts
+-- what the lookup hands back, by what the judging call answers; the tables begin at preds and succs
 module _ (side : Side) (l : Lent) (t : ℕ) (r : Answer) (h : r ≡ judgeAnswer side l t) where
-  pub handed-nothing : (n d : ℕ) → r ≡ Refused n d → [] ≡ neighboursOf side l t
+  pub handed-nothing : (preds succs p : ℕ × ℕ) (n d : ℕ) → r ≡ Refused n d → ([] ≡ neighboursOf side l t) × InPlace side l preds succs t p
   unfolding neighboursOf
-  handed-nothing n d e = rw (sym h ∙ e)
+  handed-nothing preds succs p n d e = (rw (sym h ∙ e), λ a. absurd (let z : _≡_ {A = ℕ} 0 1 = cc in omega arith))
 
   module _ (e : r ≡ Accepted) where
     fits : LookupFits side l t
@@ -82,5 +83,10 @@ module _ (side : Side) (l : Lent) (t : ℕ) (r : Answer) (h : r ≡ judgeAnswer 
         in-range Predecessors a = (omega (arith, a .task, a .predStarts), (a .good .rises, a .good .inside))
         in-range Successors a = (omega (arith, a .task, a .succStarts), (a .good .rises, a .good .inside))
 
-    pub handed-part : (d : Side) → side ≡ d → (p : List ℕ) → p ≡ part (startsOn d l) (wordsOn d l) t → p ≡ neighboursOf side l t
-    handed-part d w p q = q ∙ ap (λ (x : Side). part (startsOn x l) (wordsOn x l) t) (sym w) ∙ sym (lookup-part side l t fits)
+    pub handed-part : (preds succs : ℕ × ℕ) (d : Side) → side ≡ d → (x : List ℕ) (p : ℕ × ℕ)
+        → (x ≡ part (startsOn d l) (wordsOn d l) t) × (p ≡ wordPtr (tablePtr d preds succs) (getD (startsOn d l) t 0))
+        → (x ≡ neighboursOf side l t) × InPlace side l preds succs t p
+    handed-part preds succs d w x p q = (
+      q .0 ∙ ap (λ (z : Side). part (startsOn z l) (wordsOn z l) t) (sym w) ∙ sym (lookup-part side l t fits),
+      λ a. q .1 ∙ ap (λ (z : Side). wordPtr (tablePtr z preds succs) (getD (startsOn z l) t 0)) (sym w),
+    )

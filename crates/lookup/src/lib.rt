@@ -4,10 +4,12 @@ ghost use mathlib.Core.Bool.{_&&_};
 ghost use Prim.Native.Nat.{_+_, _≤_, _<_};
 ghost use lib.ListN.{length, getD};
 ghost use lib.Dec.{ltb};
+ghost use denote.Ref.{ptr};
 ghost use Rattle.lists.specs.Decided.{holds};
 ghost use Rattle.graph.specs.Graph.{part};
 ghost use Rattle.graph.specs.Decide.{good?};
 ghost use Rattle.graph.specs.Lookup.{lentOf, taskFits, judgeAnswer, neighboursOf};
+ghost use Rattle.lookup.specs.Place.{wordPtr, InPlace};
 use task::Answer;
 use task::Limits;
 use task::Side;
@@ -83,16 +85,15 @@ pub fn judge(
 // Task t's part of a table in which its range is good.
 fn part_at<'a>(starts: &[u32], words: &'a [u32], t: usize) -> &'a [u32]
     requires { ⌜ (t + 1 < length (now starts)) × ((getD (now starts) t 0 ≤ getD (now starts) (t + 1) 0) × (getD (now starts) (t + 1) 0 ≤ length (now words))) ⌝ }
-    ensures { λ r. ⌜ now r ≡ part (now (starts .entry)) (now (words .entry)) t ⌝ }
+    ensures { λ r. ⌜ (now r ≡ part (now (starts .entry)) (now (words .entry)) t) × (ptr r ≡ wordPtr (ptr (words .entry)) (getD (now (starts .entry)) t 0)) ⌝ }
 {
     let a = starts[t] as usize;
     let e = starts[t + 1] as usize;
     &words[a..e]
 }
 
-// The neighbours on the side named; a refused lookup hands back an empty part. Only the two tables can be handed back: no
-// other list has the result's lifetime. Left free: which of the two a refused lookup's empty part belongs to. The contract
-// equates words; the table is the type's to say, and the place `part_at`'s.
+// The neighbours on the side named, from their place in the table itself; a refused lookup hands back an empty part. Left free:
+// which of the two tables that empty part belongs to; no other list has the result's lifetime.
 pub fn neighbours<'a>(
     weights: &[u32],
     pred_starts: &[u32],
@@ -102,7 +103,7 @@ pub fn neighbours<'a>(
     side: Side,
     task: TaskId,
 ) -> &'a [u32]
-    ensures { λ r. ⌜ now r ≡ neighboursOf side (lentOf (now (weights .entry)) (now («pred_starts» .entry)) (now (preds .entry)) (now («succ_starts» .entry)) (now (succs .entry))) (task .0) ⌝ }
+    ensures { λ r. ⌜ (now r ≡ neighboursOf side (lentOf (now (weights .entry)) (now («pred_starts» .entry)) (now (preds .entry)) (now («succ_starts» .entry)) (now (succs .entry))) (task .0)) × InPlace side (lentOf (now (weights .entry)) (now («pred_starts» .entry)) (now (preds .entry)) (now («succ_starts» .entry)) (now (succs .entry))) (ptr (preds .entry)) (ptr (succs .entry)) (task .0) (ptr r) ⌝ }
 {
     let answer = judge(weights, pred_starts, preds, succ_starts, succs, side, task);
     let Answer::Accepted = answer else {

@@ -1,4 +1,4 @@
--- An accepted judgement gives the range; a refused one an empty part.
+-- An accepted judgement gives the range and its place; a refused one an empty part.
 use Rattle.lookup.proofs.Laws.{handed-nothing, range-on, handed-part}
 use borrow.Author.Needs.{needs}
 use Rattle.lookup.proofs.neighbours.Statement.{statement}
@@ -23,7 +23,7 @@ part-result-end : tie.Need-part-result-end
 part-result-end c = search needs
 
 returns : tie.Need-returns
-returns c = handed-nothing _ _ _ _ (c .before .before .before .judge .ensures) _ _ (c .before .enum-told2 .given .1)
+returns c = handed-nothing _ _ _ _ (c .before .before .before .judge .ensures) (c .before .before .before .before .before .before .before .before .before .args .preds .ptr) (c .before .before .before .before .before .before .before .before .before .args .succs .ptr) _ _ _ (c .before .enum-told2 .given .1)
 
 cast-t : tie.Need-cast-t
 cast-t c = search needs
@@ -41,10 +41,10 @@ part-at-requires-2 : tie.Need-part-at-requires-2
 part-at-requires-2 c κs = range-on _ _ _ _ (c .before .before .before .before .before .judge .ensures) (c .before .before .before .enum-told .given .1) _ (c .enum-told4 .given .1)
 
 returns-2 : tie.Need-returns-2
-returns-2 c = handed-part _ _ _ _ (c .before .before .before .before .before .before .judge .ensures) (c .before .before .before .before .enum-told .given .1) _ (c .before .enum-told3 .given .1) _ (c .part-at .ensures)
+returns-2 c = handed-part _ _ _ _ (c .before .before .before .before .before .before .judge .ensures) (c .before .before .before .before .enum-told .given .1) (c .before .before .before .before .before .before .before .before .before .before .before .before .args .preds .ptr) (c .before .before .before .before .before .before .before .before .before .before .before .before .args .succs .ptr) _ (c .before .enum-told3 .given .1) _ _ (c .part-at .ensures)
 
 returns-3 : tie.Need-returns-3
-returns-3 c = handed-part _ _ _ _ (c .before .before .before .before .before .before .judge .ensures) (c .before .before .before .before .enum-told .given .1) _ (c .before .enum-told4 .given .1) _ (c .part-at2 .ensures)
+returns-3 c = handed-part _ _ _ _ (c .before .before .before .before .before .before .judge .ensures) (c .before .before .before .before .enum-told .given .1) (c .before .before .before .before .before .before .before .before .before .before .before .before .args .preds .ptr) (c .before .before .before .before .before .before .before .before .before .before .before .before .args .succs .ptr) _ (c .before .enum-told4 .given .1) _ _ (c .part-at2 .ensures)
 
 pub neighbours-spec : {M : Type 1} → statement M
 neighbours-spec =

@@ -1,5 +1,7 @@
--- The range is the part, by definition.
-use mathlib.Core.Path.{refl}
+-- The range is the part, by definition; it begins at the table's word of that number.
+use Prim.Native.Nat.{ℕ}
+use mathlib.Core.Path.{refl, ap}
+use native.Mathlib.Omega.{arith}
 use Rattle.graph.specs.Graph.{part}
 use borrow.Author.Needs.{needs}
 use Rattle.lookup.proofs.part_at.Statement.{statement}
@@ -40,7 +42,7 @@ part-result-end c = search needs
 
 returns : tie.Need-returns
 unfolding part
-returns c = refl
+returns c = (refl, ap (λ (o : ℕ). (c .before .before .before .args .words .ptr .0, o)) (omega arith))
 
 pub part-at-spec : {M : Type 1} → statement M
 part-at-spec =
