@@ -1,15 +1,12 @@
 -- A finished run is at rest: every ring and every buffer is empty, every worker idle and every degree 0. A step with begin's P and K and a worker
 -- below P then only ever meets 9 and 10: Fetch and Release find nothing there, Start and Complete don't suit the phase.
-use Prim.Native.Nat.{ℕ, _+_, _-_, _%_, _<_}
-use mathlib.Core.Path.{_≡_, refl, sym, ap, _∙_}
+use Prim.Native.Nat.{ℕ, _+_, _%_, _<_}
+use mathlib.Core.Path.{_≡_, refl, sym, _∙_}
 use mathlib.Core.Logic.{inl, inr}
-use mathlib.Core.List.{List, [], _∷_}
+use mathlib.Core.List.{[], _∷_}
 use native.Mathlib.Omega.{arith}
 use native.Mathlib.Decide.{ℕ-discrete}
 use native.Mathlib.Nat.{mod-lt}
-use lib.ListN.{length, length-append, length-drop}
-use Rattle.lists.proofs.Blocks.{length-tabulate}
-use Rattle.lists.proofs.Places.{place-lt}
 use Rattle.task.specs.Phases.{suits}
 use Rattle.task.specs.Refusals.{refused, wrongPhase, nothingThere, stepSays}
 use Rattle.task.specs.Rows.{row, only, Given}
@@ -21,40 +18,24 @@ use Rattle.ring.proofs.Queues.{queue-empty}
 use Rattle.rules.specs.Memory.{Mem, graphIn, ringNumber, endsIn, ringsIn, degreeIn, rowIn}
 use Rattle.rules.specs.Sizes.{Fits}
 use Rattle.rules.specs.Steps.{step}
-use Rattle.rules.specs.Tables.{BadPlaces, GoesOn, BadEnds, scannedEnds, ownRows}
+use Rattle.rules.specs.Tables.{GoesOn, scannedEnds, ownRows}
 use Rattle.rules.proofs.Headers.{fits-within}
-use Rattle.rules.proofs.Searches.{all-not-bad}
 use Rattle.rules.proofs.Follows.{step-follows}
-use Rattle.algorithm1.specs.State.{Thread, State, successorsOf, threadOf}
+use Rattle.algorithm1.specs.State.{State}
 use Rattle.algorithm1.specs.Reading.{queueIn, stateOf}
-use Rattle.algorithm1.proofs.Readings.{degree-at, queue-at, thread-at}
+use Rattle.algorithm1.proofs.Readings.{degree-at, queue-at}
 use Rattle.system.specs.Stages.{idle}
 use Rattle.system.proofs.Finished.{finished-waiting, finished-hand, finished-degree, finished-pending}
 use Rattle.runs.specs.Calls.{Run, memoryOf}
 use Rattle.runs.specs.Demand.{Finished, nextSays}
 use Rattle.runs.specs.AtRest.{AtRest}
-use Rattle.runs.proofs.Invariant.{followers, pendingOf, meaning, Buffered}
+use Rattle.runs.proofs.Invariant.{meaning}
 use Rattle.runs.proofs.Begun.{all-listed}
 use Rattle.runs.proofs.Waiting.{waiting-none}
-use Rattle.runs.proofs.Honest.{systemIn, honest-run}
-use Rattle.runs.proofs.Live.{row-phase, row-pointer}
-use Rattle.runs.proofs.LiveRelease.{few-places, buffer-is}
+use Rattle.runs.proofs.Honest.{systemIn, ends-sound, honest-run}
+use Rattle.runs.proofs.Live.{row-phase, row-pointer, scan-sound}
+use Rattle.runs.proofs.LiveRelease.{places-good, pending-none}
 use Rattle.runs.proofs.Demand.{invariant-run, all-recorded, finished-full}
-
--- with a task in its buffer a thread has a successor to release
-none-pending : (s : State) (r : Thread) → Buffered s r → pendingOf s r ≡ [] → r .buffer ≡ []
-unfolding pendingOf followers
-none-pending s r b e = go (r .buffer) refl
-  where
-    go : (l : List ℕ) → r .buffer ≡ l → r .buffer ≡ []
-    go [] q = q
-    go (t ∷ ts) q =
-        absurd (omega (
-          arith,
-          b .cursor t ts q,
-          ap (λ (l : List ℕ). length (followers s l)) q ∙ length-append (successorsOf s t) (followers s ts),
-          sym (length-drop (r .cursor) (followers s (r .buffer))) ∙ ap length e,
-        ))
 
 -- an idle worker's step where numbers and lists fit: 9 unless the step suits phase 0, else what the step's own rows say
 module _ (limits : Limits) (p k i : ℕ) (s : Step) (m : Mem) (fits : Fits limits p k m) (worker : i < p) (free : _≡_ {A = ℕ} (rowIn m i .phase) 0) where
@@ -98,7 +79,7 @@ module _ (r : Run) (f : Finished r) where
   ring-empty i j hi hj = (sound, queue-empty 0 k (ringsIn now) (ringNumber p i j) sound .1 (queue-none i j hi hj))
     where
       sound : Sound k (endsIn now (ringNumber p i j))
-      sound = honest-run r .words .ends (ringNumber p i j) (place-lt p p i j hi hj)
+      sound = ends-sound (honest-run r) i hi j hj
 
   phase-idle : (i : ℕ) → i < p → _≡_ {A = ℕ} (rowIn now i .phase) 0
   unfolding meaning
@@ -109,17 +90,8 @@ module _ (r : Run) (f : Finished r) where
   buffer-empty : (i : ℕ) → i < p → rowIn now i .read ≡ rowIn now i .write
   unfolding meaning
   buffer-empty i h =
-      omega (
-        arith,
-        honest-run r .words .places i h,
-        sym (length-tabulate (rowIn now i .write - rowIn now i .read) _)
-            ∙ ap length (sym (buffer-is (honest-run r) i h) ∙ sym (ap (λ (t : Thread). t .buffer) (thread-at p k now i h)) ∙ none),
-      )
-    where
-      none : threadOf state i .buffer ≡ []
-      none =
-          none-pending state (threadOf state i) (honest-run r .sane .buffers i)
-          (finished-pending ℕ-discrete _ p _ (all-listed (graphIn now)) {s = systemIn p k now} (invariant-run r) (all-recorded r (finished-full r f)) i h)
+      pending-none (honest-run r) i h
+      (finished-pending ℕ-discrete _ p _ (all-listed (graphIn now)) {s = systemIn p k now} (invariant-run r) (all-recorded r (finished-full r f)) i h)
 
   degree-none : (t : ℕ) → _≡_ {A = ℕ} (degreeIn now t) 0
   unfolding meaning
@@ -138,23 +110,16 @@ module _ (r : Run) (f : Finished r) where
     free = phase-idle i worker
 
     -- the scan finds all P rings empty
-    scan-none : GoesOn k Empty (scannedEnds p i now) p
+    pub scan-none : GoesOn k Empty (scannedEnds p i now) p
     scan-none d h = ring-empty i ((rowIn now i .pointer + d) % p) worker (mod-lt (rowIn now i .pointer + d) (fits .oneWorker))
-
-    no-bad-ends : ¬ (BadEnds p k Empty (scannedEnds p i now))
-    no-bad-ends = all-not-bad p k Empty (scannedEnds p i now) scan-none
-
-    places-good : ¬ (BadPlaces now i)
-    places-good (inl h) = omega (arith, h, honest-run r .words .places i worker)
-    places-good (inr h) = omega (arith, h, few-places (honest-run r) i worker)
 
     pub finished-says : (nextSays r i Fetch ≡ refused 10 0) × (nextSays r i Start ≡ refused 9 0)
         × (nextSays r i Complete ≡ refused 9 0) × (nextSays r i Release ≡ refused 10 0)
     finished-says = (
       own-row (r .limits) p k i Fetch now fits worker free refl nothingThere 0
-          (inr (λ d c. omega (arith, row-pointer (honest-run r) i worker, c .1), inr (λ d c. no-bad-ends (c .1), inl (refl, (refl, scan-none))))),
+          (inr (λ d c. omega (arith, row-pointer (honest-run r) i worker, c .1), inr (λ d c. scan-sound (honest-run r) i worker (c .1), inl (refl, (refl, scan-none))))),
       unsuited (r .limits) p k i Start now fits worker free (λ e. omega (arith, e)),
       unsuited (r .limits) p k i Complete now fits worker free (λ e. omega (arith, e)),
       own-row (r .limits) p k i Release now fits worker free refl nothingThere 0
-          (inr (λ d c. places-good (c .1), inl (refl, (refl, buffer-empty i worker)))),
+          (inr (λ d c. places-good (honest-run r) i worker (c .1), inl (refl, (refl, buffer-empty i worker)))),
     )

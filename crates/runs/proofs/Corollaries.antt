@@ -2,19 +2,17 @@
 -- records the same tasks as any other of its graph, and accepts no further step. With N 0 begun is finished.
 use Prim.Native.Nat.{ℕ, _<_}
 use mathlib.Core.Path.{_≡_, refl, sym, ap, _∙_}
-use mathlib.Core.Logic.{inl, inr}
 use mathlib.Core.List.{List, []}
 use native.Mathlib.Omega.{arith}
-use native.Mathlib.Decide.{ℕ-discrete, decLt}
-use lib.ListN.{length, getD, drop}
+use native.Mathlib.Decide.{ℕ-discrete}
+use lib.ListN.{length, getD}
 use Rattle.lists.specs.Lists.{occ, placeOf}
-use Rattle.lists.proofs.Decided.{stable, both?}
 use Rattle.lists.proofs.Blocks.{getD-tabulate}
 use Rattle.lists.proofs.Occurrences.{occ-hit, at-occ}
 use Rattle.lists.proofs.Positions.{place-member, place-at, place-least, before-member}
 use Rattle.task.specs.Types.{engine}
-use Rattle.task.specs.Refusals.{answerSays, stepSays, refused, recordFull, numberOf}
-use Rattle.task.specs.Rows.{Acceptance, Given}
+use Rattle.task.specs.Refusals.{answerSays, stepSays, refused, recordFull}
+use Rattle.task.specs.Rows.{Acceptance}
 use Rattle.task.specs.declared.Limits.{Limits}
 use Rattle.task.specs.declared.Step.{Step}
 use Rattle.task.specs.declared.Step.the-variants.{Complete}
@@ -24,10 +22,8 @@ use Rattle.exchange.specs.Pairs.{eachOnce}
 use Rattle.rules.specs.Memory.{Mem, tasks, graphIn, rowIn, held, entriesIn}
 use Rattle.rules.specs.Steps.{step}
 use Rattle.rules.specs.Begin.{begin}
-use Rattle.rules.specs.Tables.{completeRows, stepRows}
 use Rattle.rules.proofs.Examples.{nothing, examples}
 use Rattle.rules.proofs.Moves.{accepted-step}
-use Rattle.rules.proofs.Follows.{step-follows}
 use Rattle.rules.proofs.Numbers.{TwoOrOne, other-step, other-begin}
 use Rattle.algorithm1.specs.Reading.{threadIn}
 use Rattle.algorithm1.proofs.Readings.{thread-at}
@@ -41,7 +37,8 @@ use Rattle.runs.proofs.Begun.{items-reversed}
 use Rattle.runs.proofs.Hands.{hand-holds}
 use Rattle.runs.proofs.Events.{entries-word}
 use Rattle.runs.proofs.Honest.{systemIn, honest-run}
-use Rattle.runs.proofs.Demand.{run-sound, invariant-run, recorded, recorded-words, recorded-length, finished-count, finished-full, finished-order, running-open, demand-3}
+use Rattle.runs.proofs.Undamaged.{undamaged}
+use Rattle.runs.proofs.Demand.{run-sound, invariant-run, recorded, recorded-words, recorded-length, finished-count, finished-full, finished-order, demand-3}
 
 module _ (r : Run) where
   abbrev p : ℕ
@@ -138,37 +135,4 @@ other-numbers r p k n = (
 
 -- in memory begun and stepped by the engine Complete never meets 12, whatever P, K and worker
 pub never-full : (r : Run) (p k i d : ℕ) → ¬ (stepSays (step (r .limits) p k i Complete (memoryOf r) .answer) ≡ refused recordFull d)
-never-full r p k i d e = go (both? p k (r .workers) (r .slots))
-  where
-    -- a step that is refused with 12 has passed the rows before it: the worker is there and its phase is 2
-    given : (p k : ℕ) → p ≡ r .workers → Given (stepRows (r .limits) p k i Complete (memoryOf r)) recordFull d → ⊥
-    given p k same (inl (n, c)) = omega (arith, n)
-    given p k same (inr (a, inl (n, c))) = omega (arith, n)
-    given p k same (inr (a, inr (b, inl (n, c)))) = omega (arith, n)
-    given p k same (inr (a, inr (b, inr (worker, inl (n, c))))) = omega (arith, n)
-    given p k same (inr (a, inr (b, inr (worker, inr (f, inl (n, c)))))) = omega (arith, n)
-    given p k same (inr (a, inr (b, inr (worker, inr (f, inr (phase, inl (n, c))))))) = omega (arith, n)
-    given p k same (inr (a, inr (b, inr (worker, inr (f, inr (phase, inr (h, inl (n, (x, full))))))))) =
-        omega (
-          arith,
-          full,
-          running-open r i (stable (decLt i (r .workers)) (λ m. worker i (refl, omega (arith, m, same))))
-              (stable (ℕ-discrete (rowIn (memoryOf r) i .phase) 2) (λ m. phase (rowIn (memoryOf r) i .phase) (refl, m))),
-        )
-    given p k same (inr (a, inr (b, inr (worker, inr (f, inr (phase, inr (h, inr (g, rest)))))))) = damaged rest
-      where
-        damaged : Given (drop 2 (completeRows i (memoryOf r))) recordFull d → ⊥
-        damaged (inl (n, c)) = omega (arith, n)
-        damaged (inr (a, inl (n, c))) = omega (arith, n)
-        damaged (inr (a, inr (b, inl (n, c)))) = omega (arith, n)
-        damaged (inr (a, inr (b, inr (c, inl (n, x))))) = omega (arith, n)
-        damaged (inr (a, inr (b, inr (c, inr (f, inl (n, x)))))) = omega (arith, n)
-        damaged (inr (a, inr (b, inr (c, inr (f, inr (g, z)))))) = z
-
-    go : Dec ((p ≡ r .workers) × (k ≡ r .slots)) → ⊥
-    go (yes (ep, ek)) = given p k ep (step-follows (r .limits) p k i Complete (memoryOf r) .refuses recordFull d .0 e)
-    go (no n) = other (other-numbers r p k n .0 i Complete)
-      where
-        other : TwoOrOne (stepSays (step (r .limits) p k i Complete (memoryOf r) .answer)) → ⊥
-        other (inl q) = omega (arith, ap numberOf (sym e ∙ q))
-        other (inr q) = omega (arith, ap numberOf (sym e ∙ q))
+never-full r p k i d = undamaged .next r (r .limits) p k i Complete .notFull d

@@ -1,6 +1,6 @@
 -- PROMISE: demand 3: a finished run has 3N + E accepted steps and a record that the graph allows, in an unfinished run some step is accepted next, and the
 -- records of two finished runs of one graph are joined by exchanges.
-use Prim.Native.Nat.{ℕ, _+_, _*_, _<_}
+use Prim.Native.Nat.{ℕ, _+_, _*_, _≤_, _<_}
 use mathlib.Core.Path.{_≡_, refl, sym, ap, _∙_}
 use mathlib.Core.List.{List, [], _∷_}
 use native.Mathlib.Omega.{arith}
@@ -23,7 +23,7 @@ use Rattle.graph.proofs.Reversed.{all-edges}
 use Rattle.exchange.specs.Exchange.{Allows}
 use Rattle.exchange.specs.Pairs.{eachOnce}
 use Rattle.exchange.proofs.Theorem.{exchange-tasks}
-use Rattle.rules.specs.Memory.{Mem, tasks, edges, graphIn, rowIn, entriesIn, acceptedIn}
+use Rattle.rules.specs.Memory.{Mem, tasks, edges, graphIn, degreeIn, rowIn, entriesIn, acceptedIn}
 use Rattle.algorithm1.specs.State.{State, threadOf, waitingFor}
 use Rattle.algorithm1.specs.Reading.{recordIn, stateOf}
 use Rattle.algorithm1.proofs.Readings.{degree-at, phase-at}
@@ -85,6 +85,35 @@ module _ (r : Run) where
   unfolding meaning stateOf
   recorded-words = is-tabulate (entriesIn now) (taskWord now) (nil .0) recorded recorded-length (λ x h. sym (record-words r x h))
 
+  laws : system.Reversed ℕ-discrete (itemsOf graph)
+  laws = items-reversed graph run-sound
+
+  is-task : (t : ℕ) → itemsOf graph .want t ≡ 1 → t < tasks now
+  is-task t e = tally-pos (decLt t (tasks now)) (omega (arith, e))
+
+  -- what runs and what waits are tasks; what is to be released is one whose degree is in its range
+  pub running-task : (i a : ℕ) → i < p → handOf (threadOf state i) ≡ running a → a < tasks now
+  unfolding meaning
+  running-task i a worker hand =
+      is-task a
+      (held-wanted ℕ-discrete (itemsOf graph) laws p {s = systemIn p k now} invariant-run i a worker
+      (omega (arith, ap (λ (x : Hand ℕ). occ a (inHand x)) hand, occ-hit ℕ-discrete a a [] refl)))
+
+  pub waiting-task : (i : ℕ) → i < p → (t : ℕ) → 0 < occ t (waitingFor p state i) → t < tasks now
+  unfolding meaning
+  waiting-task i worker t m =
+      is-task t (waiting-wanted ℕ-discrete (itemsOf graph) laws p {s = systemIn p k now} invariant-run i t worker m)
+
+  pub pending-task : (i x : ℕ) (rest : List ℕ) → i < p → pendingOf state (threadOf state i) ≡ x ∷ rest
+      → (x < tasks now) × (1 ≤ degreeIn now x) × (degreeIn now x ≤ tasks now)
+  unfolding meaning
+  pending-task i x rest worker pending =
+      let (wanted, blocked) = pending-blocked ℕ-discrete (itemsOf graph) laws p {s = systemIn p k now} invariant-run i x rest worker pending in (
+        is-task x wanted,
+        omega (arith, blocked, degree-at p k now x),
+        omega (arith, honest-run r .known .few x, degree-at p k now x, few-preds (honest-run r .graph .graph) x (is-task x wanted)),
+      )
+
   -- While a task runs, an entry is free for it: in memory begun and stepped by the engine Complete never meets 12.
   pub running-open : (i : ℕ) → i < p → _≡_ {A = ℕ} (rowIn now i .phase) 2 → entriesIn now < tasks now
   unfolding meaning
@@ -132,7 +161,7 @@ module _ (r : Run) where
     some-missing : length recorded < length (allOf (tasks now))
     some-missing = omega (arith, recorded-length, free, length-all (tasks now))
 
-    low : acceptedIn now < 3 * tasks now + edges now
+    pub low : acceptedIn now < 3 * tasks now + edges now
     unfolding meaning
     low =
         omega (
@@ -142,9 +171,6 @@ module _ (r : Run) where
           all-edges graph run-sound,
         )
 
-    laws : system.Reversed ℕ-discrete (itemsOf graph)
-    laws = items-reversed graph run-sound
-
     -- some worker has something to do
     ready : Ready p (systemIn p k now)
     ready =
@@ -152,9 +178,6 @@ module _ (r : Run) where
         (λ u t h. rank-rises graph (honest-run r .graph .graph) u t (edge-of run-sound u t h))
         (λ u t h. tally-yes (decLt u (tasks now)) (run-sound .good t (edge-of run-sound u t h .task) .below u h))
         (allOf (tasks now)) (all-listed graph) (systemIn p k now) invariant-run some-missing
-
-    is-task : (t : ℕ) → itemsOf graph .want t ≡ 1 → t < tasks now
-    is-task t e = tally-pos (decLt t (tasks now)) (omega (arith, e))
 
     -- so one of the four steps is accepted
     accepted-next : (i : ℕ) × (s : Step) × (i < p) × Accepts i s
@@ -164,22 +187,11 @@ module _ (r : Run) where
         h : Honest (r .limits) p k now
         h = honest-run r
 
-        running-task : (i a : ℕ) → i < p → handOf (threadOf state i) ≡ running a → a < tasks now
-        running-task i a worker hand =
-            is-task a
-            (held-wanted ℕ-discrete (itemsOf graph) laws p {s = systemIn p k now} invariant-run i a worker
-            (omega (arith, ap (λ (x : Hand ℕ). occ a (inHand x)) hand, occ-hit ℕ-discrete a a [] refl)))
-
-        waiting-task : (i : ℕ) → i < p → (t : ℕ) → 0 < occ t (waitingFor p state i) → t < tasks now
-        waiting-task i worker t m =
-            is-task t (waiting-wanted ℕ-discrete (itemsOf graph) laws p {s = systemIn p k now} invariant-run i t worker m)
-
         release : (i x : ℕ) (rest : List ℕ) → i < p → pendingOf state (threadOf state i) ≡ x ∷ rest → handOf (threadOf state i) ≡ idle
             → ((o : ℕ) → o < p → waitingFor p state o ≡ []) → Accepts i Release
         release i x rest worker pending hand none =
-            let (wanted, blocked) = pending-blocked ℕ-discrete (itemsOf graph) laws p {s = systemIn p k now} invariant-run i x rest worker pending in
-            release-live h i worker low x rest hand pending (is-task x wanted) (omega (arith, blocked, degree-at p k now x))
-            (omega (arith, h .known .few x, degree-at p k now x, few-preds (h .graph .graph) x (is-task x wanted))) none
+            let (below, positive, few) = pending-task i x rest worker pending in
+            release-live h i worker low x rest hand pending below positive few none
 
         go : Ready p (systemIn p k now) → (i : ℕ) × (s : Step) × (i < p) × Accepts i s
         go (toStart i a worker hand) = (i, Start, worker, start-live h i worker low a hand)
@@ -195,7 +207,7 @@ module _ (r : Run) where
   pub finished-full : Finished r → entriesIn (memoryOf r) ≡ tasks (memoryOf r)
   finished-full f = omega (arith, f .completes, entries-word r, honest-run r .words .entries, tasks-reached r)
 
-  unfinished-free : ¬ (Finished r) → entriesIn (memoryOf r) < tasks (memoryOf r)
+  pub unfinished-free : ¬ (Finished r) → entriesIn (memoryOf r) < tasks (memoryOf r)
   unfinished-free n =
       stable (decLt (entriesIn (memoryOf r)) (tasks (memoryOf r)))
       (λ m. n (record { completes = omega (arith, m, entries-word r, tasks-reached r) }))

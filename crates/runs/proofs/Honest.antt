@@ -4,14 +4,15 @@ use mathlib.Core.Path.{_≡_}
 use mathlib.Core.List.{List}
 use native.Mathlib.Decide.{ℕ-discrete}
 use lib.ListN.{length}
+use Rattle.lists.proofs.Places.{place-lt}
 use Rattle.task.specs.Refusals.{answerSays, accepted}
 use Rattle.task.specs.declared.Limits.{Limits}
 use Rattle.task.specs.declared.Step.{Step}
 use Rattle.graph.specs.Graph.{Graph, predsOf}
 use Rattle.graph.specs.Conditions.{Good, GraphFits}
 use Rattle.graph.proofs.Accepted.{fits-sound}
-use Rattle.ring.specs.Ring.{capacity}
-use Rattle.rules.specs.Memory.{Mem, tasks, graphIn, acceptedIn}
+use Rattle.ring.specs.Ring.{Sound, capacity}
+use Rattle.rules.specs.Memory.{Mem, tasks, graphIn, ringNumber, endsIn, acceptedIn}
 use Rattle.rules.specs.Sizes.{Fits}
 use Rattle.rules.specs.Steps.{step}
 use Rattle.rules.specs.Begin.{begin}
@@ -131,6 +132,10 @@ module _ (limits : Limits) (p k : ℕ) where
   -- so it holds after every list of a run's calls
   pub honest : (m : Mem) → answerSays (begin limits p k m .answer) ≡ accepted → (cs : List Call) → Honest limits p k (reached limits p k m cs)
   honest = always limits p k (Honest limits p k) begun-honest step-honest
+
+-- the ends of the ring of owner i filled by worker j are slots
+pub ends-sound : {limits : Limits} {p k : ℕ} {m : Mem} → Honest limits p k m → (i : ℕ) → i < p → (j : ℕ) → j < p → Sound k (endsIn m (ringNumber p i j))
+ends-sound {p = p} h i worker j l = h .words .ends (ringNumber p i j) (place-lt p p i j worker l)
 
 -- what is known of the memory after a run's calls
 pub honest-run : (r : Run) → Honest (r .limits) (r .workers) (r .slots) (memoryOf r)

@@ -20,4 +20,5 @@ pub mod Demand
 pub mod Corollaries
 pub mod Wrong
 pub mod Afterwards
+pub mod Undamaged
 pub mod Hosted

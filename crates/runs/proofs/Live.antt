@@ -20,13 +20,13 @@ use Rattle.task.specs.Rows.{Acceptance}
 use Rattle.task.specs.declared.Limits.{Limits}
 use Rattle.task.specs.declared.Step.the-variants.{Fetch, Start, Complete}
 use Rattle.task.specs.declared.StepOutcome.the-variants.{Moved, Fetched}
-use Rattle.ring.specs.Ring.{Sound, Empty, ringsOf, takenAt, queue}
+use Rattle.ring.specs.Ring.{Empty, ringsOf, takenAt, queue}
 use Rattle.ring.proofs.Queues.{queue-empty, queue-take}
 use Rattle.choice.specs.Search.{Found, unsound, none, at}
 use Rattle.rules.specs.Memory.{Mem, tasks, edges, ringNumber, endsIn, ringsIn, headWord, counterIn, succCount, rowIn, held, entriesIn, acceptedIn}
 use Rattle.rules.specs.Updates.{Update}
 use Rattle.rules.specs.Steps.{scan, step}
-use Rattle.rules.specs.Tables.{Beyond2^30, GoesOn, StopsAt, scanned, scannedEnds}
+use Rattle.rules.specs.Tables.{Beyond2^30, GoesOn, BadEnds, StopsAt, scanned, scannedEnds, NextTask}
 use Rattle.rules.specs.Moves.{Ranged, Completing, sink, inner, Completes}
 use Rattle.rules.proofs.Searches.{Looked}
 use Rattle.rules.proofs.Fetch.{scan-looked}
@@ -38,7 +38,7 @@ use Rattle.system.specs.Stages.{Hand, idle, fetched, running, phase}
 use Rattle.runs.specs.Counters.{handOf, Within}
 use Rattle.runs.proofs.Hands.{hand-phase, running-held}
 use Rattle.runs.proofs.Waiting.{lists-empty, list-waits}
-use Rattle.runs.proofs.Honest.{Honest}
+use Rattle.runs.proofs.Honest.{Honest, ends-sound}
 use Rattle.runs.proofs.Weights.{honest-within}
 
 -- a counter of an honest run is far from the range's ends
@@ -58,7 +58,7 @@ module _ {limits : Limits} {p k : ℕ} {m : Mem} (h : Honest limits p k m) (i : 
   pub row-phase : (x : Hand ℕ) → handOf (threadOf state i) ≡ x → rowIn m i .phase ≡ phase x
   row-phase x e = sym (phase-at p k m i worker) ∙ thread-phase x e
 
-  row-held : (a : ℕ) → handOf (threadOf state i) ≡ running a → held m i ≡ a
+  pub row-held : (a : ℕ) → handOf (threadOf state i) ≡ running a → held m i ≡ a
   unfolding threadIn
   row-held a e =
       sym (ap (λ (r : Thread). r .held) (thread-at p k m i worker)) ∙ running-held (threadOf state i) a (thread-phase (running a) e) e
@@ -75,12 +75,8 @@ module _ {limits : Limits} {p k : ℕ} {m : Mem} (h : Honest limits p k m) (i : 
   pub task-ranged : (t : ℕ) → t < tasks m → Ranged m t
   task-ranged t l = good-ranged m (h .fits .lengths .others .succs) t l (h .good t l)
 
-  -- the ends of the ring of owner i filled by worker j are slots
-  pub ends-sound : (j : ℕ) → j < p → Sound k (endsIn m (ringNumber p i j))
-  ends-sound j l = h .words .ends (ringNumber p i j) (place-lt p p i j worker l)
-
   list-empty : (j : ℕ) → j < p → Empty (endsIn m (ringNumber p i j)) → queueOf state i j ≡ []
-  list-empty j l e = queue-at p k m i j worker l ∙ queue-empty 0 k (ringsIn m) (ringNumber p i j) (ends-sound j l) .0 e
+  list-empty j l e = queue-at p k m i j worker l ∙ queue-empty 0 k (ringsIn m) (ringNumber p i j) (ends-sound h i worker j l) .0 e
 
   -- the head of a ring waits
   head-waits : (j : ℕ) → j < p → ¬ (Empty (endsIn m (ringNumber p i j))) → 0 < occ (headWord k m (ringNumber p i j)) (waitingFor p state i)
@@ -89,13 +85,22 @@ module _ {limits : Limits} {p k : ℕ} {m : Mem} (h : Honest limits p k m) (i : 
     where
       here : 0 < occ (headWord k m (ringNumber p i j)) (queue 0 k (ringsIn m) (ringNumber p i j))
       here =
-          rw (queue-take 0 k (ringsIn m) (ringNumber p i j) (ends-sound j l) n
+          rw (queue-take 0 k (ringsIn m) (ringNumber p i j) (ends-sound h i worker j l) n
           (rw (h .fits .lengths .others .ends) (place-end 2 (p * p) (ringNumber p i j) (place-lt p p i j worker l))))
           (omega (
             arith,
             occ-hit ℕ-discrete (headWord k m (ringNumber p i j)) (headWord k m (ringNumber p i j))
                 (queue 0 k (ringsOf (m .rings) (takenAt 0 k (ringNumber p i j) (ringsIn m) .ends)) (ringNumber p i j)) refl,
           ))
+
+  -- so the next task waits
+  pub next-waits : (t : ℕ) → NextTask p k i m t → 0 < occ t (waitingFor p state i)
+  next-waits t (e, stop, q) =
+      rw q at (head-waits ((rowIn m i .pointer + e) % p) (mod-lt (rowIn m i .pointer + e) (h .fits .oneWorker)) (stop .stops))
+
+  -- the scan comes to no damaged ends
+  pub scan-sound : ¬ (BadEnds p k Empty (scannedEnds p i m))
+  scan-sound (e, near, on, bad) = bad (ends-sound h i worker ((rowIn m i .pointer + e) % p) (mod-lt (rowIn m i .pointer + e) (h .fits .oneWorker)))
 
   -- where a task waits, the scan stops
   scan-stops-at : ¬ (waitingFor p state i ≡ []) → (e : ℕ) × StopsAt p k Empty (scannedEnds p i m) e
@@ -107,7 +112,7 @@ module _ {limits : Limits} {p k : ℕ} {m : Mem} (h : Honest limits p k m) (i : 
           list-empty j l (rw e at (all d near .1))
 
       go : (f : Found) → Looked p k Empty (scannedEnds p i m) (rowIn m i .pointer) f → (e : ℕ) × StopsAt p k Empty (scannedEnds p i m) e
-      go unsound (e, near, on, bad) = absurd (bad (ends-sound ((rowIn m i .pointer + e) % p) (mod-lt (rowIn m i .pointer + e) (h .fits .oneWorker))))
+      go unsound bad = absurd (scan-sound bad)
       go none all = absurd (some (lists-empty p state i (all-empty all)))
       go (at j) (e, stop, q) = (e, stop)
 
@@ -180,6 +185,4 @@ module _ {limits : Limits} {p k : ℕ} {m : Mem} (h : Honest limits p k m) (i : 
             })
           where
             task : headWord k m (scanned p i m e) < tasks m
-            task =
-                below (headWord k m (scanned p i m e))
-                (head-waits ((rowIn m i .pointer + e) % p) (mod-lt (rowIn m i .pointer + e) (h .fits .oneWorker)) (stop .stops))
+            task = below (headWord k m (scanned p i m e)) (next-waits (headWord k m (scanned p i m e)) (e, stop, refl))

@@ -2,11 +2,12 @@
 -- ring has room.
 use Prim.Native.Nat.{ℕ, suc, _+_, _-_, _*_, _%_, _≤_, _<_}
 use mathlib.Core.Path.{_≡_, refl, sym, ap, _∙_}
+use mathlib.Core.Logic.{inl, inr}
 use mathlib.Core.List.{List, [], _∷_, _++_}
 use native.Mathlib.Omega.{arith}
 use native.Mathlib.Decide.{ℕ-discrete, decLt}
 use native.Mathlib.Nat.{add-zero, mod-lt}
-use lib.ListN.{length, getD, List·getD-eq-default, List·getD-append}
+use lib.ListN.{length, getD, length-append, length-drop, List·getD-eq-default, List·getD-append}
 use lib.Seq.{drop-nil, getD-drop}
 use Rattle.lists.specs.Lists.{tabulate}
 use Rattle.lists.proofs.Apart.{cons-not-nil}
@@ -28,7 +29,7 @@ use Rattle.choice.proofs.Least.{target-is}
 use Rattle.rules.specs.Memory.{Mem, tasks, edges, ringNumber, endsIn, ringsIn, counterIn, degreeIn, rowIn, succCount, acceptedIn, oldest, successor}
 use Rattle.rules.specs.Updates.{Update}
 use Rattle.rules.specs.Steps.{step}
-use Rattle.rules.specs.Tables.{BadCounter, StopsAt, offeredEnds}
+use Rattle.rules.specs.Tables.{BadCounter, BadPlaces, BadEnds, StopsAt, offeredEnds}
 use Rattle.rules.specs.Moves.{Ranged, Advances, next, last, Releasing, waiting, placed, Releases}
 use Rattle.rules.proofs.Makes.{allowed-accepted}
 use Rattle.algorithm1.specs.State.{Thread, State, successorsOf, queueOf, threadOf, waitingFor}
@@ -39,9 +40,9 @@ use Rattle.system.specs.Stages.{idle}
 use Rattle.runs.specs.Counters.{handOf, Within}
 use Rattle.runs.proofs.Invariant.{followers, pendingOf, Buffered}
 use Rattle.runs.proofs.Waiting.{waiting-none}
-use Rattle.runs.proofs.Honest.{Honest}
+use Rattle.runs.proofs.Honest.{Honest, ends-sound}
 use Rattle.runs.proofs.Weights.{honest-within}
-use Rattle.runs.proofs.Live.{within-range, row-phase, joined-recorded, task-ranged, ends-sound}
+use Rattle.runs.proofs.Live.{within-range, row-phase, joined-recorded, task-ranged}
 
 -- what a thread has to release first is the successor at the cursor of the oldest task in its buffer
 record FirstDue (s : State) (r : Thread) (x : ℕ) : Type 0 where
@@ -70,6 +71,21 @@ first-due s r x rest b e = go (r .buffer) refl
               ∙ List·getD-append (successorsOf s t) (followers s ts) 0 (r .cursor) (b .cursor t ts q);
         }
 
+-- with a task in its buffer a thread has a successor to release
+none-pending : (s : State) (r : Thread) → Buffered s r → pendingOf s r ≡ [] → r .buffer ≡ []
+unfolding pendingOf followers
+none-pending s r b e = go (r .buffer) refl
+  where
+    go : (l : List ℕ) → r .buffer ≡ l → r .buffer ≡ []
+    go [] q = q
+    go (t ∷ ts) q =
+        absurd (omega (
+          arith,
+          b .cursor t ts q,
+          ap (λ (l : List ℕ). length (followers s l)) q ∙ length-append (successorsOf s t) (followers s ts),
+          sym (length-drop (r .cursor) (followers s (r .buffer))) ∙ ap length e,
+        ))
+
 -- a number that isn't a task's has no successors
 successors-task : (p k : ℕ) (m : Mem) (t : ℕ) → 0 < length (successorsOf (stateOf p k m) t) → t < tasks m
 unfolding stateOf
@@ -90,7 +106,7 @@ advanced count r h = go (ℕ-discrete (suc (r .cursor)) count)
     go (no n) = (_, next (omega (arith, h, n)))
 
 -- all P·P counters are in their range
-counters-within : (p : ℕ) (m : Mem) → ((i j : ℕ) → i < p → j < p → Within (counterIn m (ringNumber p i j))) → ¬ (BadCounter (p * p) (m .counters))
+pub counters-within : (p : ℕ) (m : Mem) → ((i j : ℕ) → i < p → j < p → Within (counterIn m (ringNumber p i j))) → ¬ (BadCounter (p * p) (m .counters))
 counters-within p m within (q, l, beyond) =
     let (i, j, hi, hj, e) = place-parts p p q l in
     within-range (counterIn m q) (rw e at (within i j hi hj)) beyond
@@ -100,7 +116,11 @@ module _ {limits : Limits} {p k : ℕ} {m : Mem} (h : Honest limits p k m) (i : 
   pub few-places : rowIn m i .write ≤ tasks m
   few-places = omega (arith, joined-recorded h i worker, h .words .entries)
 
-  pub buffer-is : threadIn m i .buffer ≡ between m i (rowIn m i .read) (rowIn m i .write)
+  pub places-good : ¬ (BadPlaces m i)
+  places-good (inl l) = omega (arith, l, h .words .places i worker)
+  places-good (inr l) = omega (arith, l, few-places)
+
+  buffer-is : threadIn m i .buffer ≡ between m i (rowIn m i .read) (rowIn m i .write)
   buffer-is =
       ap (λ (r : Thread). r .buffer) (thread-from m i) ∙ places-fit m i (rowIn m i .read) (rowIn m i .write) (h .words .places i worker) few-places
 
@@ -111,11 +131,24 @@ module _ {limits : Limits} {p k : ℕ} {m : Mem} (h : Honest limits p k m) (i : 
   buffer-oldest : (t : ℕ) (ts : List ℕ) → threadIn m i .buffer ≡ t ∷ ts → t ≡ oldest m i
   buffer-oldest t ts e = head-same (sym e ∙ buffer-is ∙ between-first m i (rowIn m i .read) (rowIn m i .write) (buffer-some t ts e))
 
+  -- and one whose tasks have nothing left to release is empty
+  pub pending-none : pendingOf (stateOf p k m) (threadOf (stateOf p k m) i) ≡ [] → rowIn m i .read ≡ rowIn m i .write
+  pending-none e =
+      omega (
+        arith,
+        h .words .places i worker,
+        sym (length-tabulate (rowIn m i .write - rowIn m i .read) _)
+            ∙ ap length (sym buffer-is ∙ sym (ap (λ (r : Thread). r .buffer) (thread-at p k m i worker)) ∙ none),
+      )
+    where
+      none : threadOf (stateOf p k m) i .buffer ≡ []
+      none = none-pending (stateOf p k m) (threadOf (stateOf p k m) i) (h .sane .buffers i) e
+
   -- the first that is due is the successor that the rules release, and their words are in their ranges
-  releasing : (x : ℕ) → FirstDue (stateOf p k m) (threadIn m i) x → x < tasks m → 1 ≤ degreeIn m x → degreeIn m x ≤ tasks m
-      → (row : Row) × Releasing i m row
+  pub releasing : (x : ℕ) (rest : List ℕ) → pendingOf (stateOf p k m) (threadOf (stateOf p k m) i) ≡ x ∷ rest
+      → x < tasks m → 1 ≤ degreeIn m x → degreeIn m x ≤ tasks m → (row : Row) × Releasing i m row
   unfolding threadIn
-  releasing x due below positive few =
+  releasing x rest pending below positive few =
       let (row, advances) = advanced (succCount m (oldest m i)) (rowIn m i) cursor in (
         row,
         record {
@@ -130,6 +163,9 @@ module _ {limits : Limits} {p k : ℕ} {m : Mem} (h : Honest limits p k m) (i : 
         },
       )
     where
+      due : FirstDue (stateOf p k m) (threadIn m i) x
+      due = rw (thread-at p k m i worker) at (first-due (stateOf p k m) (threadOf (stateOf p k m) i) x rest (h .sane .buffers i) pending)
+
       is-oldest : due .task ≡ oldest m i
       is-oldest = buffer-oldest (due .task) (due .others) (due .buffer)
 
@@ -148,6 +184,10 @@ module _ {limits : Limits} {p k : ℕ} {m : Mem} (h : Honest limits p k m) (i : 
 
       x-is : x ≡ successor m i
       x-is = due .there ∙ ap (λ (l : List ℕ). getD l (rowIn m i .cursor) 0) successors-are ∙ successor-at m (oldest m i) (rowIn m i .cursor) cursor
+
+  -- no search for room comes to damaged ends
+  pub room-sound : (j : ℕ) → ¬ (BadEnds p k (Full k) (offeredEnds p i m j))
+  room-sound j (e, near, on, bad) = bad (ends-sound h ((j + e) % p) (mod-lt (j + e) (h .fits .oneWorker)) i worker)
 
   -- an empty ring isn't full: it has two slots or more
   empty-room : (o : ℕ) → o < p → queueOf (stateOf p k m) o i ≡ [] → ¬ (Full k (endsIn m (ringNumber p o i)))
@@ -180,12 +220,9 @@ module _ {limits : Limits} {p k : ℕ} {m : Mem} (h : Honest limits p k m) (i : 
         → x < tasks m → 1 ≤ degreeIn m x → degreeIn m x ≤ tasks m → ((o : ℕ) → o < p → waitingFor p (stateOf p k m) o ≡ [])
         → Acceptance (stepSays (step limits p k i Release m .answer))
     release-live x rest hand pending below positive few none =
-        let (row, common) = releasing x due below positive few in
+        let (row, common) = releasing x rest pending below positive few in
         go row common (ℕ-discrete (degreeIn m (successor m i)) 1)
       where
-        due : FirstDue (stateOf p k m) (threadIn m i) x
-        due = rw (thread-at p k m i worker) at (first-due (stateOf p k m) (threadOf (stateOf p k m) i) x rest (h .sane .buffers i) pending)
-
         accepts : (o : StepOutcome) (us : List Update) → Releases p k i m o us → Acceptance (stepSays (step limits p k i Release m .answer))
         accepts o us r =
             allowed-accepted limits p k i Release m o us

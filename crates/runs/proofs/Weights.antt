@@ -22,7 +22,7 @@ use Rattle.runs.proofs.Begun.{all-listed}
 use Rattle.runs.proofs.Calls.{weights-reached}
 use Rattle.runs.proofs.Counters.{charged-waiting}
 use Rattle.runs.proofs.Bounds.{left, placed, bounded-within}
-use Rattle.runs.proofs.Honest.{systemIn, Honest, honest-run}
+use Rattle.runs.proofs.Honest.{systemIn, Honest, ends-sound, honest-run}
 
 -- of what is known of a memory
 module _ {limits : Limits} {p k : ℕ} {m : Mem} (h : Honest limits p k m) where
@@ -57,6 +57,7 @@ module _ {limits : Limits} {p k : ℕ} {m : Mem} (h : Honest limits p k m) where
 pub counters-add-up : CountersAddUp
 counters-add-up =
     record {
+      ends = λ r i j hi. ends-sound (honest-run r) i hi j;
       addsUp = λ r. honest-run r .addsUp;
       words = λ r i h. honest-words (honest-run r) i h ∙ rw (weights-reached r);
       within = λ r. honest-within (honest-run r);

@@ -10,7 +10,8 @@ use lib.IntN.{ℤ, pos, negsuc}
 use lib.Signed.{_≤ℤ_}
 use Rattle.lists.specs.Lists.{joined}
 use Rattle.lists.specs.Sums.{sumToZ, sumOf}
-use Rattle.rules.specs.Memory.{weightIn}
+use Rattle.ring.specs.Ring.{Sound}
+use Rattle.rules.specs.Memory.{ringNumber, endsIn, weightIn}
 use Rattle.algorithm1.specs.State.{Thread, State, weightOf, waitingFor, workload, threadOf}
 use Rattle.algorithm1.specs.Reading.{queueIn, stateOf}
 use Rattle.system.specs.Stages.{Hand, idle, fetched, running, inHand}
@@ -48,6 +49,8 @@ pub record Within (c : ℤ) : Type 0 where
 
 -- PROMISE: after every list of a run's calls
 pub record CountersAddUp : Type 0 where
+  -- no ring's list is read from damaged ends, as an empty one: both are slots
+  pub ends : (r : Run) (i j : ℕ) → i < r .workers → j < r .workers → Sound (r .slots) (endsIn (memoryOf r) (ringNumber (r .workers) i j))
   pub addsUp : (r : Run) → AddsUp (r .workers) (stateOf (r .workers) (r .slots) (memoryOf r))
   -- the same in the lent words: the counters at places i·P .. i·P + P−1, and begin's weights of the tasks in the rings of owner i
   pub words : (r : Run) (i : ℕ) → i < r .workers

@@ -4,4 +4,5 @@ pub mod Fairness
 pub mod Demand
 pub mod RunWords
 pub mod AtRest
+pub mod Undamaged
 pub mod Hosted

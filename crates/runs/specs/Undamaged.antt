@@ -1,0 +1,31 @@
+-- In a run, whose memory only the engine writes, no call is refused with 8 or 12: no step ever finds "a damaged word", nor does Complete ever
+-- find "N entries recorded".
+use Prim.Native.Nat.{ℕ, _≤_, _<_}
+use mathlib.Core.Path.{_≡_}
+use mathlib.Core.List.{List, [], _∷_}
+use Rattle.task.specs.Refusals.{Said, refused, damaged, recordFull, stepSays}
+use Rattle.task.specs.declared.Limits.{Limits}
+use Rattle.task.specs.declared.Step.{Step}
+use Rattle.rules.specs.Memory.{tasks, rowIn, entriesIn}
+use Rattle.rules.specs.Steps.{step}
+use Rattle.runs.specs.Calls.{Event, Run, memoryOf, eventsOf}
+
+-- an answer that is neither, whatever the detail
+pub record NoDamage (said : Said) : Type 0 where
+  pub notDamaged : (d : ℕ) → ¬ (said ≡ refused damaged d)
+  pub notFull : (d : ℕ) → ¬ (said ≡ refused recordFull d)
+
+abbrev pub NoDamageIn : List Event → Type 0
+NoDamageIn [] = Unit {0}
+NoDamageIn (e ∷ es) = NoDamage (e .said) × NoDamageIn es
+
+-- PROMISE: after every list of a run's calls
+pub record Undamaged : Type 0 where
+  -- any step that may come next, with any limits, P, K and worker number
+  pub next : (r : Run) (limits : Limits) (p k i : ℕ) (s : Step) → NoDamage (stepSays (step limits p k i s (memoryOf r) .answer))
+  -- the answers so far, those of begins and lookups too
+  pub events : (r : Run) → NoDamageIn (eventsOf r)
+  -- "buffer places .. read ≤ write ≤ N", and no more than N entries
+  pub places : (r : Run) (i : ℕ) → i < r .workers
+      → (rowIn (memoryOf r) i .read ≤ rowIn (memoryOf r) i .write) × (rowIn (memoryOf r) i .write ≤ tasks (r .lent))
+  pub entries : (r : Run) → entriesIn (memoryOf r) ≤ tasks (r .lent)
