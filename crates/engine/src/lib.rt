@@ -1,5 +1,6 @@
-// The engine's calls, lent all lists of a run and the numbers P and K: each step loads the worker's row, takes the step by value, and
-// stores the row. A call lends mutably what its rule writes; the other lists keep their words by their type.
+// The engine's calls with the worker rows as six words each, for callers whose rows are local arrays; `engine_ref` has the public form.
+// They are lent all lists of a run and the numbers P and K: each step loads the worker's row, takes the step by value, and stores the
+// row. A call lends mutably what its rule writes; the other lists keep their words by their type.
 ghost use mathlib.Core.Path.{_≡_};
 ghost use Rattle.task.specs.declared.Step.{Step};
 ghost use Rattle.rules.specs.Begin.{begin};
