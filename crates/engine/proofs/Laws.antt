@@ -8,7 +8,7 @@ use Rattle.task.specs.Types.{idle}
 use Rattle.task.specs.declared.Limits.{Limits}
 use Rattle.task.specs.declared.Row.{Row}
 use Rattle.task.specs.declared.Step.the-variants.{Fetch, Start, Complete, Release}
-use Rattle.rows.specs.Rows.{rowsOf, clearedRows}
+use Rattle.rows.specs.Rows.{clearedRows}
 use Rattle.rows.proofs.Laws.{length-rows}
 use Rattle.rules.specs.Memory.{Mem, memOf}
 use Rattle.rules.specs.Plans.{resultOf}

@@ -3,7 +3,7 @@
 use task::Ends;
 use task::TaskId;
 ghost use mathlib.Core.Path.{_≡_};
-ghost use Prim.Native.Nat.{ℕ, _+_, _*_, _≤_, _<_};
+ghost use Prim.Native.Nat.{_+_, _*_, _≤_, _<_};
 ghost use lib.ListN.{length};
 ghost use Rattle.lists.specs.Circles.{after};
 ghost use Rattle.task.specs.Types.{engine};
