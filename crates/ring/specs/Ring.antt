@@ -93,27 +93,6 @@ unfoldable pub takenAt : {A : Type 0} → A → ℕ → ℕ → Rings A → Take
 takenAt default k q r =
     takenOf (getD (r .slots) (slotAt k q (endsAt (r .ends) q .head)) default) (storeEnds (r .ends) q (headOn k (endsAt (r .ends) q)))
 
--- one ring by itself: its slots and its ends
-pub record Ring (A : Type 0) : Type 0 where
-  pub slots : List A
-  pub ends : Ends
-
-abbrev pub ringOf : {A : Type 0} → List A → Ends → Ring A
-ringOf s e = record { slots = s; ends = e }
-
-unfoldable pub appended : {A : Type 0} → A → Ring A → Ring A
-appended a r = ringOf (set (r .slots) (r .ends .tail) a) (tailOn (length (r .slots)) (r .ends))
-
-unfoldable pub taken : {A : Type 0} → A → Ring A → Taken A Ends
-taken default r = takenOf (getD (r .slots) (r .ends .head) default) (headOn (length (r .slots)) (r .ends))
-
--- what one ring's append and take leave, with its ends stored as those of ring q
-unfoldable pub storeRing : {A : Type 0} → List ℕ → ℕ → Ring A → Rings A
-storeRing words q r = ringsOf (r .slots) (storeEnds words q (r .ends))
-
-unfoldable pub storeTaken : {A : Type 0} → List ℕ → ℕ → Taken A Ends → Taken A (List ℕ)
-storeTaken words q t = takenOf (t .item) (storeEnds words q (t .ends))
-
 -- ring q and its ends lie within the lists, and its slots are at most the engine's
 pub record Inside {A : Type 0} (k q : ℕ) (r : Rings A) : Type 0 where
   pub few : k ≤ engine .slots

@@ -1,13 +1,13 @@
-// Rings of tasks: append and take on one ring's slots, with its ends by value and lent by `&mut`, and both on the lent lists of
-// all rings.
+// Rings of tasks. Append and take advance a ring's ends and say the slot, whatever an item is: on one ring's ends, lent, and on the
+// words of all ends; with them a task joins a ring of tasks.
 use task::Ends;
 use task::TaskId;
 ghost use mathlib.Core.Path.{_≡_};
 ghost use Prim.Native.Nat.{_+_, _*_, _≤_, _<_};
-ghost use lib.ListN.{length};
+ghost use lib.ListN.{length, getD};
 ghost use Rattle.lists.specs.Circles.{after};
 ghost use Rattle.task.specs.Types.{engine};
-ghost use Rattle.ring.specs.Ring.{endWords, Sound, sound, empty, full, endsAt, storeEnds, ringOf, appended, takenOf, taken, ringsOf, appendedAt, takenAt, Inside, storeRing, storeTaken};
+ghost use Rattle.ring.specs.Ring.{endWords, slotAt, endsAt, storeEnds, Sound, sound, empty, full, headOn, tailOn, ringsOf, appendedAt, Inside};
 
 // The slot after a slot, modulo k.
 fn after_slot(x: u32, k: usize) -> u32
@@ -56,97 +56,91 @@ pub fn store_ends(words: &mut [u32], q: usize, ends: Ends)
     words[q * 2 + 1] = ends.tail;
 }
 
-// A task joins the ring that has these slots; the ends after it.
-pub fn append_by_value(slots: &mut [u32], ends: Ends, task: TaskId) -> Ends
-    requires { ⌜ Sound (length (now slots)) ends × (length (now slots) ≤ engine .slots) ⌝ }
-    ensures { λ r. ⌜ ringOf (now (slots .exit)) r ≡ appended (task .0) (ringOf (now (slots .entry)) ends) ⌝ }
+// The ends after an append: the tail moves on.
+fn tail_on(ends: Ends, k: usize) -> Ends
+    requires { ⌜ Sound k ends × (k ≤ engine .slots) ⌝ }
+    ensures { λ r. ⌜ r ≡ tailOn k ends ⌝ }
 {
-    let k = slots.len();
     let tail = after_slot(ends.tail, k);
-    slots[ends.tail as usize] = task.0;
     Ends {
         head: ends.head,
         tail,
     }
 }
 
-// A task taken, and the ends after it.
-pub struct Taken {
-    pub task: TaskId,
-    pub ends: Ends,
-}
-
-pub fn take_by_value(slots: &[u32], ends: Ends) -> Taken
-    requires { ⌜ Sound (length (now slots)) ends × (length (now slots) ≤ engine .slots) ⌝ }
-    ensures { λ r. ⌜ takenOf (r .task .0) (r .ends) ≡ taken 0 (ringOf (now (slots .entry)) ends) ⌝ }
+// The ends after a take: the head moves on.
+fn head_on(ends: Ends, k: usize) -> Ends
+    requires { ⌜ Sound k ends × (k ≤ engine .slots) ⌝ }
+    ensures { λ r. ⌜ r ≡ headOn k ends ⌝ }
 {
-    let k = slots.len();
     let head = after_slot(ends.head, k);
-    let task = TaskId(slots[ends.head as usize]);
-    Taken {
-        task,
-        ends: Ends {
-            head,
-            tail: ends.tail,
-        },
+    Ends {
+        head,
+        tail: ends.tail,
     }
 }
 
-// "A ring's head and tail form one record, which append and fetch advance themselves": the tail.
-pub fn append(slots: &mut [u32], ends: &mut Ends, task: TaskId)
-    requires { ⌜ Sound (length (now slots)) (now ends) × (length (now slots) ≤ engine .slots) ⌝ }
-    ensures { λ r. ⌜ ringOf (now (slots .exit)) (now (ends .exit)) ≡ appended (task .0) (ringOf (now (slots .entry)) (now (ends .entry))) ⌝ }
+// "A ring's head and tail form one record, which append and fetch advance themselves": the tail. The slot that the item goes to.
+pub fn append(ends: &mut Ends, k: usize) -> u32
+    requires { ⌜ Sound k (now ends) × (k ≤ engine .slots) ⌝ }
+    ensures { λ r. ⌜ (r ≡ now (ends .entry) .tail) × (now (ends .exit) ≡ tailOn k (now (ends .entry))) ⌝ }
 {
-    *ends = append_by_value(slots, *ends, task);
+    let before = *ends;
+    *ends = tail_on(before, k);
+    before.tail
 }
 
-// The same of the head.
-pub fn take(slots: &[u32], ends: &mut Ends) -> TaskId
-    requires { ⌜ Sound (length (now slots)) (now ends) × (length (now slots) ≤ engine .slots) ⌝ }
-    ensures { λ r. ⌜ takenOf (r .0) (now (ends .exit)) ≡ taken 0 (ringOf (now (slots .entry)) (now (ends .entry))) ⌝ }
+// The same of the head. The slot that the item is taken from.
+pub fn take(ends: &mut Ends, k: usize) -> u32
+    requires { ⌜ Sound k (now ends) × (k ≤ engine .slots) ⌝ }
+    ensures { λ r. ⌜ (r ≡ now (ends .entry) .head) × (now (ends .exit) ≡ headOn k (now (ends .entry))) ⌝ }
 {
-    let found = take_by_value(slots, *ends);
-    *ends = found.ends;
-    found.task
+    let before = *ends;
+    *ends = head_on(before, k);
+    before.head
 }
 
-// A task joins ring q, whose slots are lent alone and whose ends stand among all rings' ends.
-fn append_part(slots: &mut [u32], ends: &mut [u32], q: usize, task: TaskId)
-    requires { ⌜ (q * endWords + endWords ≤ length (now ends)) × Sound (length (now slots)) (endsAt (now ends) q) × (length (now slots) ≤ engine .slots) ⌝ }
-    ensures { λ r. ⌜ ringsOf (now (slots .exit)) (now (ends .exit)) ≡ storeRing (now (ends .entry)) q (appended (task .0) (ringOf (now (slots .entry)) (endsAt (now (ends .entry)) q))) ⌝ }
+// An append to ring q, whose ends the caller has read from the words of all ends. The slot that the item goes to.
+pub fn append_at(words: &mut [u32], k: usize, q: usize, ends: Ends) -> u32
+    requires { ⌜ (q * endWords + endWords ≤ length (now words)) × ((ends ≡ endsAt (now words) q) × (Sound k ends × (k ≤ engine .slots))) ⌝ }
+    ensures { λ r. ⌜ (r ≡ ends .tail) × (now (words .exit) ≡ storeEnds (now (words .entry)) q (tailOn k ends)) ⌝ }
 {
-    let mut pair = ends_at(ends, q);
-    append(slots, &mut pair, task);
-    store_ends(ends, q, pair);
+    let mut both = ends;
+    let slot = append(&mut both, k);
+    store_ends(words, q, both);
+    slot
 }
 
-// The task at the head of ring q, lent likewise, is taken.
-fn take_part(slots: &[u32], ends: &mut [u32], q: usize) -> TaskId
-    requires { ⌜ (q * endWords + endWords ≤ length (now ends)) × Sound (length (now slots)) (endsAt (now ends) q) × (length (now slots) ≤ engine .slots) ⌝ }
-    ensures { λ r. ⌜ takenOf (r .0) (now (ends .exit)) ≡ storeTaken (now (ends .entry)) q (taken 0 (ringOf (now (slots .entry)) (endsAt (now (ends .entry)) q))) ⌝ }
+// A take from ring q, likewise. The slot that the item is taken from.
+pub fn take_at(words: &mut [u32], k: usize, q: usize, ends: Ends) -> u32
+    requires { ⌜ (q * endWords + endWords ≤ length (now words)) × ((ends ≡ endsAt (now words) q) × (Sound k ends × (k ≤ engine .slots))) ⌝ }
+    ensures { λ r. ⌜ (r ≡ ends .head) × (now (words .exit) ≡ storeEnds (now (words .entry)) q (headOn k ends)) ⌝ }
 {
-    let mut pair = ends_at(ends, q);
-    let task = take(slots, &mut pair);
-    store_ends(ends, q, pair);
-    task
+    let mut both = ends;
+    let slot = take(&mut both, k);
+    store_ends(words, q, both);
+    slot
 }
 
 // A task joins ring q of all rings.
-pub fn append_in(rings: &mut [u32], ends: &mut [u32], k: usize, q: usize, task: TaskId)
-    requires { ⌜ Inside k q (ringsOf (now rings) (now ends)) × Sound k (endsAt (now ends) q) ⌝ }
-    ensures { λ r. ⌜ ringsOf (now (rings .exit)) (now (ends .exit)) ≡ appendedAt k q (task .0) (ringsOf (now (rings .entry)) (now (ends .entry))) ⌝ }
+pub fn append_in(rings: &mut [u32], words: &mut [u32], k: usize, q: usize, ends: Ends, task: TaskId)
+    requires { ⌜ Inside k q (ringsOf (now rings) (now words)) × ((ends ≡ endsAt (now words) q) × Sound k ends) ⌝ }
+    ensures { λ r. ⌜
+        ringsOf (now (rings .exit)) (now (words .exit)) ≡ appendedAt k q (task .0) (ringsOf (now (rings .entry))
+        (now (words .entry)))
+        ⌝ }
 {
-    let first = q * k;
-    let last = first + k;
-    append_part(&mut rings[first..last], ends, q, task);
+    let slot = append_at(words, k, q, ends);
+    let place = q * k + slot as usize;
+    rings[place] = task.0;
 }
 
-// The task at the head of ring q is taken.
-pub fn take_in(rings: &[u32], ends: &mut [u32], k: usize, q: usize) -> TaskId
-    requires { ⌜ Inside k q (ringsOf (now rings) (now ends)) × Sound k (endsAt (now ends) q) ⌝ }
-    ensures { λ r. ⌜ takenOf (r .0) (now (ends .exit)) ≡ takenAt 0 k q (ringsOf (now (rings .entry)) (now (ends .entry))) ⌝ }
+// The task at the head of ring q, whose ends are known; it stays there.
+pub fn head_of(rings: &[u32], k: usize, q: usize, ends: Ends) -> TaskId
+    requires { ⌜ (q * k + k ≤ length (now rings)) × Sound k ends ⌝ }
+    ensures { λ r. ⌜ r .0 ≡ getD (now (rings .entry)) (slotAt k q (ends .head)) 0 ⌝ }
 {
-    let first = q * k;
-    let last = first + k;
-    take_part(&rings[first..last], ends, q)
+    let place = q * k + ends.head as usize;
+    let word = rings[place];
+    TaskId(word)
 }

@@ -18,6 +18,7 @@ use Rattle.lists.proofs.Decided.{yes-holds, no-holds}
 use Rattle.lists.proofs.Prefixes.{getD-equals, zeros}
 use Rattle.lists.proofs.Blocks.{joined-same, getD-tabulate}
 use Rattle.task.specs.Types.{engine}
+use Rattle.task.specs.declared.Ends.{Ends}
 use Rattle.graph.specs.Graph.{Graph, predsOf}
 use Rattle.graph.specs.Successors.{degreeList, roots}
 use Rattle.graph.proofs.Reversed.{length-degrees}
@@ -105,8 +106,11 @@ module _ (p k : ℕ) (weights degrees : List ℕ) (t owner : ℕ) (rings ends : 
       fits = rw (l .next) (mod-lt (length (rootsBelow degrees t)) (l .job .oneWorker))
 
   module _ (q : ℕ) (inside : q < p * p) where
-    pub ring-ready : Inside k q (ringsOf rings ends) × Sound k (endsAt ends q)
-    ring-ready = (ring-inside k (p * p) q rings ends (l .job .fewSlots) (l .room .rings) (l .room .ends) inside, l .sound q inside)
+    pub ring-ready : (both : Ends) → both ≡ endsAt ends q → Inside k q (ringsOf rings ends) × ((both ≡ endsAt ends q) × Sound k both)
+    ring-ready both e = (
+      ring-inside k (p * p) q rings ends (l .job .fewSlots) (l .room .rings) (l .room .ends) inside,
+      (e, rw e (l .sound q inside)),
+    )
 
     light : getD weights t 0 ≤ 65535
     light = l .job .light t (omega (arith, l .job .weighed))

@@ -14,7 +14,10 @@ use task::WorkerId;
 // How many tasks have no predecessor: their starts don't rise.
 pub fn count_roots(n: usize, starts: &[u32]) -> usize
     requires { ⌜ length (now starts) ≡ n + 1 ⌝ }
-    ensures { λ r. ⌜ (r ≤ n) × ((preds : List ℕ) → Sound (graphOf n (now (starts .entry)) preds) → r ≡ length (roots (graphOf n (now (starts .entry)) preds))) ⌝ }
+    ensures { λ r. ⌜
+        (r ≤ n) × ((preds : List ℕ) → Sound (graphOf n (now (starts .entry)) preds)
+        → r ≡ length (roots (graphOf n (now (starts .entry)) preds)))
+        ⌝ }
 {
     let mut found = 0;
     let mut t = 0;
@@ -59,8 +62,14 @@ fn lay_task(
     owner: WorkerId,
     task: TaskId,
 ) -> WorkerId
-    requires { ⌜ Laid p k (now weights) (now degrees) (task .0) (owner .0) (now rings) (now ends) (now counters) × (task .0 < length (now degrees)) ⌝ }
-    ensures { λ r. ⌜ Laid p k (now (weights .entry)) (now (degrees .entry)) (task .0 + 1) (r .0) (now (rings .exit)) (now (ends .exit)) (now (counters .exit)) ⌝ }
+    requires { ⌜
+        Laid p k (now weights) (now degrees) (task .0) (owner .0) (now rings) (now ends) (now counters)
+        × (task .0 < length (now degrees))
+        ⌝ }
+    ensures { λ r. ⌜
+        Laid p k (now (weights .entry)) (now (degrees .entry)) (task .0 + 1) (r .0) (now (rings .exit)) (now (ends .exit))
+        (now (counters .exit))
+        ⌝ }
 {
     let t = task.0 as usize;
     if degrees[t] != 0 {
@@ -68,7 +77,8 @@ fn lay_task(
     }
     let q = searches::ring_number(p, owner, owner);
     let weight = weights[t];
-    ring::append_in(rings, ends, k, q, task);
+    let both = ring::ends_at(ends, q);
+    ring::append_in(rings, ends, k, q, both, task);
     counters::raise(counters, q, weight);
     searches::after_worker(p, owner)
 }
@@ -84,7 +94,10 @@ fn place_roots(
     k: usize,
 )
     requires { ⌜ Laid p k (now weights) (now degrees) 0 0 (now rings) (now ends) (now counters) ⌝ }
-    ensures { λ r. ⌜ Placed p k (now (weights .entry)) (now (degrees .entry)) (length (now (degrees .entry))) (now (rings .exit)) (now (ends .exit)) (now (counters .exit)) ⌝ }
+    ensures { λ r. ⌜
+        Placed p k (now (weights .entry)) (now (degrees .entry)) (length (now (degrees .entry))) (now (rings .exit))
+        (now (ends .exit)) (now (counters .exit))
+        ⌝ }
 {
     let mut owner = WorkerId(0);
     let mut t: u32 = 0;
@@ -106,7 +119,10 @@ pub fn lay_rings(
     k: usize,
 )
     requires { ⌜ Job p k (now weights) (now degrees) × Room p k (now rings) (now ends) (now counters) ⌝ }
-    ensures { λ r. ⌜ Placed p k (now (weights .entry)) (now (degrees .entry)) (length (now (degrees .entry))) (now (rings .exit)) (now (ends .exit)) (now (counters .exit)) ⌝ }
+    ensures { λ r. ⌜
+        Placed p k (now (weights .entry)) (now (degrees .entry)) (length (now (degrees .entry))) (now (rings .exit))
+        (now (ends .exit)) (now (counters .exit))
+        ⌝ }
 {
     clear(rings);
     clear(ends);

@@ -15,7 +15,11 @@ use Rattle.ring.specs.Ring.{endsAt}
 use Rattle.choice.specs.Search.{Found, unsound, none, at, search}
 use Rattle.choice.proofs.Search.{search-nil, search-unsound, search-stops-here, search-goes-on}
 
--- a test that failed on ends read from the words is known of the ring's own ends
+-- ends read from the words are those of the ring, whose number was computed beforehand
+pub ends-read : (words : List ℕ) (q r : ℕ) (e : Ends) → e ≡ endsAt words q → q ≡ r → e ≡ endsAt words r
+ends-read words q r e he hq = he ∙ ap (endsAt words) hq
+
+-- a test that failed on them is known of the ring's own ends
 pub ends-test : (test : Ends → Bool) (words : List ℕ) (q r : ℕ) (e : Ends) (b v : Bool) → b ≡ test e → e ≡ endsAt words q → q ≡ r → not b ≡ v
     → not (test (endsAt words r)) ≡ v
 ends-test test words q r e b v hb he hq h = rw (← hq, ← he, ← hb) h
@@ -28,7 +32,7 @@ pub onward-all : (n j : ℕ) → around n j ≡ onward n n j
 unfolding around onward
 onward-all n j = refl
 
-onward-turn : (n left j : ℕ) → j < n → 1 ≤ left → onward n left j ≡ j ∷ onward n (left - 1) (after n j)
+onward-turn : (n left j : ℕ) → j < n → 0 < left → onward n left j ≡ j ∷ onward n (left - 1) (after n j)
 unfolding onward tabulate
 onward-turn n zero j h l = absurd (omega arith)
 onward-turn n (suc left) j h l =
@@ -46,9 +50,9 @@ module _ (sound stops : ℕ → Bool) (whole : Found) (n left j : ℕ) (inv : wh
   unfolding onward tabulate
   look-none e = sym (inv ∙ rw e (search-nil sound stops))
 
-  module _ (inside : j < n) (some : ¬ (left ≡ 0)) where
+  module _ (inside : j < n) (some : 0 < left) where
     turn : whole ≡ search sound stops (j ∷ onward n (left - 1) (after n j))
-    turn = inv ∙ ap (search sound stops) (onward-turn n left j inside (omega arith))
+    turn = inv ∙ ap (search sound stops) (onward-turn n left j inside some)
 
     pub look-unsound : not (sound j) ≡ true → unsound ≡ whole
     look-unsound s = sym (turn ∙ search-unsound sound stops _ _ (not-true _ s))

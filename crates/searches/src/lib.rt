@@ -7,7 +7,8 @@ ghost use Rattle.lists.specs.Circles.{after, around};
 ghost use Rattle.task.specs.Types.{engine};
 ghost use Rattle.ring.specs.Ring.{endWords, sound, empty, full, endsAt};
 ghost use Rattle.choice.specs.Search.{search};
-ghost use Rattle.searches.specs.Searches.{foundOf};
+ghost use Rattle.searches.specs.Searches.{foundOf, Reads};
+use task::Ends;
 use task::WorkerId;
 
 // The ring of this owner that the filler fills, by its number.
@@ -31,25 +32,31 @@ pub fn after_worker(p: usize, worker: WorkerId) -> WorkerId
     }
 }
 
-// A damaged ring met, none found, or the worker whose ring it is.
+// A damaged ring met, none found, or the worker whose ring it is, and that ring's ends.
 pub enum Found {
     Unsound,
     None,
-    At(WorkerId),
+    At(WorkerId, Ends),
 }
 
 // Fetch's scan: the owner's rings, their fillers from `from` upward, modulo p, up to the first that isn't empty.
 pub fn find_task(ends: &[u32], p: usize, k: usize, owner: WorkerId, from: WorkerId) -> Found
     requires { ⌜ (owner .0 < p) × ((from .0 < p) × ((p ≤ engine .workers) × (length (now ends) ≡ p * p * endWords))) ⌝ }
-    ensures { λ r. ⌜ foundOf r ≡ search (λ j. sound k (endsAt (now (ends .entry)) (owner .0 * p + j))) (λ j. not (empty (endsAt (now (ends .entry)) (owner .0 * p + j)))) (around p (from .0)) ⌝ }
+    ensures { λ r.
+        ⌜ foundOf r
+        ≡ search (λ j. sound k (endsAt (now (ends .entry)) (owner .0 * p + j)))
+        (λ j. not (empty (endsAt (now (ends .entry)) (owner .0 * p + j))))
+        (around p (from .0)) ⌝ }
+    ensures { λ r. ⌜ Reads (λ j. endsAt (now (ends .entry)) (owner .0 * p + j)) r ⌝ }
 {
     let mut fillers = p;
     let mut j = from;
+    let mut both = Ends { head: 0, tail: 0 };
     let filler = loop {
         if fillers == 0 {
             return Found::None;
         }
-        let both = ring::ends_at(ends, ring_number(p, owner, j));
+        both = ring::ends_at(ends, ring_number(p, owner, j));
         if !ring::is_sound(both, k) {
             return Found::Unsound;
         }
@@ -59,21 +66,27 @@ pub fn find_task(ends: &[u32], p: usize, k: usize, owner: WorkerId, from: Worker
         fillers -= 1;
         j = after_worker(p, j);
     };
-    Found::At(filler)
+    Found::At(filler, both)
 }
 
 // Release's search: the filler's rings, their owners from `from` upward, modulo p, up to the first that isn't full.
 pub fn find_room(ends: &[u32], p: usize, k: usize, filler: WorkerId, from: WorkerId) -> Found
     requires { ⌜ (filler .0 < p) × ((from .0 < p) × ((p ≤ engine .workers) × ((k ≤ engine .slots) × (length (now ends) ≡ p * p * endWords)))) ⌝ }
-    ensures { λ r. ⌜ foundOf r ≡ search (λ o. sound k (endsAt (now (ends .entry)) (o * p + filler .0))) (λ o. not (full k (endsAt (now (ends .entry)) (o * p + filler .0)))) (around p (from .0)) ⌝ }
+    ensures { λ r.
+        ⌜ foundOf r
+        ≡ search (λ o. sound k (endsAt (now (ends .entry)) (o * p + filler .0)))
+        (λ o. not (full k (endsAt (now (ends .entry)) (o * p + filler .0))))
+        (around p (from .0)) ⌝ }
+    ensures { λ r. ⌜ Reads (λ o. endsAt (now (ends .entry)) (o * p + filler .0)) r ⌝ }
 {
     let mut owners = p;
     let mut o = from;
+    let mut both = Ends { head: 0, tail: 0 };
     let owner = loop {
         if owners == 0 {
             return Found::None;
         }
-        let both = ring::ends_at(ends, ring_number(p, o, filler));
+        both = ring::ends_at(ends, ring_number(p, o, filler));
         if !ring::is_sound(both, k) {
             return Found::Unsound;
         }
@@ -83,5 +96,5 @@ pub fn find_room(ends: &[u32], p: usize, k: usize, filler: WorkerId, from: Worke
         owners -= 1;
         o = after_worker(p, o);
     };
-    Found::At(owner)
+    Found::At(owner, both)
 }

@@ -34,27 +34,32 @@ mul-weight c = search needs
 shared-slice-read-weight : tie.Need-shared-slice-read-weight
 shared-slice-read-weight c = search needs
 
+ends-at-requires : tie.Need-ends-at-requires
+ends-at-requires c κs = search needs
+
 append-in-requires : tie.Need-append-in-requires
 append-in-requires c κs =
     ring-ready _ _ _ _ _ _ _ _ _
-    (c .before .before .before .before .before .before .before .before .before .before .before .pre .0)
-    (c .before .before .before .before .before .before .before .before .before .before .before .pre .1)
+    (c .before .before .before .before .before .before .before .before .before .before .before .before .before .pre .0)
+    (c .before .before .before .before .before .before .before .before .before .before .before .before .before .pre .1)
     _
-    (c .before .before .before .ring-number .ensures .1)
+    (c .before .before .before .before .before .ring-number .ensures .1)
+    _
+    (c .before .before .ends-at .ensures)
 
 raise-requires : tie.Need-raise-requires
 raise-requires c κs =
     counter-ready _ _ _ _ _ _ _ _ _
-    (c .before .before .before .before .before .before .before .before .before .before .before .before .before .before .before .before .before .pre .0)
-    (c .before .before .before .before .before .before .before .before .before .before .before .before .before .before .before .before .before .pre .1)
+    (c .before .before .before .before .before .before .before .before .before .before .before .before .before .before .before .before .before .before .before .pre .0)
+    (c .before .before .before .before .before .before .before .before .before .before .before .before .before .before .before .before .before .before .before .pre .1)
     _
-    (omega (arith, c .before .before .before .before .before .before .before .before .before .ring-number .ensures))
+    (omega (arith, c .before .before .before .before .before .before .before .before .before .before .before .ring-number .ensures))
 
 after-worker-requires : tie.Need-after-worker-requires
 after-worker-requires c κs =
     owner-ready _ _ _ _ _ _ _ _ _
-    (c .before .before .before .before .before .before .before .before .before .before .before .before .before .before .before .before .before .before .before .pre .0)
-    (c .before .before .before .before .before .before .before .before .before .before .before .before .before .before .before .before .before .before .before .pre .1) .1
+    (c .before .before .before .before .before .before .before .before .before .before .before .before .before .before .before .before .before .before .before .before .before .pre .0)
+    (c .before .before .before .before .before .before .before .before .before .before .before .before .before .before .before .before .before .before .before .before .before .pre .1) .1
 
 same-length : tie.Need-same-length
 same-length c = search needs
@@ -68,12 +73,12 @@ same-length-3 c = search needs
 returns-2 : tie.Need-returns-2
 returns-2 c =
     laid-root _ _ _ _ _ _ _ _ _
-    (c .before .before .before .before .before .before .before .before .before .before .before .before .before .before .before .before .before .before .before .before .pre .0)
-    (c .before .before .before .before .before .before .before .before .before .before .before .before .before .before .before .before .before .before .before .before .pre .1)
+    (c .before .before .before .before .before .before .before .before .before .before .before .before .before .before .before .before .before .before .before .before .before .before .pre .0)
+    (c .before .before .before .before .before .before .before .before .before .before .before .before .before .before .before .before .before .before .before .before .before .before .pre .1)
     _
-    (c .before .before .before .before .before .before .before .before .before .before .before .before .ring-number .ensures .1)
-    (c .before .before .before .before .before .before .before .before .before .before .before .before .ring-number .ensures .0)
-    (c .before .before .before .before .before .before .before .before .before .before .before .before .before .if1 .left)
+    (c .before .before .before .before .before .before .before .before .before .before .before .before .before .before .ring-number .ensures .1)
+    (c .before .before .before .before .before .before .before .before .before .before .before .before .before .before .ring-number .ensures .0)
+    (c .before .before .before .before .before .before .before .before .before .before .before .before .before .before .before .if1 .left)
     _ _ _
     (c .before .before .before .before .before .before .before .before .append-in .ensures)
     (c .before .before .raise .ensures)
@@ -91,6 +96,7 @@ lay-task-spec =
     ring-number-requires
     mul-weight
     shared-slice-read-weight
+    ends-at-requires
     append-in-requires
     raise-requires
     after-worker-requires
