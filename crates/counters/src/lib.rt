@@ -7,7 +7,8 @@ ghost use lib.IntN.{pos, _+ℤ_, _-ℤ_};
 ghost use lib.Signed.{mag};
 ghost use Rattle.task.specs.Types.{engine};
 ghost use Rattle.rules.specs.Words.{counterFits};
-ghost use Rattle.counters.specs.Choice.{Loads, Chosen};
+ghost use Rattle.choice.specs.Least.{load, target};
+ghost use Rattle.counters.specs.Choice.{smallCounter, Small, Loads, Chosen};
 use task::WorkerId;
 
 // A counter is in its range.
@@ -46,7 +47,7 @@ pub fn lower(counters: &mut [i32], q: usize, weight: u32)
 // A sum and one counter more.
 fn add_counter(sum: i64, counter: i32) -> i64
     requires { ⌜ mag sum ≤ 1099511627776 ⌝ }
-    ensures { λ r. ⌜ (r ≡ sum +ℤ counter) × (mag r ≤ mag sum + 2147483649) ⌝ }
+    ensures { λ r. ⌜ r ≡ sum +ℤ counter ⌝ }
 {
     sum + (counter as i64)
 }
@@ -82,7 +83,7 @@ pub enum Choice {
 }
 
 // The workers' counters in turn, each read once; of equal sums that of the lowest number.
-pub fn choose(counters: &[i32], p: usize) -> Choice
+fn choose_wide(counters: &[i32], p: usize) -> Choice
     requires { ⌜ (length (now counters) ≡ p * p) × ((1 ≤ p) × (p ≤ engine .workers)) ⌝ }
     ensures { λ r. ⌜ Chosen p (now (counters .entry)) r ⌝ }
 {
@@ -105,4 +106,72 @@ pub fn choose(counters: &[i32], p: usize) -> Choice
         j += 1;
     }
     Choice::Target(best)
+}
+
+// Within ±2^26: 16 such counters add up in 32 bits.
+fn is_small(counter: i32) -> bool
+    ensures { λ r. ⌜ r ≡ smallCounter counter ⌝ }
+{
+    (-67108864 <= counter) & (counter <= 67108864)
+}
+
+// All of them are, as in every run, where they lie within ±67,107,840.
+fn all_small(counters: &[i32]) -> bool
+    ensures { λ r. ⌜ (r ≡ true → Small (now (counters .entry))) ⌝ }
+{
+    let mut small = true;
+    let mut q = 0;
+    while q < counters.len() {
+        small = small & is_small(counters[q]);
+        q += 1;
+    }
+    small
+}
+
+// The sum of a worker's small counters.
+fn narrow_load(counters: &[i32], p: usize, worker: WorkerId) -> i32
+    requires { ⌜ (length (now counters) ≡ p * p) × ((p ≤ engine .workers) × ((worker .0 < p) × Small (now counters))) ⌝ }
+    ensures { λ r. ⌜ r ≡ load p (now (counters .entry)) (worker .0) ⌝ }
+{
+    let first = worker.0 as usize * p;
+    let mut sum: i32 = 0;
+    let mut f = 0;
+    while f < p {
+        sum = sum + counters[first + f];
+        f += 1;
+    }
+    sum
+}
+
+// The same target, with sums of 32 bits and no test of a range.
+fn choose_narrow(counters: &[i32], p: usize) -> WorkerId
+    requires { ⌜ (length (now counters) ≡ p * p) × ((1 ≤ p) × ((p ≤ engine .workers) × Small (now counters))) ⌝ }
+    ensures { λ r. ⌜ r .0 ≡ target p (now (counters .entry)) ⌝ }
+{
+    let mut best = WorkerId(0);
+    let mut least = narrow_load(counters, p, WorkerId(0));
+    let mut j: u32 = 1;
+    while (j as usize) < p {
+        let sum = narrow_load(counters, p, WorkerId(j));
+        if sum < least {
+            best = WorkerId(j);
+            least = sum;
+        }
+        j += 1;
+    }
+    best
+}
+
+// The target, or that a counter is out of its range. Fewer than 16 counters are looked at faster one by one.
+pub fn choose(counters: &[i32], p: usize) -> Choice
+    requires { ⌜ (length (now counters) ≡ p * p) × ((1 ≤ p) × (p ≤ engine .workers)) ⌝ }
+    ensures { λ r. ⌜ Chosen p (now (counters .entry)) r ⌝ }
+{
+    if p < 4 {
+        return choose_wide(counters, p);
+    }
+    if all_small(counters) {
+        return Choice::Target(choose_narrow(counters, p));
+    }
+    choose_wide(counters, p)
 }

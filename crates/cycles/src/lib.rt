@@ -50,7 +50,10 @@ fn mark_preds(
     from: usize,
 ) -> usize
     requires { ⌜ (t + 1 < length (now starts)) × (Good 1024 (now starts) (now preds) t × Marked (now seen) (now queue) from) ⌝ }
-    ensures { λ r. ⌜ Grown (part (now (starts .entry)) (now (preds .entry)) t) (now (seen .entry)) (now (queue .entry)) from (now (seen .exit)) (now (queue .exit)) r ⌝ }
+    ensures { λ r. ⌜
+        Grown (part (now (starts .entry)) (now (preds .entry)) t) (now (seen .entry)) (now (queue .entry)) from
+        (now (seen .exit)) (now (queue .exit)) r
+        ⌝ }
 {
     let a = starts[t] as usize;
     let e = starts[t + 1] as usize;
@@ -91,7 +94,10 @@ fn on_cycle(n: usize, starts: &[u32], preds: &[u32], t: usize) -> bool
 
 // The smallest task on a cycle among those left.
 fn search(n: usize, starts: &[u32], preds: &[u32], left: &[u32]) -> usize
-    requires { ⌜ Sound (graphOf n (now starts) (now preds)) × ((length (now left) ≡ 1024) × ((t : ℕ) → t < n → (0 < getD (now left) t 0) ↔ ToCycle (graphOf n (now starts) (now preds)) t)) ⌝ }
+    requires { ⌜
+        Sound (graphOf n (now starts) (now preds)) × ((length (now left)
+        ≡ 1024) × ((t : ℕ) → t < n → (0 < getD (now left) t 0) ↔ ToCycle (graphOf n (now starts) (now preds)) t))
+        ⌝ }
     ensures { λ r. ⌜ r ≡ firstOnCycle (graphOf n (now (starts .entry)) (now (preds .entry))) ⌝ }
 {
     let mut t = 0;
@@ -115,5 +121,8 @@ pub fn first_on_cycle(n: usize, starts: &[u32], preds: &[u32]) -> usize
     let mut queue = [0u32; 1024];
     tables::count_words(preds, &mut left);
     strip::strip(n, starts, preds, &mut left, &mut queue);
+    if tables::flat_below(&left[..n], 1) {
+        return n;
+    }
     search(n, starts, preds, &left)
 }

@@ -14,7 +14,11 @@ pub fn link_graph(
     succs: &mut [u32],
     degrees: &mut [u32],
 ) -> Answer
-    ensures { λ r. ⌜ linkedOf r (now («succ_starts» .exit)) (now (succs .exit)) (now (degrees .exit)) ≡ linked limits (now (weights .entry)) (now (starts .entry)) (now (preds .entry)) (now («succ_starts» .entry)) (now (succs .entry)) (now (degrees .entry)) ⌝ }
+    ensures { λ r. ⌜
+        linkedOf r (now («succ_starts» .exit)) (now (succs .exit)) (now (degrees .exit))
+        ≡ linked limits (now (weights .entry)) (now (starts .entry)) (now (preds .entry)) (now («succ_starts» .entry))
+        (now (succs .entry)) (now (degrees .entry))
+        ⌝ }
 {
     let n = weights.len();
     let fit = (succ_starts.len() == n + 1) & ((succs.len() == preds.len()) & (degrees.len() == n));

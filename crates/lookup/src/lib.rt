@@ -38,7 +38,10 @@ fn side_fits(
     t: usize,
 ) -> bool
     requires { ⌜ (length (now «pred_starts») ≡ length (now weights) + 1) × (length (now «succ_starts») ≡ length (now weights) + 1) ⌝ }
-    ensures { λ r. ⌜ r ≡ taskFits side (lentOf (now (weights .entry)) (now («pred_starts» .entry)) (now (preds .entry)) (now («succ_starts» .entry)) (now (succs .entry))) t ⌝ }
+    ensures { λ r. ⌜
+        r ≡ taskFits side (lentOf (now (weights .entry)) (now («pred_starts» .entry)) (now (preds .entry))
+        (now («succ_starts» .entry)) (now (succs .entry))) t
+        ⌝ }
 {
     let n = weights.len();
     match side {
@@ -57,7 +60,10 @@ pub fn judge(
     side: Side,
     task: TaskId,
 ) -> Answer
-    ensures { λ r. ⌜ r ≡ judgeAnswer side (lentOf (now (weights .entry)) (now («pred_starts» .entry)) (now (preds .entry)) (now («succ_starts» .entry)) (now (succs .entry))) (task .0) ⌝ }
+    ensures { λ r. ⌜
+        r ≡ judgeAnswer side (lentOf (now (weights .entry)) (now («pred_starts» .entry)) (now (preds .entry))
+        (now («succ_starts» .entry)) (now (succs .entry))) (task .0)
+        ⌝ }
 {
     let n = weights.len();
     let e = preds.len();
@@ -84,8 +90,14 @@ pub fn judge(
 
 // Task t's part of a table in which its range is good.
 fn part_at<'a>(starts: &[u32], words: &'a [u32], t: usize) -> &'a [u32]
-    requires { ⌜ (t + 1 < length (now starts)) × ((getD (now starts) t 0 ≤ getD (now starts) (t + 1) 0) × (getD (now starts) (t + 1) 0 ≤ length (now words))) ⌝ }
-    ensures { λ r. ⌜ (now r ≡ part (now (starts .entry)) (now (words .entry)) t) × (ptr r ≡ wordPtr (ptr (words .entry)) (getD (now (starts .entry)) t 0)) ⌝ }
+    requires { ⌜
+        (t + 1 < length (now starts)) × ((getD (now starts) t 0 ≤ getD (now starts) (t + 1) 0)
+        × (getD (now starts) (t + 1) 0 ≤ length (now words)))
+        ⌝ }
+    ensures { λ r. ⌜
+        (now r ≡ part (now (starts .entry)) (now (words .entry)) t) × (ptr r
+        ≡ wordPtr (ptr (words .entry)) (getD (now (starts .entry)) t 0))
+        ⌝ }
 {
     let a = starts[t] as usize;
     let e = starts[t + 1] as usize;
@@ -103,7 +115,12 @@ pub fn neighbours<'a>(
     side: Side,
     task: TaskId,
 ) -> &'a [u32]
-    ensures { λ r. ⌜ (now r ≡ neighboursOf side (lentOf (now (weights .entry)) (now («pred_starts» .entry)) (now (preds .entry)) (now («succ_starts» .entry)) (now (succs .entry))) (task .0)) × InPlace side (lentOf (now (weights .entry)) (now («pred_starts» .entry)) (now (preds .entry)) (now («succ_starts» .entry)) (now (succs .entry))) (ptr (preds .entry)) (ptr (succs .entry)) (task .0) (ptr r) ⌝ }
+    ensures { λ r. ⌜
+        (now r ≡ neighboursOf side (lentOf (now (weights .entry)) (now («pred_starts» .entry)) (now (preds .entry))
+        (now («succ_starts» .entry)) (now (succs .entry))) (task .0))
+        × InPlace side (lentOf (now (weights .entry)) (now («pred_starts» .entry)) (now (preds .entry))
+        (now («succ_starts» .entry)) (now (succs .entry))) (ptr (preds .entry)) (ptr (succs .entry)) (task .0) (ptr r)
+        ⌝ }
 {
     let answer = judge(weights, pred_starts, preds, succ_starts, succs, side, task);
     let Answer::Accepted = answer else {

@@ -40,7 +40,10 @@ fn fill_starts(n: usize, counts: &mut [u32], starts: &mut [u32])
 // Task t takes the next free place among u's successors.
 fn place(next: &mut [u32], succs: &mut [u32], u: usize, t: u32)
     requires { ⌜ (u < length (now next)) × ((getD (now next) u 0 < length (now succs)) × (length (now succs) ≤ 8192)) ⌝ }
-    ensures { λ r. ⌜ (now (next .exit) ≡ set (now (next .entry)) u (getD (now (next .entry)) u 0 + 1)) × (now (succs .exit) ≡ set (now (succs .entry)) (getD (now (next .entry)) u 0) t) ⌝ }
+    ensures { λ r. ⌜
+        (now (next .exit) ≡ set (now (next .entry)) u (getD (now (next .entry)) u 0 + 1))
+        × (now (succs .exit) ≡ set (now (succs .entry)) (getD (now (next .entry)) u 0) t)
+        ⌝ }
 {
     let at = next[u];
     succs[at as usize] = t;
@@ -50,7 +53,10 @@ fn place(next: &mut [u32], succs: &mut [u32], u: usize, t: u32)
 // Task t takes the next free place of each of its predecessors.
 fn place_all(words: &[u32], next: &mut [u32], succs: &mut [u32], t: u32)
     requires { ⌜ Room (now words) (now next) (now succs) × (length (now succs) ≤ 8192) ⌝ }
-    ensures { λ r. ⌜ placedOf (now (next .exit)) (now (succs .exit)) ≡ placeAll t (now (words .entry)) (placedOf (now (next .entry)) (now (succs .entry))) ⌝ }
+    ensures { λ r. ⌜
+        placedOf (now (next .exit)) (now (succs .exit)) ≡ placeAll t (now (words .entry)) (placedOf (now (next .entry))
+        (now (succs .entry)))
+        ⌝ }
 {
     let mut i = 0;
     while i < words.len() {
@@ -83,8 +89,16 @@ pub fn fill(
     succs: &mut [u32],
     degrees: &mut [u32],
 )
-    requires { ⌜ Sound (graphOf n (now starts) (now preds)) × ((length (now «succ_starts») ≡ n + 1) × ((length (now succs) ≡ length (now preds)) × (length (now degrees) ≡ n))) ⌝ }
-    ensures { λ r. ⌜ (now («succ_starts» .exit) ≡ succStarts (graphOf n (now (starts .entry)) (now (preds .entry)))) × ((now (succs .exit) ≡ succWords (graphOf n (now (starts .entry)) (now (preds .entry)))) × (now (degrees .exit) ≡ degreeList (graphOf n (now (starts .entry)) (now (preds .entry))))) ⌝ }
+    requires { ⌜
+        Sound (graphOf n (now starts) (now preds)) × ((length (now «succ_starts»)
+        ≡ n + 1) × ((length (now succs) ≡ length (now preds)) × (length (now degrees)
+        ≡ n)))
+        ⌝ }
+    ensures { λ r. ⌜
+        (now («succ_starts» .exit) ≡ succStarts (graphOf n (now (starts .entry)) (now (preds .entry))))
+        × ((now (succs .exit) ≡ succWords (graphOf n (now (starts .entry)) (now (preds .entry))))
+        × (now (degrees .exit) ≡ degreeList (graphOf n (now (starts .entry)) (now (preds .entry)))))
+        ⌝ }
 {
     let mut next = [0u32; 1024];
     tables::count_words(preds, &mut next);

@@ -5,21 +5,29 @@ use mathlib.Core.List.{List}
 use native.Mathlib.Omega.{arith}
 use native.Mathlib.Decide.{ℕ-discrete, decLt}
 use mathlib.Core.Bool.{Bool, true, false, not, _&&_}
-use borrow.Author.Tests.{eq-eqb, ne-eqb, not-true, not-false}
-use lib.Dec.{leb, eqb}
+use borrow.Author.Tests.{eq-eqb, ne-eqb, not-true, not-false, leb-true, ltb-true, ltb-false}
+use borrow.Author.Count.{below-more}
+use lib.Dec.{leb, ltb, eqb}
 use lib.ListN.{length, getD, set, take, drop}
 use lib.Seq.{take-all, length-take-le, getD-set-same, getD-set-other}
 use Rattle.lists.specs.Lists.{occ}
 use Rattle.lists.specs.Decided.{holds}
 use Rattle.lists.proofs.Decided.{stable, yes-holds, no-holds, holds-yes, holds-no, first-is, first-none}
+use Rattle.lists.proofs.Apart.{true-and-false}
+use Rattle.lists.proofs.Told.{and-true}
 use Rattle.task.specs.Types.{capped}
 use Rattle.task.specs.declared.Limits.{Limits}
 use Rattle.graph.specs.Graph.{Among, part, graphOf}
 use Rattle.graph.specs.Conditions.{Good, Twice, Sound}
 use Rattle.graph.specs.Decide.{light?, among?, good?, bad?, endsFit?, twiceIn?, twice?}
 use Rattle.graph.specs.Check.{sizesFit, firstBad, firstTwice}
+use Rattle.tables.specs.Ranges.{RangesRise}
 use Rattle.lists.proofs.Occurrences.{occ-nil, occ-le-length, occ-split, at-occ, occ-at}
 use Rattle.lists.proofs.Prefixes.{occ-more-hit, occ-more-miss}
+
+-- a word of a part is one of the words
+inside-among : (u a k : ℕ) (words : List ℕ) → Among u (take k (drop a words)) → Among u words
+inside-among u a k words h = omega (arith, occ-split ℕ-discrete u k (drop a words), occ-split ℕ-discrete u a words)
 
 -- what holds of every word holds of each
 pub word-below : (words : List ℕ) (i : ℕ) → i < length words → (n : ℕ) → ((u : ℕ) → Among u words → u < n) → getD words i 0 < n
@@ -56,12 +64,6 @@ pub sizes-made : (l k : Limits) (n e : ℕ) → k ≡ capped l → leb n (k .tas
 unfolding sizesFit
 sizes-made l k n e h = rw h
 
-pub weight-heavy : (weights : List ℕ) (t : ℕ) → t < length weights → 65535 < getD weights t 0 → false ≡ holds (light? weights)
-weight-heavy weights t h b = sym (no-holds (light? weights) (λ f. omega (arith, f t h)))
-
-pub weights-light : (weights : List ℕ) (i : ℕ) → length weights ≤ i → ((t : ℕ) → t < i → getD weights t 0 ≤ 65535) → true ≡ holds (light? weights)
-weights-light weights i h f = sym (yes-holds (light? weights) (λ t m. f t (omega arith)))
-
 -- Words below n.
 module _ (words : List ℕ) (n i : ℕ) where
   pub word-beyond : i < length words → n ≤ getD words i 0 → false ≡ holds (among? (λ u. decLt u n) words)
@@ -72,6 +74,57 @@ module _ (words : List ℕ) (n i : ℕ) where
     where
       all : (u : ℕ) → Among u words → u < n
       all u m = let w : (k : ℕ) × (k < length words) × (getD words k 0 ≡ u) = occ-at ℕ-discrete 0 u words m in omega (arith, f (w .0) (omega (arith, w .1)), w .2)
+
+-- Of the first i words, whether all are below n.
+pub record BelowTo (words : List ℕ) (n i : ℕ) (below : Bool) : Type 0 where
+  pub all : below ≡ true → (k : ℕ) → k < i → getD words k 0 < n
+  pub some : below ≡ false → ¬ ((u : ℕ) → Among u words → u < n)
+
+module _ (words : List ℕ) (n : ℕ) where
+  pub below-none : BelowTo words n 0 true
+  below-none = record { all = λ e k h. absurd (omega (arith, h)); some = λ e f. true-and-false refl e }
+
+  pub below-on : (i : ℕ) (below : Bool) → BelowTo words n i below → i < length words → BelowTo words n (i + 1) (below && ltb (getD words i 0) n)
+  below-on i true b h =
+      record {
+        all = λ e. below-more _ _ (b .all refl) (ltb-true (getD words i 0) n e);
+        some = λ e f. omega (arith, ltb-false (getD words i 0) n e, word-below words i h n f);
+      }
+  below-on i false b h = record { all = λ e k l. true-and-false e refl; some = λ e. b .some refl }
+
+  pub below-whole : (i : ℕ) (below : Bool) → BelowTo words n i below → length words ≤ i → below ≡ holds (among? (λ u. decLt u n) words)
+  below-whole i true b h = words-below words n i h (b .all refl)
+  below-whole i false b h = sym (no-holds (among? (λ u. decLt u n) words) (b .some refl))
+
+-- Weights are words below 65,536.
+pub light-made : (weights : List ℕ) (r : Bool) → r ≡ holds (among? (λ u. decLt u 65536) weights) → r ≡ holds (light? weights)
+light-made weights true e =
+    sym (yes-holds (light? weights) (λ t h. omega (arith, word-below weights t h 65536 (holds-yes (among? (λ u. decLt u 65536) weights) (sym e)))))
+light-made weights false e = sym (no-holds (light? weights) (λ f. holds-no (among? (λ u. decLt u 65536) weights) (sym e) (all f)))
+  where
+    all : ((t : ℕ) → t < length weights → getD weights t 0 ≤ 65535) → (u : ℕ) → Among u weights → u < 65536
+    all f u m =
+        let w : (k : ℕ) × (k < length weights) × (getD weights k 0 ≡ u) = occ-at ℕ-discrete 0 u weights m in
+        omega (arith, f (w .0) (w .1), w .2)
+
+-- Of the first i ranges, whether all rise.
+pub record RisesTo (starts : List ℕ) (most i : ℕ) (rise : Bool) : Type 0 where
+  pub all : rise ≡ true → RangesRise i starts most
+
+module _ (starts : List ℕ) (most : ℕ) where
+  pub rises-none : RisesTo starts most 0 true
+  rises-none = record { all = λ e t h. absurd (omega (arith, h)) }
+
+  pub rises-on : (i : ℕ) (rise : Bool) → RisesTo starts most i rise
+      → RisesTo starts most (i + 1) (rise && (leb (getD starts i 0) (getD starts (i + 1) 0) && leb (getD starts (i + 1) 0) most))
+  rises-on i rise r =
+      record {
+        all =
+            λ e.
+            let b = and-true _ _ e in
+            let f = and-true _ _ (b .1) in
+            below-more _ _ (r .all (b .0)) (leb-true _ _ (f .0), leb-true _ _ (f .1));
+      }
 
 -- A part: its range, and its words.
 module _ (n : ℕ) (starts words : List ℕ) (t : ℕ) where
@@ -102,6 +155,24 @@ module _ (n : ℕ) (starts preds : List ℕ) (t : ℕ) where
   pub bad-none : n ≤ t → ((k : ℕ) → k < t → Good n starts preds k) → n ≡ firstBad (graphOf n starts preds)
   unfolding firstBad
   bad-none h f = first-none n (bad? (graphOf n starts preds)) (λ k l b. b (f k (omega arith)))
+
+-- Where all words are below n and all ranges rise up to their number, no part is bad.
+pub flat-good : (n : ℕ) (starts preds : List ℕ) (bound most : ℕ) → bound ≤ n → most ≤ length preds
+    → (below rise : Bool) → (below && rise) ≡ true → below ≡ holds (among? (λ u. decLt u bound) preds) → (rise ≡ true → RangesRise n starts most)
+    → n ≡ firstBad (graphOf n starts preds)
+unfolding part
+flat-good n starts preds bound most h l below rise e b r = bad-none n starts preds n (omega arith) good
+  where
+    both : (below ≡ true) × (rise ≡ true)
+    both = and-true below rise e
+
+    good : (k : ℕ) → k < n → Good n starts preds k
+    good k m =
+        record {
+          rises = r (both .1) k m .0;
+          inside = omega (arith, r (both .1) k m .1);
+          below = λ u q. omega (arith, holds-yes (among? (λ u. decLt u bound) preds) (sym b ∙ both .0) u (inside-among u (getD starts k 0) (getD starts (k + 1) 0 - getD starts k 0) preds q));
+        }
 
 -- The first and the last start.
 pub ends-made : (n : ℕ) (starts preds : List ℕ)

@@ -1,6 +1,7 @@
 // One leaf per number of the graph check, on parts of lists: sizes and weights (2), ranges and words (3), a
 // predecessor twice (4); and how often each number stands in a list.
 ghost use mathlib.Core.Path.{_≡_};
+ghost use mathlib.Core.Bool.{true};
 ghost use Prim.Native.Nat.{ℕ, _+_, _≤_, _<_};
 ghost use native.Mathlib.Decide.{decLt};
 ghost use lib.ListN.{length, getD};
@@ -10,6 +11,7 @@ ghost use Rattle.graph.specs.Graph.{Among, graphOf};
 ghost use Rattle.graph.specs.Conditions.{Sound};
 ghost use Rattle.graph.specs.Decide.{light?, among?, good?, endsFit?, twiceIn?};
 ghost use Rattle.graph.specs.Check.{sizesFit, firstBad, firstTwice};
+ghost use Rattle.tables.specs.Ranges.{RangesRise};
 use task::Limits;
 
 // N and E are within the limits.
@@ -20,21 +22,27 @@ pub fn sizes_fit(limits: Limits, n: usize, e: usize) -> bool
     (n <= l.tasks) & (e <= l.edges)
 }
 
+// Every word is below the bound. The loop has no branch, so that it looks at several words at once.
+pub fn flat_below(words: &[u32], bound: u32) -> bool
+    ensures { λ r. ⌜ r ≡ holds (among? (λ u. decLt u bound) (now (words .entry))) ⌝ }
+{
+    let mut below = true;
+    let mut i = 0;
+    while i < words.len() {
+        below = below & (words[i] < bound);
+        i += 1;
+    }
+    below
+}
+
 // No weight is beyond its limit.
 pub fn weights_fit(weights: &[u32]) -> bool
     ensures { λ r. ⌜ r ≡ holds (light? (now (weights .entry))) ⌝ }
 {
-    let mut t = 0;
-    while t < weights.len() {
-        if 65535 < weights[t] {
-            return false;
-        }
-        t += 1;
-    }
-    true
+    flat_below(weights, 65536)
 }
 
-// Every word is below n.
+// Every word is below n, asked one by one up to the first that is not.
 fn all_below(words: &[u32], n: usize) -> bool
     ensures { λ r. ⌜ r ≡ holds (among? (λ u. decLt u n) (now (words .entry))) ⌝ }
 {
@@ -64,8 +72,8 @@ pub fn part_good(n: usize, starts: &[u32], words: &[u32], t: usize) -> bool
     all_below(&words[a..e], n)
 }
 
-// The smallest task with a bad range or a bad predecessor, or n.
-pub fn first_bad(n: usize, starts: &[u32], preds: &[u32]) -> usize
+// The smallest task with a bad range or a bad predecessor, or n, asked one by one.
+fn search_bad(n: usize, starts: &[u32], preds: &[u32]) -> usize
     requires { ⌜ length (now starts) ≡ n + 1 ⌝ }
     ensures { λ r. ⌜ r ≡ firstBad (graphOf n (now (starts .entry)) (now (preds .entry))) ⌝ }
 {
@@ -77,6 +85,40 @@ pub fn first_bad(n: usize, starts: &[u32], preds: &[u32]) -> usize
         t += 1;
     }
     n
+}
+
+// A number as a word, or 0 where no word holds it.
+fn as_word(n: usize) -> u32
+    ensures { λ r. ⌜ r ≤ n ⌝ }
+{
+    if n <= 4294967295 { n as u32 } else { 0 }
+}
+
+// Every range rises and ends at `most` or before.
+fn ranges_rise(n: usize, starts: &[u32], most: u32) -> bool
+    requires { ⌜ length (now starts) ≡ n + 1 ⌝ }
+    ensures { λ r. ⌜ (r ≡ true → RangesRise n (now (starts .entry)) most) ⌝ }
+{
+    let mut rise = true;
+    let mut t = 0;
+    while t < n {
+        rise = rise & ((starts[t] <= starts[t + 1]) & (starts[t + 1] <= most));
+        t += 1;
+    }
+    rise
+}
+
+// The same. Only where a look at all of them at once finds one bad are they asked one by one.
+pub fn first_bad(n: usize, starts: &[u32], preds: &[u32]) -> usize
+    requires { ⌜ length (now starts) ≡ n + 1 ⌝ }
+    ensures { λ r. ⌜ r ≡ firstBad (graphOf n (now (starts .entry)) (now (preds .entry))) ⌝ }
+{
+    let below = flat_below(preds, as_word(n));
+    let rise = ranges_rise(n, starts, as_word(preds.len()));
+    if below & rise {
+        return n;
+    }
+    search_bad(n, starts, preds)
 }
 
 // The first start is 0 and the last is the number of words.

@@ -21,18 +21,27 @@ table =
     ∷ (Refused ∷ Refused ∷ To 0 ∷ Refused ∷ [])
     ∷ []
 
-row-at : (p : ℕ) → p < 3 → getD table p [] ≡ map (nextPhase p) steps
+-- a phase's row, by the steps' order in the table
+abbrev pub rowOf : ℕ → List Next
+rowOf p = map (nextPhase p) steps
+
+row-at : (p : ℕ) → p < 3 → getD table p [] ≡ rowOf p
 unfolding nextPhase
 row-at zero h = refl
 row-at (suc zero) h = refl
 row-at (suc (suc zero)) h = refl
 row-at (suc (suc (suc p))) h = absurd (omega arith)
 
-column-at : (p : ℕ) (s : Step) → getD (map (nextPhase p) steps) (stepNumber s) Refused ≡ nextPhase p s
+column-at : (p : ℕ) (s : Step) → getD (rowOf p) (stepNumber s) Refused ≡ nextPhase p s
 column-at p Fetch = refl
 column-at p Start = refl
 column-at p Complete = refl
 column-at p Release = refl
 
-pub entry : (p : ℕ) (s : Step) (k : ℕ) → p < 3 → k ≡ stepNumber s → getD (getD table p []) k Refused ≡ nextPhase p s
-entry p s k h e = rw (e, row-at p h) (column-at p s)
+-- the table's row k is that of phase k
+pub row-of : (p : ℕ) (row : List Next) (k : ℕ) → k < 3 → p ≡ k → row ≡ getD table k [] → row ≡ rowOf p
+row-of p row k h e r = rw (e, r) (row-at k h)
+
+-- the entry of a step stands in its column
+pub column-of : (p : ℕ) (s : Step) (row : List Next) → row ≡ rowOf p → (s′ : Step) → s ≡ s′ → getD row (stepNumber s′) Refused ≡ nextPhase p s
+column-of p s row e s′ q = rw (e, q) (column-at p s′)

@@ -5,7 +5,7 @@ pub mod refusal;
 ghost use mathlib.Core.Path.{_≡_};
 ghost use Prim.Native.Nat.{_<_, min};
 ghost use Rattle.task.specs.Types.{nil, idle, engine, capped};
-ghost use Rattle.task.specs.Phases.{stepNumber, nextPhase};
+ghost use Rattle.task.specs.Phases.{nextPhase};
 
 // A task's number. NIL stands for "no task" in a worker's row.
 #[repr(C)]
@@ -94,24 +94,22 @@ const PHASES: [[Next; 4]; 3] = [
     [Next::Refused, Next::Refused, Next::To(0), Next::Refused],
 ];
 
-fn column(step: Step) -> usize
-    ensures { λ r. ⌜ (r ≡ stepNumber step) × (r < 4) ⌝ }
-{
-    match step {
-        Step::Fetch => 0,
-        Step::Start => 1,
-        Step::Complete => 2,
-        Step::Release => 3,
-    }
-}
-
-// The phase after a step taken in a phase below 3.
+// The phase after a step taken in a phase below 3. Read at constant places the table takes no memory.
 pub fn next_phase(phase: usize, step: Step) -> Next
     requires { ⌜ phase < 3 ⌝ }
     ensures { λ r. ⌜ r ≡ nextPhase phase step ⌝ }
 {
-    let at = column(step);
-    PHASES[phase][at]
+    let row = match phase {
+        0 => PHASES[0],
+        1 => PHASES[1],
+        _ => PHASES[2],
+    };
+    match step {
+        Step::Fetch => row[0],
+        Step::Start => row[1],
+        Step::Complete => row[2],
+        Step::Release => row[3],
+    }
 }
 
 // The side of a task on which its neighbours stand.

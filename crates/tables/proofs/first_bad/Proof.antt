@@ -1,49 +1,40 @@
--- The parts before t are good.
-use Rattle.tables.proofs.Laws.{bad-found, good-found, bad-none}
-use Rattle.graph.specs.Conditions.{Good}
-use borrow.Author.Count.{below-more}
-use Prim.Native.Nat.{ℕ, _≤_, _<_, _-_}
-use native.Mathlib.Omega.{arith}
+-- Only where the look at all of them says so is no part bad; else they are searched.
+use Rattle.tables.proofs.Laws.{flat-good}
+use borrow.Author.Needs.{needs}
 use Rattle.tables.proofs.first_bad.Statement.{statement}
 use Rattle.tables.proofs.first_bad.Tie as tie
 
-abbrev Inv-loop : tie.InvT-loop
-Inv-loop n starts preds t₀ t = (t ≤ n) × ((k : ℕ) → k < t → Good n starts preds k)
+as-word-requires : tie.Need-as-word-requires
+as-word-requires c κs = search needs
 
-abbrev μ-loop : tie.MeasureT-loop
-μ-loop n starts preds t₀ t = n - t
+flat-below-requires : tie.Need-flat-below-requires
+flat-below-requires c κs = search needs
 
-loop-holds : tie.Need-loop-holds Inv-loop μ-loop
-loop-holds c = (omega arith, λ k h. absurd (omega arith))
+as-word-requires-2 : tie.Need-as-word-requires-2
+as-word-requires-2 c κs = search needs
 
-part-good-requires : tie.Need-part-good-requires Inv-loop μ-loop
-part-good-requires c κs = omega arith
+ranges-rise-requires : tie.Need-ranges-rise-requires
+ranges-rise-requires c κs = search needs
 
-returns : tie.Need-returns Inv-loop μ-loop
-returns c = bad-found _ _ _ _ _ (omega arith) (c .if1 .taken) (c .before .part-good .ensures) (c .before .before .before .loop .inv .1)
+returns : tie.Need-returns
+returns c =
+    let w = c .before .before in
+    flat-good _ _ _ _ _ (w .before .before .as-word .ensures) (w .as-word2 .ensures) _ _ (c .if1 .taken) (w .before .flat-below .ensures) (c .before .ranges-rise .ensures)
 
-add-t : tie.Need-add-t Inv-loop μ-loop
-add-t c = omega arith
+search-bad-requires : tie.Need-search-bad-requires
+search-bad-requires c κs = search needs
 
-loop-less : tie.Need-loop-less Inv-loop μ-loop
-loop-less c = omega arith
-
-loop-again : tie.Need-loop-again Inv-loop μ-loop
-loop-again c = (omega arith, below-more _ _ (c .before .before .before .loop .inv .1) (good-found _ _ _ _ _ (c .if1 .left) (c .before .part-good .ensures)))
-
-returns-2 : tie.Need-returns-2 Inv-loop μ-loop
-returns-2 c = bad-none _ _ _ _ (omega arith) (c .before .loop .inv .1)
+returns-2 : tie.Need-returns-2
+returns-2 c = search needs
 
 pub first-bad-spec : {M : Type 1} → statement M
 first-bad-spec =
     tie.close
     (tie.spec
-    Inv-loop
-    μ-loop
-    loop-holds
-    part-good-requires
+    as-word-requires
+    flat-below-requires
+    as-word-requires-2
+    ranges-rise-requires
     returns
-    add-t
-    loop-less
-    loop-again
+    search-bad-requires
     returns-2)
