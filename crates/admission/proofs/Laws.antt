@@ -1,6 +1,6 @@
 -- The tests before a step's own rule, in their order.
 use Prim.Native.Nat.{ℕ, _+_, _*_, _≤_, _<_, min}
-use mathlib.Core.Path.{_≡_, refl, sym, _∙_, subst}
+use mathlib.Core.Path.{_≡_, refl, sym, ap, _∙_, subst}
 use mathlib.Core.Bool.{Bool, true, false, cond, not, _&&_}
 use native.Mathlib.Nat.{mul-le-mul}
 use native.Mathlib.Omega.{arith}
@@ -13,22 +13,21 @@ use Rattle.lists.proofs.Told.{and-true}
 use Rattle.task.specs.Types.{idle, engine, capped}
 use Rattle.task.specs.Phases.{suits, leadsTo, nextPhase}
 use Rattle.task.specs.declared.Limits.{Limits}
+use Rattle.task.specs.declared.Row.{Row}
 use Rattle.task.specs.declared.Step.{Step}
 use Rattle.task.specs.declared.Next.{Next}
 use Rattle.task.specs.declared.Next.the-variants as next
 use Rattle.graph.specs.Check.{sizesFit}
-use Rattle.rules.specs.Memory.{Mem, memOf, tasks, edges, rowIn}
+use Rattle.rules.specs.Memory.{Mem, memOf, tasks, edges, withHand}
 use Rattle.rules.specs.Sizes.{Fits, numbersFit, othersFit, lengthsFit}
 use Rattle.rules.specs.Words.{phaseFits}
 use Rattle.rules.specs.Plans.{Plan, refuse, checked, suited}
-use Rattle.rules.specs.Steps.{ruleOf, stepPlan}
+use Rattle.rules.specs.Steps.{stepPlan}
 use Rattle.rules.proofs.Headers.{fits-are}
-use Rattle.admission.specs.Admission.{sizesOf, Allows, Judges, Admission, Measured, Measures}
+use Rattle.admission.specs.Admission.{sizesOf, Judges, Measured, Knows, Allows}
 use Rattle.admission.specs.declared.Sizes.{Sizes}
-use Rattle.admission.specs.declared.Judged.{Judged}
 use Rattle.admission.specs.declared.Judged.the-variants as judged
-use Rattle.admission.specs.declared.Admitted.{Admitted}
-use Rattle.admission.specs.declared.Admitted.the-variants.{Refused, To}
+use Rattle.admission.specs.declared.Admitted.the-variants.{To}
 
 pub numbers-are : (limits most : Limits) (p k : ℕ) → most ≡ capped limits
     → (leb 1 p && leb p (most .workers)) && (leb 2 k && leb k (most .slots)) ≡ numbersFit limits p k
@@ -80,19 +79,20 @@ passed-to true a q e = (refl, cc)
 passed-to false a q e = unequal cc
 
 -- the phase word, then whether the step suits it
-module _ (phase : ℕ) (s : Step) where
-  pub phase-damaged : 2 < phase → (rest : Plan) → checked (phaseFits phase) (suited (nextPhase phase s) phase rest) ≡ refuse 8 0
-  phase-damaged h rest = rw (lt-leb phase 2 h)
+module _ (row : Row) (s : Step) where
+  pub phase-damaged : 2 < row .phase → (rest : Plan) → checked (phaseFits (row .phase)) (suited (nextPhase (row .phase) s) (row .phase) rest) ≡ refuse 8 0
+  phase-damaged h rest = rw (lt-leb (row .phase) 2 h)
 
-  module _ (h : phase ≤ 2) (to : Next) (e : to ≡ nextPhase phase s) where
-    pub phase-wrong : to ≡ next.Refused → (rest : Plan) → checked (phaseFits phase) (suited (nextPhase phase s) phase rest) ≡ refuse 9 phase
-    phase-wrong w rest = rw (le-leb phase 2 h, ← e, w)
+  module _ (h : row .phase ≤ 2) (to : Next) (e : to ≡ nextPhase (row .phase) s) where
+    pub phase-wrong : to ≡ next.Refused
+        → (rest : Plan) → checked (phaseFits (row .phase)) (suited (nextPhase (row .phase) s) (row .phase) rest) ≡ refuse 9 (row .phase)
+    phase-wrong w rest = rw (le-leb (row .phase) 2 h, ← e, w)
 
-    pub phase-suits : (q : ℕ) → to ≡ next.To q → Allows phase s (To q)
+    pub phase-suits : (q : ℕ) → to ≡ next.To q → Allows row s (To (withHand q (row .held) row))
     unfolding nextPhase
     phase-suits q w =
-        let (t, l) = passed-to (eqb phase (suits s)) (leadsTo s) q (sym e ∙ w) in
-        ((λ rest. rw (le-leb phase 2 h, t)), (eqb-true phase (suits s) t, l))
+        let (t, l) = passed-to (eqb (row .phase) (suits s)) (leadsTo s) q (sym e ∙ w) in
+        ((λ rest. rw (le-leb (row .phase) 2 h, t)), (eqb-true (row .phase) (suits s) t, ap (λ x. withHand x (row .held) row) l))
 
 -- a memory with lists of these lengths
 abbrev pub blank : Sizes → Mem
@@ -131,9 +131,9 @@ module _ (limits : Limits) (p k : ℕ) (sizes : Sizes) (numbers fit : Bool) (hn 
   limits-are : (m : Mem) → sizesOf m ≡ sizes → numbersFit limits p k && sizesFit limits (tasks m) (edges m) ≡ numbers && fit
   limits-are m e = rw (hn, hf, ← e) refl
 
-  pub step-beyond : not (numbers && fit) ≡ true → (i : ℕ) (s : Step) (m : Mem) → sizesOf m ≡ sizes → stepPlan limits p k i s m ≡ refuse 2 0
+  pub judged-beyond : not (numbers && fit) ≡ true → (i : ℕ) → Judges limits p k i sizes (judged.Refused 2 0)
   unfolding stepPlan
-  step-beyond n i s m e = rw (limits-are m e ∙ not-true (numbers && fit) n)
+  judged-beyond n i s m e = rw (limits-are m e ∙ not-true (numbers && fit) n)
 
   module _ (f : not (numbers && fit) ≡ false) where
     within : (m : Mem) → sizesOf m ≡ sizes → numbersFit limits p k && sizesFit limits (tasks m) (edges m) ≡ true
@@ -149,41 +149,28 @@ module _ (limits : Limits) (p k : ℕ) (sizes : Sizes) (numbers fit : Bool) (hn 
         (workers, (slots, omega (arith, leb-true (sizes .weights) (min (limits .tasks) 1024) (few .0))))
 
     module _ (lengths : Bool) (hl : (m : Mem) → sizesOf m ≡ sizes → lengths ≡ lengthsFit p k m) where
-      pub step-lengths : not lengths ≡ true → (i : ℕ) (s : Step) (m : Mem) → sizesOf m ≡ sizes → stepPlan limits p k i s m ≡ refuse 1 0
+      pub judged-lengths : not lengths ≡ true → (i : ℕ) → Judges limits p k i sizes (judged.Refused 1 0)
       unfolding stepPlan
-      step-lengths n i s m e = rw (within m e, sym (hl m e) ∙ not-true lengths n)
+      judged-lengths n i s m e = rw (within m e, sym (hl m e) ∙ not-true lengths n)
 
-      pub sizes-pass : not lengths ≡ false → Judges limits p k sizes judged.Fit
-      sizes-pass l m e = (within m e, sym (hl m e) ∙ not-false lengths l)
+      module _ (l : not lengths ≡ false) (i : ℕ) where
+        long : (m : Mem) → sizesOf m ≡ sizes → lengthsFit p k m ≡ true
+        long m e = sym (hl m e) ∙ not-false lengths l
 
--- what follows 2 and 1
-module _ (limits : Limits) (p k : ℕ) (sizes : Sizes) (j : Judged) (known : Judges limits p k sizes j) where
-  pub step-judged : (n : ℕ) → j ≡ judged.Refused n → Judges limits p k sizes (judged.Refused n)
-  step-judged n e = subst (Judges limits p k sizes) e known
+        pub judged-worker : p ≤ i → Judges limits p k i sizes (judged.Refused 7 i)
+        unfolding stepPlan
+        judged-worker h s m e = rw (within m e, long m e, le-ltb i p h)
 
-  module _ (passed : j ≡ judged.Fit) where
-    fit : Judges limits p k sizes judged.Fit
-    fit = subst (Judges limits p k sizes) passed known
+        module _ (h : i < p) where
+          pub judged-fit : Judges limits p k i sizes judged.Fit
+          judged-fit = ((λ m e. (within m e, long m e)), h)
 
-    fitting : (m : Mem) → sizesOf m ≡ sizes → Fits limits p k m
-    fitting m e = fits-are limits p k m (fit m e .0) (fit m e .1)
+          pub judged-knows : Knows p k i sizes judged.Fit
+          judged-knows =
+              let m = blank sizes in
+              let e = blank-sizes sizes in
+              measured limits p k i sizes m e (fits-are limits p k m (within m e) (long m e)) h
 
-    module _ (i : ℕ) where
-      pub step-worker : p ≤ i → (s : Step) (m : Mem) → sizesOf m ≡ sizes → stepPlan limits p k i s m ≡ refuse 7 i
-      unfolding stepPlan
-      step-worker h s m e = rw (fit m e .0, fit m e .1, le-ltb i p h)
-
-      module _ (h : i < p) where
-        pub step-measured : (r : Admitted) → Measures p k i sizes r
-        step-measured (Refused n d) = tt
-        step-measured (To q) = measured limits p k i sizes (blank sizes) (blank-sizes sizes) (fitting (blank sizes) (blank-sizes sizes)) h
-
-        module _ (phase : ℕ) (s : Step) (m : Mem) (e : sizesOf m ≡ sizes) (hp : rowIn m i .phase ≡ phase) where
-          reached : stepPlan limits p k i s m ≡ checked (phaseFits phase) (suited (nextPhase phase s) phase (ruleOf s p k i m))
-          unfolding stepPlan
-          reached = rw (fit m e .0, fit m e .1, lt-ltb i p h, hp) refl
-
-          pub step-admitted : (r : Admitted) → Allows phase s r → Admission limits p k i s m r
-          step-admitted (Refused n d) a = reached ∙ a (ruleOf s p k i m)
-          step-admitted (To q) (a, (_, w)) =
-              record { follows = reached ∙ a (ruleOf s p k i m); fits = fitting m e; worker = h; leads = w }
+pub refused-known : (limits : Limits) (p k i : ℕ) (sizes : Sizes) (n d : ℕ) → Judges limits p k i sizes (judged.Refused n d)
+    → Judges limits p k i sizes (judged.Refused n d) × Knows p k i sizes (judged.Refused n d)
+refused-known limits p k i sizes n d h = (h, (limits, h))

@@ -2,13 +2,17 @@
 use Prim.Native.Nat.{ℕ, _+_, _*_, _≤_, _<_}
 use mathlib.Core.Path.{_≡_}
 use mathlib.Core.Bool.{true, _&&_}
-use lib.ListN.{length}
+use mathlib.Core.List.{List}
+use lib.ListN.{length, set}
 use Rattle.task.specs.Types.{engine}
 use Rattle.task.specs.Phases.{suits, leadsTo, nextPhase}
 use Rattle.task.specs.declared.Limits.{Limits}
+use Rattle.task.specs.declared.Row.{Row}
 use Rattle.task.specs.declared.Step.{Step}
+use Rattle.task.specs.declared.StepAnswer.{StepAnswer}
+use Rattle.task.specs.declared.StepAnswer.the-variants as answer
 use Rattle.graph.specs.Check.{sizesFit}
-use Rattle.rules.specs.Memory.{Mem, tasks, edges, rowIn}
+use Rattle.rules.specs.Memory.{Mem, tasks, edges, rowIn, withHand}
 use Rattle.rules.specs.Sizes.{Fits, numbersFit, lengthsFit}
 use Rattle.rules.specs.Words.{phaseFits}
 use Rattle.rules.specs.Plans.{Plan, refuse, checked, suited}
@@ -18,6 +22,8 @@ use Rattle.admission.specs.declared.Judged.{Judged}
 use Rattle.admission.specs.declared.Judged.the-variants as judged
 use Rattle.admission.specs.declared.Admitted.{Admitted}
 use Rattle.admission.specs.declared.Admitted.the-variants.{Refused, To}
+use Rattle.admission.specs.declared.Stepped.{Stepped}
+use Rattle.admission.specs.declared.Stepped.the-variants as stepped
 
 -- the lengths of a memory's lists
 abbrev pub sizesOf : Mem → Sizes
@@ -38,30 +44,13 @@ sizesOf m =
       rows = length (m .rows);
     }
 
--- whether a step may be taken in a phase: every plan that starts with these two tests is refused, or goes on
-abbrev pub Allows : ℕ → Step → Admitted → Type 0
-Allows phase s (Refused n d) = (rest : Plan) → checked (phaseFits phase) (suited (nextPhase phase s) phase rest) ≡ refuse n d
-Allows phase s (To q) =
-    ((rest : Plan) → checked (phaseFits phase) (suited (nextPhase phase s) phase rest) ≡ rest) × ((phase ≡ suits s) × (q ≡ leadsTo s))
+-- 2, 1 and 7: every step on lists of these lengths is refused, or numbers, lengths and worker pass
+abbrev pub Judges : Limits → ℕ → ℕ → ℕ → Sizes → Judged → Type 0
+Judges limits p k i sizes (judged.Refused n d) = (s : Step) (m : Mem) → sizesOf m ≡ sizes → stepPlan limits p k i s m ≡ refuse n d
+Judges limits p k i sizes judged.Fit =
+    ((m : Mem) → sizesOf m ≡ sizes → (numbersFit limits p k && sizesFit limits (tasks m) (edges m) ≡ true) × (lengthsFit p k m ≡ true)) × (i < p)
 
--- 2 and 1: every step on lists of these lengths is refused, or their numbers and lengths pass
-abbrev pub Judges : Limits → ℕ → ℕ → Sizes → Judged → Type 0
-Judges limits p k sizes (judged.Refused n) = (i : ℕ) (s : Step) (m : Mem) → sizesOf m ≡ sizes → stepPlan limits p k i s m ≡ refuse n 0
-Judges limits p k sizes judged.Fit =
-    (m : Mem) → sizesOf m ≡ sizes → (numbersFit limits p k && sizesFit limits (tasks m) (edges m) ≡ true) × (lengthsFit p k m ≡ true)
-
--- an admitted step by worker i: its plan is that of its rule, and the memory fits
-pub record Enters (limits : Limits) (p k i : ℕ) (s : Step) (m : Mem) (q : ℕ) : Type 0 where
-  pub follows : stepPlan limits p k i s m ≡ ruleOf s p k i m
-  pub fits : Fits limits p k m
-  pub worker : i < p
-  pub leads : q ≡ leadsTo s
-
-abbrev pub Admission : Limits → ℕ → ℕ → ℕ → Step → Mem → Admitted → Type 0
-Admission limits p k i s m (Refused n d) = stepPlan limits p k i s m ≡ refuse n d
-Admission limits p k i s m (To q) = Enters limits p k i s m q
-
--- what an admitted step knows of its numbers and of the lent lengths, whatever the lists hold
+-- what is then known of the numbers and of the lent lengths, whatever the lists hold
 pub record Measured (p k i : ℕ) (sizes : Sizes) : Type 0 where
   pub fewTasks : sizes .weights ≤ engine .tasks
   pub fewEdges : sizes .preds ≤ engine .edges
@@ -81,11 +70,45 @@ pub record Measured (p k i : ℕ) (sizes : Sizes) : Type 0 where
   pub run : _≡_ {A = ℕ} (sizes .run) 2
   pub rows : sizes .rows ≡ p
 
-abbrev pub Measures : ℕ → ℕ → ℕ → Sizes → Admitted → Type 0
-Measures p k i sizes (Refused n d) = Unit {0}
-Measures p k i sizes (To q) = Measured p k i sizes
+-- so a step is told: a refusal that some limits give, or that all fits
+abbrev pub Knows : ℕ → ℕ → ℕ → Sizes → Judged → Type 0
+Knows p k i sizes (judged.Refused n d) = (limits : Limits) × Judges limits p k i sizes (judged.Refused n d)
+Knows p k i sizes judged.Fit = Measured p k i sizes
 
--- what is told of a step by worker i in a phase, of every memory with these lengths and with that phase in its row, and of the lengths
-abbrev pub Admits : Limits → ℕ → ℕ → ℕ → ℕ → Step → Sizes → Admitted → Type 0
-Admits limits p k i phase s sizes r =
-    ((m : Mem) → sizesOf m ≡ sizes → rowIn m i .phase ≡ phase → Admission limits p k i s m r) × Measures p k i sizes r
+-- a row in the phase that a step leads to
+abbrev pub entered : Step → Row → Row
+entered s row = withHand (leadsTo s) (row .held) row
+
+-- whether a step may be taken by the worker with this row: every plan that starts with these two tests is refused, or goes on
+abbrev pub Allows : Row → Step → Admitted → Type 0
+Allows row s (Refused n d) =
+    (rest : Plan) → checked (phaseFits (row .phase)) (suited (nextPhase (row .phase) s) (row .phase) rest) ≡ refuse n d
+Allows row s (To row′) =
+    ((rest : Plan) → checked (phaseFits (row .phase)) (suited (nextPhase (row .phase) s) (row .phase) rest) ≡ rest)
+    × ((row .phase ≡ suits s) × (row′ ≡ entered s row))
+
+-- the same after what was judged
+abbrev pub Admits : Row → Step → Judged → Admitted → Type 0
+Admits row s (judged.Refused n d) r = r ≡ Refused n d
+Admits row s judged.Fit r = Allows row s r
+
+-- an admitted step by worker i: its plan is that of its rule, the memory fits, and `row` is the worker's in the phase that the step leads to
+pub record Enters (limits : Limits) (p k i : ℕ) (s : Step) (m : Mem) (row : Row) : Type 0 where
+  pub follows : stepPlan limits p k i s m ≡ ruleOf s p k i m
+  pub fits : Fits limits p k m
+  pub worker : i < p
+  pub phase : rowIn m i .phase ≡ suits s
+  pub leads : row ≡ entered s (rowIn m i)
+
+-- a step's end as the rules have it: its answer, the worker's row, and all rows
+abbrev pub answerOf : Stepped → StepAnswer
+answerOf (stepped.Refused n d) = answer.Refused n d
+answerOf (stepped.Taken o row) = answer.Accepted o
+
+abbrev pub rowAfter : Row → Stepped → Row
+rowAfter row (stepped.Refused n d) = row
+rowAfter row (stepped.Taken o row′) = row′
+
+abbrev pub rowsAfter : List Row → ℕ → Stepped → List Row
+rowsAfter rows i (stepped.Refused n d) = rows
+rowsAfter rows i (stepped.Taken o row) = set rows i row

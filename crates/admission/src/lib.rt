@@ -5,12 +5,13 @@ ghost use Prim.Native.Nat.{_≤_};
 ghost use Rattle.task.specs.Types.{engine};
 ghost use Rattle.rules.specs.Memory.{Mem};
 ghost use Rattle.rules.specs.Sizes.{numbersFit, othersFit, lengthsFit};
-ghost use Rattle.admission.specs.Admission.{sizesOf, Allows, Judges, Admits};
+ghost use Rattle.admission.specs.Admission.{sizesOf, Judges, Knows, Allows, Admits, answerOf, rowAfter};
 use task::Limits;
 use task::Next;
 use task::Row;
 use task::Step;
 use task::StepAnswer;
+use task::StepOutcome;
 use task::WorkerId;
 use task::refusal;
 
@@ -65,80 +66,89 @@ pub fn lengths_fit(sizes: Sizes, p: usize, k: usize) -> bool
     (sizes.pred_starts == sizes.weights + 1) & others_fit(sizes, p, k)
 }
 
-// Refused, or the phase that the step leads to.
-pub enum Admitted {
-    Refused(u32, u32),
-    To(u32),
-}
-
-// The phase word, and whether the step suits it.
-fn admit_phase(phase: u32, step: Step) -> Admitted
-    ensures { λ r. ⌜ Allows phase step r ⌝ }
-{
-    if 2 < phase {
-        return Admitted::Refused(refusal::DAMAGED, 0);
-    }
-    let next = task::next_phase(phase as usize, step);
-    let Next::To(to) = next else {
-        return Admitted::Refused(refusal::WRONG_PHASE, phase);
-    };
-    Admitted::To(to)
-}
-
-// The numbers and all lengths are as they must be, or the number of the refusal.
+// The numbers, all lengths and the worker are as they must be, or the refusal.
 pub enum Judged {
     Fit,
-    Refused(u32),
+    Refused(u32, u32),
 }
 
-// 2 and 1. Apart from what follows, so that it is small enough for the compiler to expand it in each step, where the limits are known.
-pub fn judge_sizes(limits: Limits, sizes: Sizes, p: usize, k: usize) -> Judged
-    ensures { λ r. ⌜ Judges limits p k sizes r ⌝ }
+// 2, 1 and 7. Apart from what follows, so that it is small enough for the compiler to expand it in each call, where the limits are known.
+pub fn judge(limits: Limits, sizes: Sizes, p: usize, k: usize, worker: WorkerId) -> Judged
+    ensures { λ r. ⌜ Judges limits p k (worker .0) sizes r ⌝ }
+    ensures { λ r. ⌜ Knows p k (worker .0) sizes r ⌝ }
 {
     if !(numbers_fit(limits, p, k) & tables::sizes_fit(limits, sizes.weights, sizes.preds)) {
-        return Judged::Refused(refusal::BEYOND_LIMIT);
+        return Judged::Refused(refusal::BEYOND_LIMIT, 0);
     }
     if !lengths_fit(sizes, p, k) {
-        return Judged::Refused(refusal::WRONG_LENGTH);
+        return Judged::Refused(refusal::WRONG_LENGTH, 0);
+    }
+    if p <= worker.0 as usize {
+        return Judged::Refused(refusal::NO_SUCH_WORKER, worker.0);
     }
     Judged::Fit
 }
 
-// Then 7, the phase word and 9, for a step by a worker in a phase. Admitted, it knows the lengths whatever the lists hold, so that it
-// may read them.
-pub fn admit(
-    limits: Limits,
-    sizes: Sizes,
-    p: usize,
-    k: usize,
-    judged: Judged,
-    worker: WorkerId,
-    phase: u32,
-    step: Step,
-) -> Admitted
-    requires { ⌜ Judges limits p k sizes judged ⌝ }
-    ensures { λ r. ⌜ Admits limits p k (worker .0) phase step sizes r ⌝ }
-{
-    if let Judged::Refused(number) = judged {
-        return Admitted::Refused(number, 0);
-    }
-    if p <= worker.0 as usize {
-        return Admitted::Refused(refusal::NO_SUCH_WORKER, worker.0);
-    }
-    admit_phase(phase, step)
+// Refused, or the worker's row in the phase that the step leads to.
+pub enum Admitted {
+    Refused(u32, u32),
+    To(Row),
 }
 
-// A step's answer, and the worker's row after it.
-pub struct Stepped {
-    pub answer: StepAnswer,
-    pub row: Row,
+// The phase word, and whether the step suits it. The phase is set here alone.
+fn admit_phase(row: Row, step: Step) -> Admitted
+    ensures { λ r. ⌜ Allows row step r ⌝ }
+{
+    let from = row.phase;
+    if 2 < from {
+        return Admitted::Refused(refusal::DAMAGED, 0);
+    }
+    let next = task::next_phase(from as usize, step);
+    let Next::To(phase) = next else {
+        return Admitted::Refused(refusal::WRONG_PHASE, from);
+    };
+    let held = row.held;
+    Admitted::To(Row {
+        phase,
+        held,
+        pointer: row.pointer,
+        read: row.read,
+        write: row.write,
+        cursor: row.cursor,
+    })
 }
 
-pub fn refused(number: u32, detail: u32, row: Row) -> Stepped
-    ensures { λ r. ⌜ (r .answer ≡ StepAnswer.Refused number detail) × (r .row ≡ row) ⌝ }
+// What was judged, then the phase word (8) and whether the step suits it (9).
+pub fn admit(judged: Judged, row: Row, step: Step) -> Admitted
+    ensures { λ r. ⌜ Admits row step judged r ⌝ }
 {
-    Stepped {
-        answer: StepAnswer::Refused(number, detail),
-        row,
+    if let Judged::Refused(number, detail) = judged {
+        return Admitted::Refused(number, detail);
+    }
+    admit_phase(row, step)
+}
+
+// A step's end: refused, or its outcome and the worker's row after it.
+pub enum Stepped {
+    Refused(u32, u32),
+    Taken(StepOutcome, Row),
+}
+
+pub fn answer_of(stepped: Stepped) -> StepAnswer
+    ensures { λ r. ⌜ r ≡ answerOf stepped ⌝ }
+{
+    match stepped {
+        Stepped::Refused(number, detail) => StepAnswer::Refused(number, detail),
+        Stepped::Taken(outcome, after) => StepAnswer::Accepted(outcome),
+    }
+}
+
+// The worker's row after a step, which had this row before.
+pub fn row_after(stepped: Stepped, row: Row) -> Row
+    ensures { λ r. ⌜ r ≡ rowAfter row stepped ⌝ }
+{
+    match stepped {
+        Stepped::Refused(number, detail) => row,
+        Stepped::Taken(outcome, after) => after,
     }
 }

@@ -29,7 +29,14 @@ pub fn begin_lists(
     executed: &mut [u32],
     run: &mut [u32],
 ) -> Begun
-    ensures { λ r. ⌜ Begins limits p k rows (λ rs. memOf (now (weights .entry)) (now («pred_starts» .entry)) (now (preds .entry)) (now («succ_starts» .entry)) (now (succs .entry)) (now (degrees .entry)) (now (rings .entry)) (now (ends .entry)) (now (counters .entry)) (now (buffers .entry)) (now (executed .entry)) (now (run .entry)) rs) (λ rs. memOf (now (weights .entry)) (now («pred_starts» .entry)) (now (preds .entry)) (now («succ_starts» .exit)) (now (succs .exit)) (now (degrees .exit)) (now (rings .exit)) (now (ends .exit)) (now (counters .exit)) (now (buffers .exit)) (now (executed .exit)) (now (run .exit)) rs) r ⌝ }
+    ensures { λ r. ⌜
+        Begins limits p k rows (λ rs. memOf (now (weights .entry)) (now («pred_starts» .entry)) (now (preds .entry))
+        (now («succ_starts» .entry)) (now (succs .entry)) (now (degrees .entry)) (now (rings .entry)) (now (ends .entry))
+        (now (counters .entry)) (now (buffers .entry)) (now (executed .entry)) (now (run .entry)) rs) (λ rs. memOf
+        (now (weights .entry)) (now («pred_starts» .entry)) (now (preds .entry)) (now («succ_starts» .exit)) (now (succs .exit))
+        (now (degrees .exit)) (now (rings .exit)) (now (ends .exit)) (now (counters .exit)) (now (buffers .exit))
+        (now (executed .exit)) (now (run .exit)) rs) r
+        ⌝ }
 {
     let sizes = Sizes {
         weights: weights.len(),

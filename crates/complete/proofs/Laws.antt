@@ -10,27 +10,27 @@ use borrow.Author.Tests.{ltb-true, lt-ltb, le-ltb, le-leb, lt-leb, eq-eqb, ne-eq
 use Rattle.lists.proofs.Apart.{unequal}
 use Rattle.lists.proofs.Places.{place-lt}
 use Rattle.lists.proofs.Told.{and-true, or-false, cond-either}
-use Rattle.task.specs.Types.{engine}
+use Rattle.task.specs.Types.{nil, engine}
 use Rattle.task.specs.Refusals.{recordFull}
 use Rattle.task.specs.declared.Limits.{Limits}
 use Rattle.task.specs.declared.Row.{Row}
 use Rattle.task.specs.declared.Step.the-variants.{Complete}
-use Rattle.task.specs.declared.StepAnswer.the-variants as answer
 use Rattle.task.specs.declared.StepOutcome.the-variants.{Moved}
-use Rattle.rules.specs.Memory.{Mem, allEntries, allSteps, rowIn}
+use Rattle.rules.specs.Memory.{Mem, allEntries, allSteps, rowIn, withHand, withPlaces}
 use Rattle.rules.specs.Updates.{updated, written}
 use Rattle.rules.specs.Plans.{Plan, refuse, refuseIf, checked, counted}
 use Rattle.rules.specs.Steps.{completeSink, completeInner, completeRule, ruleOf}
-use Rattle.admission.specs.Admission.{sizesOf, Enters, Measured, Admits}
+use Rattle.admission.specs.Admission.{sizesOf, Judges, Measured, Admits, Enters}
 use Rattle.admission.specs.declared.Sizes.{Sizes}
+use Rattle.admission.specs.declared.Judged.{Judged}
 use Rattle.admission.specs.declared.Stepped.{Stepped}
+use Rattle.admission.specs.declared.Stepped.the-variants as stepped
 use Rattle.admission.specs.declared.Admitted.{Admitted}
-use Rattle.admission.specs.declared.Admitted.the-variants as admission
-use Rattle.admission.specs.declared.Admitted.the-variants.{To}
+use Rattle.admission.specs.declared.Admitted.the-variants as admitted
 use Rattle.admission.proofs.Laws.{few-places}
-use Rattle.admission.proofs.Rows.{admission-refused, admission-enters, refused-result, rule-refused, rule-accepted}
-use Rattle.complete.specs.Complete.{lent, Completes}
-use Rattle.complete.specs.Planned.{planOf, Plans, Room, Decides, Recordable, Records, Leaves}
+use Rattle.admission.proofs.Rows.{admission-entered, admission-refused, admission-enters, refused-result, rule-refused, rule-accepted}
+use Rattle.complete.specs.Complete.{lent, Completes, HandAndWrite}
+use Rattle.complete.specs.Planned.{planOf, Plans, Room, Decides, Recordable, Records}
 use Rattle.complete.specs.declared.CompletePlan.{CompletePlan}
 use Rattle.complete.specs.declared.CompletePlan.the-variants.{Refused, Sink, Inner}
 
@@ -78,9 +78,16 @@ module _ (n e : ℕ) (row : Row) (succStarts run : List ℕ) where
       (checked ranged
       (cond sink (steady alone) (joins joined)))))
 
-  planned : (plan : CompletePlan) → ((i : ℕ) (m : Mem) → ruled (planOf i m Sink) (planOf i m Inner) ≡ planOf i m plan) → Plans n e row succStarts run plan
+  -- what the rule comes to, the run words being those that it reads
+  abbrev alone : ℕ → Mem → Plan
+  alone i m = planOf i m (Sink (getD run 0 0) (getD run 1 0))
+
+  abbrev joined : ℕ → Mem → Plan
+  joined i m = planOf i m (Inner (getD run 0 0) (getD run 1 0))
+
+  planned : (plan : CompletePlan) → ((i : ℕ) (m : Mem) → ruled (alone i m) (joined i m) ≡ planOf i m plan) → Plans n e row succStarts run plan
   unfolding completeRule completeSink completeInner counted allEntries allSteps
-  planned plan f i m hn he hr hs hu = rw (← hn, ← he, ← hr, ← hs, ← hu) at f i m
+  planned plan f i m hn he hr hs hu = rw (← hn, ← he, hr, ← hs, ← hu) at f i m
 
   pub plan-over : n < getD run 0 0 → Plans n e row succStarts run (Refused 8 0)
   plan-over h = planned (Refused 8 0) (λ i m. simp (lt-leb _ _ h))
@@ -99,7 +106,7 @@ module _ (n e : ℕ) (row : Row) (succStarts run : List ℕ) where
 
         module _ (d : not ranged ≡ false) where
           -- what the tests up to here leave of the rule
-          later : (plan : CompletePlan) → ((i : ℕ) (m : Mem) → cond sink (steady (planOf i m Sink)) (joins (planOf i m Inner)) ≡ planOf i m plan)
+          later : (plan : CompletePlan) → ((i : ℕ) (m : Mem) → cond sink (steady (alone i m)) (joins (joined i m)) ≡ planOf i m plan)
               → Plans n e row succStarts run plan
           later plan f = planned plan (λ i m. simp (le-leb _ _ a, ne-eqb _ _ b, lt-ltb _ _ c, not-false ranged d) (f i m))
 
@@ -113,15 +120,18 @@ module _ (n e : ℕ) (row : Row) (succStarts run : List ℕ) where
             plan-counted h = later (Refused 8 0) (λ i m. simp (le-ltb _ _ h, cond-either))
 
             module _ (g : getD run 1 0 < 3 * n + e) where
-              pub plan-sink : sink ≡ true → Decides n e row succStarts run Sink
-              plan-sink s = (later Sink (λ i m. simp (s, lt-ltb _ _ g)), (omega arith, g))
+              room : Room n e run (getD run 0 0) (getD run 1 0)
+              room = record { entriesWord = refl; acceptedWord = refl; entry = omega arith; step = g }
 
-              pub plan-inner : sink ≡ false → Decides n e row succStarts run Inner
+              pub plan-sink : sink ≡ true → Decides n e row succStarts run (Sink (getD run 0 0) (getD run 1 0))
+              plan-sink s = (later (Sink (getD run 0 0) (getD run 1 0)) (λ i m. simp (s, lt-ltb _ _ g)), room)
+
+              pub plan-inner : sink ≡ false → Decides n e row succStarts run (Inner (getD run 0 0) (getD run 1 0))
               plan-inner s =
                   let (r, w) = and-true (leb (row .read) (row .write)) (ltb (row .write) n) (other sink placed f s) in
                   let x : row .write < n = ltb-true (row .write) n w in
                   let y : row .write ≤ n = omega arith in
-                  (later Inner (λ i m. simp (s, r, le-leb _ _ y, w, lt-ltb _ _ g)), ((omega arith, g), x))
+                  (later (Inner (getD run 0 0) (getD run 1 0)) (λ i m. simp (s, r, le-leb _ _ y, w, lt-ltb _ _ g)), (room, x))
 
 -- What an admitted step's lengths let the plan read and its writes store.
 module _ (p k i : ℕ) (sizes : Sizes) (f : Measured p k i sizes) where
@@ -129,10 +139,15 @@ module _ (p k i : ℕ) (sizes : Sizes) (f : Measured p k i sizes) where
       → (sizes .weights ≤ engine .tasks) × ((sizes .preds ≤ engine .edges) × ((starts ≡ sizes .weights + 1) × (words ≡ 2)))
   plan-asks starts words s r = (f .fewTasks, (f .fewEdges, (s ∙ f .succStarts, r ∙ f .run)))
 
-  pub record-asks : (places words entries accepted : ℕ) → places ≡ sizes .executed → words ≡ sizes .run
-      → Room (sizes .weights) (sizes .preds) entries accepted → Recordable places words entries accepted
-  record-asks places words entries accepted x r (a, b) =
-      (r ∙ f .run, (omega (arith, f .executed), (omega (arith, f .fewTasks), omega (arith, f .fewTasks, f .fewEdges))))
+  pub record-asks : (places words : ℕ) (run : List ℕ) (entries accepted : ℕ) → places ≡ sizes .executed → words ≡ sizes .run
+      → Room (sizes .weights) (sizes .preds) run entries accepted → Recordable places words entries accepted
+  record-asks places words run entries accepted x r room = (
+    r ∙ f .run,
+    (
+      omega (arith, f .executed, room .entry),
+      (omega (arith, f .fewTasks, room .entry), omega (arith, f .fewTasks, f .fewEdges, room .step)),
+    ),
+  )
 
   pub buffer-asks : (places write : ℕ) → places ≡ sizes .buffers → write < sizes .weights
       → (i * sizes .weights + write < places) × (places ≤ engine .workers * engine .tasks)
@@ -145,55 +160,65 @@ module _ (p k i : ℕ) (sizes : Sizes) (f : Measured p k i sizes) where
   place-asks write h = omega (arith, f .fewTasks)
 
 -- an accepted plan can be written
-pub sink-writable : (n e : ℕ) (row : Row) (succStarts run : List ℕ) (plan : CompletePlan) → Decides n e row succStarts run plan → plan ≡ Sink
-    → Room n e (getD run 0 0) (getD run 1 0)
-sink-writable n e row succStarts run plan d w = rw w at d .1
+pub sink-writable : (n e : ℕ) (row : Row) (succStarts run : List ℕ) (plan : CompletePlan) → Decides n e row succStarts run plan
+    → (entries accepted : ℕ) → plan ≡ Sink entries accepted → Room n e run entries accepted
+sink-writable n e row succStarts run plan d entries accepted w = rw w at d .1
 
-pub inner-writable : (n e : ℕ) (row : Row) (succStarts run : List ℕ) (plan : CompletePlan) → Decides n e row succStarts run plan → plan ≡ Inner
-    → Room n e (getD run 0 0) (getD run 1 0) × (row .write < n)
-inner-writable n e row succStarts run plan d w = rw w at d .1
+pub inner-writable : (n e : ℕ) (row : Row) (succStarts run : List ℕ) (plan : CompletePlan) → Decides n e row succStarts run plan
+    → (entries accepted : ℕ) → plan ≡ Inner entries accepted → Room n e run entries accepted × (row .write < n)
+inner-writable n e row succStarts run plan d entries accepted w = rw w at d .1
+
+-- an accepted Complete leaves the row's other words
+pub hand-and-write : (row : Row) (judged : Judged) (r : Admitted) → Admits row Complete judged r → (after : Row) → r ≡ admitted.To after → (write : ℕ)
+    → (a : Stepped) → a ≡ stepped.Taken Moved (withHand (after .phase) nil (withPlaces (after .read) write (after .cursor) after)) → HandAndWrite row a
+hand-and-write row judged r told after v write a o = rw (o, admission-entered row Complete judged r told after v .1) refl
 
 -- The step by value: its admission and its plan, then the result.
-module _ (limits : Limits) (p k i : ℕ) (sizes : Sizes) (row : Row) (succStarts buffers executed run : List ℕ) (admitted : Admitted)
-    (told : Admits limits p k i (row .phase) Complete sizes admitted) where
+module _ (p k i : ℕ) (sizes : Sizes) (row : Row) (succStarts buffers executed run : List ℕ) (judged : Judged) (r : Admitted)
+    (told : Admits row Complete judged r) where
   abbrev before : Mem → Mem
   before m = lent m succStarts buffers executed run (m .rows)
 
-  pub row-refused : (n d : ℕ) → admitted ≡ admission.Refused n d → (r : Stepped) → (r .answer ≡ answer.Refused n d) × (r .row ≡ row)
-      → Completes limits p k i sizes row succStarts buffers buffers executed executed run run r
-  row-refused n d v r a m e h =
-      refused-result limits p k i Complete (before m) row h n d
-      (admission-refused limits p k i (row .phase) Complete sizes admitted told (before m) e (ap (λ (x : Row). x .phase) h) n d v)
-      (r .answer) (r .row) a
+  pub row-refused : (n d : ℕ) → r ≡ admitted.Refused n d
+      → Completes p k i sizes judged row succStarts buffers buffers executed executed run run (stepped.Refused n d)
+  row-refused n d v limits m j e h =
+      refused-result limits p k i Complete (before m) n d
+      (admission-refused p k i sizes row Complete limits (before m) e h judged j r told n d v)
 
-  module _ (phase : ℕ) (v : admitted ≡ To phase) (plan : CompletePlan) (decided : Decides (sizes .weights) (sizes .preds) row succStarts run plan) where
-    module _ (m : Mem) (e : sizesOf (before m) ≡ sizes) (h : rowIn m i ≡ row) where
-      enters : Enters limits p k i Complete (before m) phase
-      enters = admission-enters limits p k i (row .phase) Complete sizes admitted told (before m) e (ap (λ (x : Row). x .phase) h) phase v
+  module _ (after : Row) (v : r ≡ admitted.To after) (plan : CompletePlan) (decided : Decides (sizes .weights) (sizes .preds) after succStarts run plan) where
+    module _ (limits : Limits) (m : Mem) (j : Judges limits p k i sizes judged) (e : sizesOf (before m) ≡ sizes) (h : rowIn m i ≡ row) where
+      enters : Enters limits p k i Complete (before m) after
+      enters = admission-enters p k i sizes row Complete limits (before m) e h judged j r told after v
 
       tasks-are : length (m .weights) ≡ sizes .weights
       tasks-are = ap (λ (x : Sizes). x .weights) e
 
       follows : (q : CompletePlan) → plan ≡ q → completeRule i (before m) ≡ planOf i (before m) q
-      follows q w = rw (← w) (decided .0 i (before m) tasks-are (ap (λ (x : Sizes). x .preds) e) h refl refl)
+      follows q w = rw (← w) (decided .0 i (before m) tasks-are (ap (λ (x : Sizes). x .preds) e) (enters .leads) refl refl)
 
-    pub rule-refuses : (n d : ℕ) → plan ≡ Refused n d → (r : Stepped) → (r .answer ≡ answer.Refused n d) × (r .row ≡ row)
-        → Completes limits p k i sizes row succStarts buffers buffers executed executed run run r
+    pub rule-refuses : (n d : ℕ) → plan ≡ Refused n d
+        → Completes p k i sizes judged row succStarts buffers buffers executed executed run run (stepped.Refused n d)
     unfolding ruleOf
-    rule-refuses n d w r a m e h =
-        rule-refused limits p k i Complete (before m) phase (enters m e h) row h n d (follows m e h (Refused n d) w) (r .answer) (r .row) a
+    rule-refuses n d w limits m j e h =
+        rule-refused limits p k i Complete (before m) after (enters limits m j e h) n d (follows limits m j e h (Refused n d) w)
 
-    pub sink-made : plan ≡ Sink → (executed' run' : List ℕ) → Records (row .held .0) i executed executed' run run' → (r : Stepped)
-        → Leaves phase (row .write) row r → Completes limits p k i sizes row succStarts buffers buffers executed executed' run run' r
-    unfolding ruleOf written updated
-    sink-made w executed' run' (hx, hn) r (a, o) m e h =
-        rw (a, o, hx, hn, enters m e h .leads, ← h)
-        (rule-accepted limits p k i Complete (before m) phase (enters m e h) Moved _ (follows m e h Sink w))
+    -- the row of an accepted Complete
+    abbrev left : ℕ → Row
+    left write = withHand (after .phase) nil (withPlaces (after .read) write (after .cursor) after)
 
-    pub inner-made : plan ≡ Inner → (executed' run' : List ℕ) → Records (row .held .0) i executed executed' run run'
-        → (buffers' : List ℕ) → buffers' ≡ set buffers (i * sizes .weights + row .write) (row .held .0) → (r : Stepped)
-        → Leaves phase (row .write + 1) row r → Completes limits p k i sizes row succStarts buffers buffers' executed executed' run run' r
-    unfolding ruleOf written updated
-    inner-made w executed' run' (hx, hn) buffers' hb r (a, o) m e h =
-        rw (a, o, hx, hn, hb, enters m e h .leads, ← tasks-are m e h, ← h)
-        (rule-accepted limits p k i Complete (before m) phase (enters m e h) Moved _ (follows m e h Inner w))
+    module _ (entries accepted : ℕ) (room : Room (sizes .weights) (sizes .preds) run entries accepted) (executed' run' : List ℕ)
+        (records : Records entries accepted (after .held .0) i executed executed' run run') (a : Stepped) where
+      pub sink-made : plan ≡ Sink entries accepted → a ≡ stepped.Taken Moved (left (after .write))
+          → Completes p k i sizes judged row succStarts buffers buffers executed executed' run run' a
+      unfolding ruleOf written updated
+      sink-made w o limits m j e h =
+          rw (o, records .0, records .1, room .entriesWord, room .acceptedWord, enters limits m j e h .leads)
+          (rule-accepted limits p k i Complete (before m) after (enters limits m j e h) Moved _ (follows limits m j e h (Sink entries accepted) w))
+
+      pub inner-made : plan ≡ Inner entries accepted
+          → (buffers' : List ℕ) → buffers' ≡ set buffers (i * sizes .weights + after .write) (after .held .0) → a ≡ stepped.Taken Moved (left (after .write + 1))
+          → Completes p k i sizes judged row succStarts buffers buffers' executed executed' run run' a
+      unfolding ruleOf written updated
+      inner-made w buffers' hb o limits m j e h =
+          rw (o, records .0, records .1, room .entriesWord, room .acceptedWord, hb, ← tasks-are limits m j e h, enters limits m j e h .leads)
+          (rule-accepted limits p k i Complete (before m) after (enters limits m j e h) Moved _ (follows limits m j e h (Inner entries accepted) w))

@@ -2,26 +2,29 @@
 ghost use mathlib.Core.Path.{_≡_};
 ghost use Prim.Native.Nat.{_+_, _*_, _≤_, _<_};
 ghost use lib.ListN.{length, getD, set};
-ghost use Rattle.task.specs.Types.{engine};
-ghost use Rattle.complete.specs.Complete.{Completes};
-ghost use Rattle.complete.specs.Planned.{Decides, Recordable, Records, Leaves};
+ghost use Rattle.task.specs.Types.{nil, engine};
+ghost use Rattle.task.specs.declared.StepOutcome.{StepOutcome};
+ghost use Rattle.rules.specs.Memory.{withHand, withPlaces};
+ghost use Rattle.admission.specs.Admission.{Knows};
+ghost use Rattle.admission.specs.declared.Stepped.{Stepped};
+ghost use Rattle.complete.specs.Complete.{Completes, HandAndWrite};
+ghost use Rattle.complete.specs.Planned.{Decides, Recordable, Records};
 use admission::Admitted;
+use admission::Judged;
 use admission::Sizes;
 use admission::Stepped;
-use task::Limits;
 use task::Row;
 use task::Step;
-use task::StepAnswer;
 use task::StepOutcome;
 use task::TaskId;
 use task::WorkerId;
 use task::refusal;
 
-// What Complete is to do: refused, or the held task joins the record, and the buffer where it is no sink.
+// What Complete is to do: refused, or the held task joins the record, and the buffer where it is no sink; with the run words as read.
 enum CompletePlan {
     Refused(u32, u32),
-    Sink,
-    Inner,
+    Sink(u32, u32),
+    Inner(u32, u32),
 }
 
 // Everything is read and checked: the entries word, the held task and its successor range, for a task with successors
@@ -30,11 +33,11 @@ fn plan_complete(succ_starts: &[u32], run: &[u32], n: usize, e: usize, row: Row)
     requires { ⌜ (n ≤ engine .tasks) × ((e ≤ engine .edges) × ((length (now «succ_starts») ≡ n + 1) × (length (now run) ≡ 2))) ⌝ }
     ensures { λ r. ⌜ Decides n e row (now («succ_starts» .entry)) (now (run .entry)) r ⌝ }
 {
-    let entries = run[0] as usize;
-    if n < entries {
+    let entries = run[0];
+    if n < entries as usize {
         return CompletePlan::Refused(refusal::DAMAGED, 0);
     }
-    if entries == n {
+    if entries as usize == n {
         return CompletePlan::Refused(refusal::RECORD_FULL, 0);
     }
     let held = row.held.0 as usize;
@@ -51,24 +54,34 @@ fn plan_complete(succ_starts: &[u32], run: &[u32], n: usize, e: usize, row: Row)
     if !(sink | joins) {
         return CompletePlan::Refused(refusal::DAMAGED, 0);
     }
-    if 3 * n + e <= run[1] as usize {
+    let accepted = run[1];
+    if 3 * n + e <= accepted as usize {
         return CompletePlan::Refused(refusal::DAMAGED, 0);
     }
     if sink {
-        CompletePlan::Sink
+        CompletePlan::Sink(entries, accepted)
     } else {
-        CompletePlan::Inner
+        CompletePlan::Inner(entries, accepted)
     }
 }
 
-// The task and its worker join the record, and the step is counted.
-fn join_record(executed: &mut [u32], run: &mut [u32], task: TaskId, worker: WorkerId)
-    requires { ⌜ Recordable (length (now executed)) (length (now run)) (getD (now run) 0 0) (getD (now run) 1 0) ⌝ }
-    ensures { λ r. ⌜ Records (task .0) (worker .0) (now (executed .entry)) (now (executed .exit)) (now (run .entry)) (now (run .exit)) ⌝ }
+// The task and its worker join the record, and the step is counted, by the run words as read.
+fn join_record(
+    executed: &mut [u32],
+    run: &mut [u32],
+    entries: u32,
+    accepted: u32,
+    task: TaskId,
+    worker: WorkerId,
+)
+    requires { ⌜ Recordable (length (now executed)) (length (now run)) entries accepted ⌝ }
+    ensures { λ r. ⌜
+        Records entries accepted (task .0) (worker .0) (now (executed .entry)) (now (executed .exit)) (now (run .entry))
+        (now (run .exit))
+        ⌝ }
 {
-    let entries = run[0];
     entries::put_entry(executed, entries as usize, task, worker);
-    run[1] += 1;
+    run[1] = accepted + 1;
     run[0] = entries + 1;
 }
 
@@ -80,27 +93,27 @@ fn join_buffer(buffers: &mut [u32], n: usize, worker: WorkerId, write: u32, task
     buffers[worker.0 as usize * n + write as usize] = task.0;
 }
 
-// The answer and the row of an accepted Complete.
-fn leave(phase: u32, write: u32, row: Row) -> Stepped
-    ensures { λ r. ⌜ Leaves phase write row r ⌝ }
+// An accepted Complete: "held becomes NIL", and the write place is as given.
+fn leave(row: Row, write: u32) -> Stepped
+    ensures { λ r. ⌜ r ≡ Stepped.Taken StepOutcome.Moved (withHand (row .phase) nil (withPlaces (row .read) write (row .cursor) row)) ⌝ }
 {
-    Stepped {
-        answer: StepAnswer::Accepted(StepOutcome::Moved),
-        row: Row {
-            phase,
+    Stepped::Taken(
+        StepOutcome::Moved,
+        Row {
+            phase: row.phase,
             held: TaskId::NIL,
             pointer: row.pointer,
             read: row.read,
             write,
             cursor: row.cursor,
         },
-    }
+    )
 }
 
-// Complete by a worker with this row; `sizes` are the lengths of all lent lists.
+// Complete by a worker with this row, after what was judged; `sizes` are the lengths of all lent lists.
 pub fn complete_row(
-    limits: Limits,
     sizes: Sizes,
+    judged: Judged,
     p: usize,
     k: usize,
     worker: WorkerId,
@@ -110,37 +123,36 @@ pub fn complete_row(
     executed: &mut [u32],
     run: &mut [u32],
 ) -> Stepped
-    requires { ⌜ (length (now «succ_starts») ≡ sizes .«succ_starts») × ((length (now buffers) ≡ sizes .buffers) × ((length (now executed) ≡ sizes .executed) × (length (now run) ≡ sizes .run))) ⌝ }
-    ensures { λ r. ⌜ Completes limits p k (worker .0) sizes row (now («succ_starts» .entry)) (now (buffers .entry)) (now (buffers .exit)) (now (executed .entry)) (now (executed .exit)) (now (run .entry)) (now (run .exit)) r ⌝ }
+    requires { ⌜
+        Knows p k (worker .0) sizes judged × ((length (now «succ_starts»)
+        ≡ sizes .«succ_starts») × ((length (now buffers) ≡ sizes .buffers)
+        × ((length (now executed) ≡ sizes .executed) × (length (now run)
+        ≡ sizes .run))))
+        ⌝ }
+    ensures { λ r. ⌜
+        Completes p k (worker .0) sizes judged row (now («succ_starts» .entry)) (now (buffers .entry)) (now (buffers .exit))
+        (now (executed .entry)) (now (executed .exit)) (now (run .entry)) (now (run .exit)) r
+        ⌝ }
+    ensures { λ r. ⌜ HandAndWrite row r ⌝ }
 {
-    let judged = admission::judge_sizes(limits, sizes, p, k);
-    let admitted = admission::admit(
-        limits,
-        sizes,
-        p,
-        k,
-        judged,
-        worker,
-        row.phase,
-        Step::Complete,
-    );
-    let phase = match admitted {
-        Admitted::Refused(number, detail) => return admission::refused(number, detail, row),
-        Admitted::To(phase) => phase,
+    let admitted = admission::admit(judged, row, Step::Complete);
+    let after = match admitted {
+        Admitted::Refused(number, detail) => return Stepped::Refused(number, detail),
+        Admitted::To(after) => after,
     };
     let n = sizes.weights;
-    let plan = plan_complete(succ_starts, run, n, sizes.preds, row);
-    let held = row.held;
+    let plan = plan_complete(succ_starts, run, n, sizes.preds, after);
+    let held = after.held;
     match plan {
-        CompletePlan::Refused(number, detail) => admission::refused(number, detail, row),
-        CompletePlan::Sink => {
-            join_record(executed, run, held, worker);
-            leave(phase, row.write, row)
+        CompletePlan::Refused(number, detail) => Stepped::Refused(number, detail),
+        CompletePlan::Sink(entries, accepted) => {
+            join_record(executed, run, entries, accepted, held, worker);
+            leave(after, after.write)
         }
-        CompletePlan::Inner => {
-            join_record(executed, run, held, worker);
-            join_buffer(buffers, n, worker, row.write, held);
-            leave(phase, row.write + 1, row)
+        CompletePlan::Inner(entries, accepted) => {
+            join_record(executed, run, entries, accepted, held, worker);
+            join_buffer(buffers, n, worker, after.write, held);
+            leave(after, after.write + 1)
         }
     }
 }

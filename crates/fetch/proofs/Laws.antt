@@ -9,36 +9,40 @@ use borrow.Author.Tests.{lt-ltb, le-ltb, le-leb, lt-leb, not-true, not-false}
 use lib.ListN.{length, getD, set}
 use lib.IntN.{ℤ, pos, _-ℤ_}
 use Rattle.lists.specs.Circles.{after}
+use Rattle.lists.proofs.Apart.{unequal}
+use Rattle.lists.proofs.Places.{place-end}
+use Rattle.task.specs.Types.{engine}
 use Rattle.task.specs.declared.Ends.{Ends}
 use Rattle.task.specs.declared.Limits.{Limits}
 use Rattle.task.specs.declared.Row.{Row}
 use Rattle.task.specs.declared.Step.the-variants.{Fetch}
-use Rattle.task.specs.declared.StepAnswer.the-variants as answer
 use Rattle.task.specs.declared.StepOutcome.the-variants.{Fetched}
 use Rattle.task.specs.declared.TaskId.{TaskId}
 use Rattle.task.specs.declared.WorkerId.{WorkerId}
-use Rattle.ring.specs.Ring.{Sound, Empty, empty, slotAt, endsAt, headOn, Taken, takenOf, ringsOf, takenAt, Inside}
+use Rattle.ring.specs.Ring.{endWords, Sound, Empty, empty, slotAt, endsAt, storeEnds, headOn}
 use Rattle.ring.proofs.Ends.{empty-told}
-use Rattle.ring.proofs.Laws.{ring-room}
-use Rattle.ring.proofs.Inside.{ring-inside}
 use Rattle.choice.specs.Search as rules
-use Rattle.rules.specs.Memory.{Mem, allSteps, ringNumber, rowIn}
+use Rattle.rules.specs.Memory.{Mem, allSteps, ringNumber, rowIn, withHand, withPointer}
 use Rattle.rules.specs.Words.{counterFits}
 use Rattle.rules.specs.Updates.{Update, putEnds, putRow, updated, written}
 use Rattle.rules.specs.Plans.{accept, withCount, counted}
 use Rattle.rules.specs.Steps.{scan, fetchedRow, leave, fetchTask, fetchFrom, fetchRule, ruleOf}
 use Rattle.rules.proofs.Searches.{Looked, search-looked}
-use Rattle.searches.specs.Searches.{foundOf}
+use Rattle.searches.specs.Searches.{foundOf, Reads}
 use Rattle.searches.specs.declared.Found.{Found}
 use Rattle.searches.specs.declared.Found.the-variants as found
-use Rattle.admission.specs.Admission.{sizesOf, Admission, Measured, Measures}
+use Rattle.admission.specs.Admission.{Measured, Knows, entered, Allows, Admits, Enters}
 use Rattle.admission.specs.declared.Admitted.{Admitted}
 use Rattle.admission.specs.declared.Admitted.the-variants as admitted
 use Rattle.admission.specs.declared.Sizes.{Sizes}
+use Rattle.admission.specs.declared.Judged.{Judged}
+use Rattle.admission.specs.declared.Judged.the-variants as judged-as
 use Rattle.admission.specs.declared.Stepped.{Stepped}
-use Rattle.admission.proofs.Rows.{admission-refused, admission-enters, refused-result, rule-refused, rule-accepted}
-use Rattle.fetch.specs.Fetch.{lent, stepsWith, FetchesAdmitted, Fetches}
-use Rattle.fetch.specs.Plan.{Sized, headOf, scanOf, lowered, PlansTask, Takes, PlansFetch}
+use Rattle.admission.specs.declared.Stepped.the-variants as stepped
+use Rattle.admission.proofs.Rows.{admission-measured, admission-refused, admission-enters, few-steps, refused-result, rule-refused, rule-accepted}
+use Rattle.fetch.specs.Fetch.{lent, stepsWith, FetchesAdmitted, Fetches, HandAndPointer}
+use Rattle.fetch.specs.Plan.{Ready, Sized, scanOf, lowered, PlansTask, Takes, PlansFetch}
+use Rattle.fetch.specs.declared.Head.{Head}
 use Rattle.fetch.specs.declared.FetchPlan.{FetchPlan}
 use Rattle.fetch.specs.declared.FetchPlan.the-variants.{Refused, Take}
 
@@ -46,23 +50,14 @@ use Rattle.fetch.specs.declared.FetchPlan.the-variants.{Refused, Take}
 abbrev old : List ℕ → List ℕ → List ℕ → List ℤ → List ℕ → Mem → Mem
 old weights rings ends counters run m = lent m weights rings ends counters run (m .rows)
 
--- The ends of ring q.
-module _ (rings ends : List ℕ) (k q : ℕ) (e : Ends) (h : e ≡ endsAt ends q) where
-  pub ends-room : Inside k q (ringsOf rings ends) × Sound k (endsAt ends q) → (q * k + e .head < length rings) × (q * k + e .tail < length rings)
-  ends-room (i, s) = rw h (omega (arith, ring-room rings ends k q i, s .0), omega (arith, ring-room rings ends k q i, s .1))
-
-  pub head-made : getD rings (q * k + e .head) 0 ≡ headOf k rings ends q
-  unfolding headOf slotAt
-  head-made = rw h
-
--- Task t, of the ring filled by j.
-module _ (p i steps : ℕ) (weights : List ℕ) (counters : List ℤ) (run : List ℕ) (j t : ℕ) where
-  pub task-unknown : length weights ≤ t → PlansTask p i steps weights counters run j t (Refused 8 0)
+-- Task t, of the ring filled by j, with these ends.
+module _ (p i steps : ℕ) (weights : List ℕ) (counters : List ℤ) (run : List ℕ) (j : ℕ) (both : Ends) (t : ℕ) where
+  pub task-unknown : length weights ≤ t → PlansTask p i steps weights counters run j both t (Refused 8 0)
   unfolding PlansTask fetchTask
   task-unknown a k rings ends m e = rw (le-ltb t (length weights) a)
 
   module _ (a : t < length weights) where
-    pub task-heavy : 65535 < getD weights t 0 → PlansTask p i steps weights counters run j t (Refused 8 0)
+    pub task-heavy : 65535 < getD weights t 0 → PlansTask p i steps weights counters run j both t (Refused 8 0)
     unfolding PlansTask fetchTask
     task-heavy b k rings ends m e = rw (lt-ltb t (length weights) a, lt-leb (getD weights t 0) 65535 b)
 
@@ -71,13 +66,13 @@ module _ (p i steps : ℕ) (weights : List ℕ) (counters : List ℤ) (run : Lis
       counter-is : counterFits (getD counters (ringNumber p i i) (pos 0)) ≡ fits
       counter-is = rw (← hq, hf)
 
-      pub task-counter : not fits ≡ true → PlansTask p i steps weights counters run j t (Refused 8 0)
+      pub task-counter : not fits ≡ true → PlansTask p i steps weights counters run j both t (Refused 8 0)
       unfolding PlansTask fetchTask
       task-counter c k rings ends m e =
           rw (lt-ltb t (length weights) a, le-leb (getD weights t 0) 65535 b, counter-is ∙ not-true fits c)
 
       module _ (c : not fits ≡ false) where
-        pub task-counted : steps ≤ getD run 1 0 → PlansTask p i steps weights counters run j t (Refused 8 0)
+        pub task-counted : steps ≤ getD run 1 0 → PlansTask p i steps weights counters run j both t (Refused 8 0)
         unfolding PlansTask fetchTask counted allSteps
         task-counted d k rings ends m e =
             rw (
@@ -88,32 +83,34 @@ module _ (p i steps : ℕ) (weights : List ℕ) (counters : List ℤ) (run : Lis
               le-ltb (getD run 1 0) steps d,
             )
 
-        pub task-fetchable : getD run 1 0 < steps → (filler : WorkerId) → filler .0 ≡ j
-            → PlansTask p i steps weights counters run j t (Take filler (getD weights t 0))
+        pub task-fetchable : getD run 1 0 < steps → (filler : WorkerId) (task : TaskId) → filler .0 ≡ j → task .0 ≡ t
+            → PlansTask p i steps weights counters run j both t
+            (Take (record { filler = filler; ends = both; task = task; weight = getD weights t 0; accepted = getD run 1 0 }))
         unfolding PlansTask
-        task-fetchable d filler e =
-            (e, record { known = a; weighs = refl; light = b; counter = counter-is ∙ not-false fits c; accepted = d })
-
--- the word of ring q is that of the ring filled by j
-pub task-moved : (p k i steps : ℕ) (weights rings ends : List ℕ) (counters : List ℤ) (run : List ℕ) (j q t : ℕ) (r : FetchPlan)
-    → q ≡ ringNumber p i j → t ≡ headOf k rings ends q → PlansTask p i steps weights counters run j t r
-    → PlansTask p i steps weights counters run j (headOf k rings ends (ringNumber p i j)) r
-task-moved p k i steps weights rings ends counters run j q t r hq ht h = rw (ht, hq) at h
+        task-fetchable d filler task e f = (
+          e,
+          (
+            refl,
+            (f, record { known = rw f a; weighs = rw f refl; light = b; counter = counter-is ∙ not-false fits c; counts = refl; accepted = d }),
+          ),
+        )
 
 -- Where the scan stops.
 module _ (p k i pointer : ℕ) (ends : List ℕ) (x : Found) (hx : foundOf x ≡ scanOf p k i pointer ends)
-    (j : WorkerId) (v : x ≡ found.At j) where
+    (reads : Reads (λ j. endsAt ends (ringNumber p i j)) x) (j : WorkerId) (both : Ends) (v : x ≡ found.At j both) where
   found-at : scanOf p k i pointer ends ≡ rules.at (j .0)
   found-at = sym hx ∙ ap foundOf v
 
-  pub scan-stops : pointer < p → (j .0 < p) × Sound k (endsAt ends (ringNumber p i (j .0)))
+  ends-found : both ≡ endsAt ends (ringNumber p i (j .0))
+  ends-found = subst (Reads (λ j. endsAt ends (ringNumber p i j))) v reads
+
+  pub scan-stops : pointer < p → (j .0 < p) × Sound k both
   scan-stops h =
       go (subst (Looked p k Empty (λ d. endsAt ends (ringNumber p i ((pointer + d) % p))) pointer) found-at
       (search-looked p k pointer Empty empty empty-told (λ j. endsAt ends (ringNumber p i j))))
     where
-      go : Looked p k Empty (λ d. endsAt ends (ringNumber p i ((pointer + d) % p))) pointer (rules.at (j .0))
-          → (j .0 < p) × Sound k (endsAt ends (ringNumber p i (j .0)))
-      go (d, s, q) = rw q (mod-lt (pointer + d) (omega arith), s .sound)
+      go : Looked p k Empty (λ d. endsAt ends (ringNumber p i ((pointer + d) % p))) pointer (rules.at (j .0)) → (j .0 < p) × Sound k both
+      go (d, s, q) = rw (ends-found, q) (mod-lt (pointer + d) (omega arith), s .sound)
 
 -- from the pointer on
 goes-on : (p k i pointer : ℕ) (weights rings ends : List ℕ) (counters : List ℤ) (run : List ℕ) → pointer < p
@@ -141,29 +138,47 @@ module _ (p k i steps pointer : ℕ) (weights rings ends : List ℕ) (counters :
     unfolding PlansFetch fetchFrom
     scan-none v m e q = follows found.None v m q
 
-    module _ (j : WorkerId) (v : x ≡ found.At j) where
-      pub scan-takes : (r : FetchPlan) → PlansTask p i steps weights counters run (j .0) (headOf k rings ends (ringNumber p i (j .0))) r
+    -- the task is the word at the head of ring q, which is the ring found
+    module _ (reads : Reads (λ j. endsAt ends (ringNumber p i j)) x) (j : WorkerId) (both : Ends) (v : x ≡ found.At j both)
+        (q : ℕ) (hq : q ≡ ringNumber p i (j .0)) (t : ℕ) (ht : t ≡ getD rings (slotAt k q (both .head)) 0) where
+      task-at : t ≡ getD rings (slotAt k (ringNumber p i (j .0)) (both .head)) 0
+      task-at = rw (← hq) ht
+
+      pub scan-takes : (r : FetchPlan) → PlansTask p i steps weights counters run (j .0) both t r
           → PlansFetch p k i steps pointer weights rings ends counters run r
-      unfolding PlansTask PlansFetch headOf fetchFrom
-      scan-takes (Refused n d) t = λ m e q. follows (found.At j) v m q ∙ t k rings ends m e
-      scan-takes (Take filler weight) (e, t) =
-          let stops : (j .0 < p) × Sound k (endsAt ends (ringNumber p i (j .0))) = scan-stops p k i pointer ends x hx j v h in
-          rw e (record { points = h; found = found-at p k i pointer ends x hx j v; filler = stops .0; sound = stops .1; task = t })
+      unfolding PlansTask PlansFetch fetchFrom
+      scan-takes (Refused n d) plans =
+          λ m e w. follows (found.At j both) v m w ∙ rw (← ends-found p k i pointer ends x hx reads j both v, ← task-at) (plans k rings ends m e)
+      scan-takes (Take head) (a, (b, (c, f))) =
+          let stops : (j .0 < p) × Sound k both = scan-stops p k i pointer ends x hx reads j both v h in
+          record {
+            points = h;
+            found = rw a (found-at p k i pointer ends x hx reads j both v);
+            filler = rw a (stops .0);
+            reads = rw (a, b) (ends-found p k i pointer ends x hx reads j both v);
+            sound = rw b (stops .1);
+            first = rw (a, b, c) task-at;
+            task = f;
+          }
 
--- What is needed to write.
-module _ (p k i : ℕ) (rings ends : List ℕ) (counters : List ℤ) (run : List ℕ) (s : Sized p k i rings ends counters run)
-    (q : ℕ) (h : q < p * p) where
-  pub ring-ready : (r : ℕ) → q ≡ r → Sound k (endsAt ends r) → Inside k q (ringsOf rings ends) × Sound k (endsAt ends q)
-  ring-ready r e f = (ring-inside k (p * p) q rings ends (s .fewSlots) (s .allRings) (s .allEnds) h, rw e f)
+-- what is needed to read the head of ring q
+pub head-ready : (p k i : ℕ) (rings ends : List ℕ) (counters : List ℤ) (run : List ℕ) → Sized p k i rings ends counters run
+    → (q : ℕ) → q < p * p → (both : Ends) → Sound k both → (q * k + k ≤ length rings) × Sound k both
+head-ready p k i rings ends counters run s q h both f = (rw (s .allRings) (place-end k (p * p) q h), f)
 
-  pub counter-ready : (r weight : ℕ) → q ≡ r → counterFits (getD counters r (pos 0)) ≡ true → weight ≤ 65535
+-- What is needed to write at place q.
+module _ (p k i : ℕ) (ends : List ℕ) (counters : List ℤ) (run : List ℕ) (s : Ready p k i ends counters run) (q r : ℕ) (h : (q ≡ r) × (q < p * p)) where
+  pub ends-ready : (both : Ends) → both ≡ endsAt ends r → Sound k both
+      → (q * endWords + endWords ≤ length ends) × ((both ≡ endsAt ends q) × (Sound k both × (k ≤ engine .slots)))
+  ends-ready both e f = (omega (arith, s .allEnds, h .1), (rw (h .0) e, (f, s .fewSlots)))
+
+  pub counter-ready : (weight : ℕ) → counterFits (getD counters r (pos 0)) ≡ true → weight ≤ 65535
       → (q < length counters) × ((counterFits (getD counters q (pos 0)) ≡ true) × (weight ≤ 65535))
-  counter-ready r weight e f l = (omega (arith, s .allCounters), (rw e f, l))
+  counter-ready weight f l = (omega (arith, s .allCounters, h .1), (rw (h .0) f, l))
 
--- what is taken from ring q is taken from the ring filled by j, and likewise for the counter
-pub taken-at : (k : ℕ) (rings ends new : List ℕ) (t q r : ℕ) → q ≡ r → takenOf t new ≡ takenAt 0 k q (ringsOf rings ends)
-    → takenOf t new ≡ takenAt 0 k r (ringsOf rings ends)
-taken-at k rings ends new t q r e h = rw (← e) h
+-- what is stored as the ends of ring q are those of the ring filled by j, and likewise for the counter
+pub stored-at : (ends new : List ℕ) (q r : ℕ) (both : Ends) → q ≡ r → new ≡ storeEnds ends q both → new ≡ storeEnds ends r both
+stored-at ends new q r both e h = rw (← e) h
 
 pub lowered-at : (counters new : List ℤ) (q r weight : ℕ) → q ≡ r → new ≡ set counters q (getD counters q (pos 0) -ℤ pos weight)
     → new ≡ lowered counters r weight
@@ -172,119 +187,143 @@ lowered-at counters new q r weight e h = rw (← e) h
 
 -- A plan that takes.
 module _ (p k i steps pointer : ℕ) (weights rings ends : List ℕ) (counters : List ℤ) (run : List ℕ) (x : FetchPlan)
-    (hx : PlansFetch p k i steps pointer weights rings ends counters run x) (j : WorkerId) (weight : ℕ) (v : x ≡ Take j weight) where
-  takes-of : Takes p k i steps pointer weights rings ends counters run (j .0) weight
+    (hx : PlansFetch p k i steps pointer weights rings ends counters run x) (head : Head) (v : x ≡ Take head) where
+  takes-of : Takes p k i steps pointer weights rings ends counters run head
   unfolding PlansFetch
   takes-of = subst (PlansFetch p k i steps pointer weights rings ends counters run) v hx
 
-  pub fetch-filler : j .0 < p
+  pub fetch-filler : head .filler .0 < p
   fetch-filler = takes-of .filler
 
   pub fetch-ready : Sized p k i rings ends counters run → steps ≤ 65535
-      → (Sized p k i rings ends counters run × ((j .0 < p) × Sound k (endsAt ends (ringNumber p i (j .0)))))
-      × ((counterFits (getD counters (ringNumber p i i) (pos 0)) ≡ true) × ((weight ≤ 65535) × (getD run 1 0 ≤ 65535)))
+      → (Ready p k i ends counters run
+      × ((head .filler .0 < p) × ((head .ends ≡ endsAt ends (ringNumber p i (head .filler .0))) × Sound k (head .ends))))
+      × ((counterFits (getD counters (ringNumber p i i) (pos 0)) ≡ true) × ((head .weight ≤ 65535) × (head .accepted ≤ 65535)))
   fetch-ready s l = (
-    (s, (takes-of .filler, takes-of .sound)),
+    (s .ready, (takes-of .filler, (takes-of .reads, takes-of .sound))),
     (takes-of .task .counter, (takes-of .task .light, omega (arith, takes-of .task .accepted))),
   )
 
 -- A plan carried out, for a worker with this row.
-module _ (p k i steps phase : ℕ) (row : Row) (weights rings ends : List ℕ) (counters : List ℤ) (run : List ℕ) (x : FetchPlan)
+module _ (p k i steps : ℕ) (row : Row) (weights rings ends : List ℕ) (counters : List ℤ) (run : List ℕ) (x : FetchPlan)
     (hx : PlansFetch p k i steps (row .pointer) weights rings ends counters run x) where
-  pub fetch-refused : (n d : ℕ) → x ≡ Refused n d → (r : Stepped) → (r .answer ≡ answer.Refused n d) × (r .row ≡ row)
-      → FetchesAdmitted steps p k i phase row weights rings ends ends counters counters run run r
+  abbrev before : Mem → Mem
+  before = old weights rings ends counters run
+
+  -- Fetch sets out from the pointer that stands in the worker's row
+  points-at : (limits : Limits) (m : Mem) → Enters limits p k i Fetch (before m) row → rowIn m i .pointer ≡ row .pointer
+  points-at limits m enters = sym (ap (λ (r : Row). r .pointer) (enters .leads))
+
+  pub fetch-refused : (n d : ℕ) → x ≡ Refused n d
+      → FetchesAdmitted steps p k i row weights rings ends ends counters counters run run (stepped.Refused n d)
   unfolding PlansFetch ruleOf
-  fetch-refused n d v r told limits m e h enters =
-      rule-refused limits p k i Fetch (old weights rings ends counters run m) phase enters row h n d
-      (subst (PlansFetch p k i steps (row .pointer) weights rings ends counters run) v hx m e (ap (λ (r : Row). r .pointer) h))
-      (r .answer) (r .row) told
+  fetch-refused n d v limits m e enters =
+      rule-refused limits p k i Fetch (before m) row enters n d
+      (subst (PlansFetch p k i steps (row .pointer) weights rings ends counters run) v hx m e (points-at limits m enters))
 
-  module _ (j : WorkerId) (weight : ℕ) (v : x ≡ Take j weight) where
-    takes : Takes p k i steps (row .pointer) weights rings ends counters run (j .0) weight
-    takes = takes-of p k i steps (row .pointer) weights rings ends counters run x hx j weight v
+  module _ (head : Head) (v : x ≡ Take head) where
+    takes : Takes p k i steps (row .pointer) weights rings ends counters run head
+    takes = takes-of p k i steps (row .pointer) weights rings ends counters run x hx head v
 
-    -- the task that is fetched
-    abbrev head : TaskId
-    head = record { 0 = headOf k rings ends (ringNumber p i (j .0)) }
-
-    abbrev before : Mem → Mem
-    before = old weights rings ends counters run
+    -- the ring that the task leaves
+    abbrev ring : ℕ
+    ring = ringNumber p i (head .filler .0)
 
     abbrev updates : Mem → List Update
     updates m =
         withCount (before m)
-        (putEnds (ringNumber p i (j .0)) (headOn k (endsAt ends (ringNumber p i (j .0))))
-        ∷ leave p i (head .0) (before m)
-        ∷ putRow i (fetchedRow p (j .0) (head .0) (rowIn m i))
+        (putEnds ring (headOn k (endsAt ends ring))
+        ∷ leave p i (head .task .0) (before m)
+        ∷ putRow i (fetchedRow p (head .filler .0) (head .task .0) (rowIn m i))
         ∷ [])
 
-    planned : (m : Mem) → stepsWith weights m ≡ steps → rowIn m i ≡ row → fetchRule p k i (before m) ≡ accept (Fetched head) (updates m)
-    unfolding headOf fetchFrom fetchTask counted allSteps
+    planned : (m : Mem) → stepsWith weights m ≡ steps → rowIn m i .pointer ≡ row .pointer
+        → fetchRule p k i (before m) ≡ accept (Fetched (head .task)) (updates m)
+    unfolding fetchFrom fetchTask counted allSteps
     planned m e h =
-        goes-on p k i (row .pointer) weights rings ends counters run (takes .points) (rules.at (j .0)) (sym (takes .found)) m
-        (ap (λ (r : Row). r .pointer) h)
+        goes-on p k i (row .pointer) weights rings ends counters run (takes .points) (rules.at (head .filler .0)) (sym (takes .found)) m h
         ∙ rw (
-          lt-ltb (head .0) (length weights) (takes .task .known),
-          le-leb (getD weights (head .0) 0) 65535 (rw (← takes .task .weighs) (takes .task .light)),
+          ← takes .reads,
+          ← takes .first,
+          lt-ltb (head .task .0) (length weights) (takes .task .known),
+          le-leb (getD weights (head .task .0) 0) 65535 (rw (← takes .task .weighs) (takes .task .light)),
           takes .task .counter,
           e,
-          lt-ltb (getD run 1 0) steps (takes .task .accepted),
+          lt-ltb (getD run 1 0) steps (rw (← takes .task .counts) (takes .task .accepted)),
         )
 
-    pub fetch-taken : (task : TaskId) (new-ends : List ℕ) (new-counters : List ℤ) (new-run : List ℕ) (next : ℕ)
-        → (takenOf (task .0) new-ends ≡ takenAt 0 k (ringNumber p i (j .0)) (ringsOf rings ends))
-        × ((new-counters ≡ lowered counters (ringNumber p i i) weight)
-        × (new-run ≡ set run 1 (getD run 1 0 + 1)))
-        → next ≡ after p (j .0)
-        → FetchesAdmitted steps p k i phase row weights rings ends new-ends counters new-counters run new-run
-        (record {
-          answer = answer.Accepted (Fetched task);
-          row = record { phase = phase; held = task; pointer = next; read = row .read; write = row .write; cursor = row .cursor };
-        })
-    unfolding headOf lowered takenAt written updated ruleOf
-    fetch-taken task new-ends new-counters new-run next (a, (b, c)) f limits m e h enters =
+    pub fetch-taken : (new-ends : List ℕ) (new-counters : List ℤ) (new-run : List ℕ) (next : ℕ)
+        → (new-ends ≡ storeEnds ends ring (headOn k (head .ends)))
+        × ((new-counters ≡ lowered counters (ringNumber p i i) (head .weight)) × (new-run ≡ set run 1 (head .accepted + 1)))
+        → next ≡ after p (head .filler .0)
+        → FetchesAdmitted steps p k i row weights rings ends new-ends counters new-counters run new-run
+        (stepped.Taken (Fetched (head .task)) (withPointer next (withHand (row .phase) (head .task) row)))
+    unfolding lowered written updated ruleOf
+    fetch-taken new-ends new-counters new-run next (a, (b, c)) f limits m e enters =
         rw (
-          task-is,
-          ap (λ (t : Taken ℕ (List ℕ)). t .ends) a,
+          a,
           b,
           c,
           f,
           enters .leads,
+          takes .reads,
           takes .task .weighs,
-          ← h,
+          takes .task .counts,
         )
-        (rule-accepted limits p k i Fetch (before m) phase enters (Fetched head) (updates m) (planned m e h))
-      where
-        task-is : task ≡ head
-        task-is = ap (λ (t : Taken ℕ (List ℕ)). record { 0 = t .item }) a
+        (rule-accepted limits p k i Fetch (before m) row enters (Fetched (head .task)) (updates m) (planned m e (points-at limits m enters)))
 
-pub row-sized : (p k i : ℕ) (sizes : Sizes) (rings ends : List ℕ) (counters : List ℤ) (run : List ℕ) → Measured p k i sizes
-    → (length rings ≡ sizes .rings) × ((length ends ≡ sizes .ends) × ((length counters ≡ sizes .counters) × (length run ≡ sizes .run)))
-    → Sized p k i rings ends counters run
-row-sized p k i sizes rings ends counters run f (r, (e, (c, n))) =
+-- What is known of the numbers and of the lengths, once the step is admitted.
+module _ (p k i : ℕ) (sizes : Sizes) (judged : Judged) (known : Knows p k i sizes judged) (row : Row) (x : Admitted)
+    (told : Admits row Fetch judged x) (row′ : Row) (v : x ≡ admitted.To row′) where
+  measured : Measured p k i sizes
+  measured = admission-measured p k i sizes row Fetch judged known x told row′ v
+
+  pub row-steps : 3 * sizes .weights + sizes .preds ≤ 11264
+  row-steps = few-steps p k i sizes measured
+
+  pub row-sized : (rings ends : List ℕ) (counters : List ℤ) (run : List ℕ)
+      → (length rings ≡ sizes .rings) × ((length ends ≡ sizes .ends) × ((length counters ≡ sizes .counters) × (length run ≡ sizes .run)))
+      → Sized p k i rings ends counters run × (3 * sizes .weights + sizes .preds ≤ 65535)
+  row-sized rings ends counters run (r, (e, (c, n))) = (
     record {
-      fewWorkers = f .fewWorkers;
-      fewSlots = f .fewSlots;
-      worker = f .worker;
-      allRings = r ∙ f .rings;
-      allEnds = e ∙ f .ends;
-      allCounters = c ∙ f .counters;
-      bothWords = n ∙ f .run;
-    }
+      ready = record {
+        fewWorkers = measured .fewWorkers;
+        fewSlots = measured .fewSlots;
+        worker = measured .worker;
+        allEnds = e ∙ measured .ends;
+        allCounters = c ∙ measured .counters;
+        bothWords = n ∙ measured .run;
+      };
+      allRings = r ∙ measured .rings;
+    },
+    omega (arith, row-steps),
+  )
 
 -- What the admission has told.
-module _ (limits : Limits) (p k i : ℕ) (sizes : Sizes) (row : Row) (weights rings ends : List ℕ) (counters : List ℤ) (run : List ℕ)
-    (x : Admitted) (told : ((m : Mem) → sizesOf m ≡ sizes → rowIn m i .phase ≡ row .phase → Admission limits p k i Fetch m x) × Measures p k i sizes x) where
-  pub row-refused : (n d : ℕ) → x ≡ admitted.Refused n d → (r : Stepped) → (r .answer ≡ answer.Refused n d) × (r .row ≡ row)
-      → Fetches limits p k i sizes row weights rings ends ends counters counters run run r
-  row-refused n d v r a m e h =
-      refused-result limits p k i Fetch (old weights rings ends counters run m) row h n d
-      (admission-refused limits p k i (row .phase) Fetch sizes x told _ e (ap (λ (r : Row). r .phase) h) n d v)
-      (r .answer) (r .row) a
+module _ (p k i : ℕ) (sizes : Sizes) (judged : Judged) (row : Row) (weights rings ends : List ℕ) (counters : List ℤ) (run : List ℕ)
+    (x : Admitted) (told : Admits row Fetch judged x) where
+  pub row-refused : (n d : ℕ) → x ≡ admitted.Refused n d
+      → Fetches p k i sizes judged row weights rings ends ends counters counters run run (stepped.Refused n d)
+  row-refused n d v limits m judges e h =
+      refused-result limits p k i Fetch (old weights rings ends counters run m) n d
+      (admission-refused p k i sizes row Fetch limits (old weights rings ends counters run m) e h judged judges x told n d v)
 
-  module _ (phase : ℕ) (v : x ≡ admitted.To phase) where
+  module _ (row′ : Row) (v : x ≡ admitted.To row′) where
+    leads : (j : Judged) → Admits row Fetch j x → row′ ≡ entered Fetch row
+    leads (judged-as.Refused n d) t = unequal cc
+    leads judged-as.Fit t = subst (Allows row Fetch) v t .1 .1
+
+    -- what the rule keeps of the row in its new phase, it keeps of the worker's row
+    kept : (r : Stepped) → HandAndPointer row′ r → HandAndPointer row r
+    kept (stepped.Refused n d) h = h
+    kept (stepped.Taken o after) h = h ∙ rw (leads judged told) refl
+
     pub row-fetches : (new-ends : List ℕ) (new-counters : List ℤ) (new-run : List ℕ) (r : Stepped)
-        → FetchesAdmitted (3 * sizes .weights + sizes .preds) p k i phase row weights rings ends new-ends counters new-counters run new-run r
-        → Fetches limits p k i sizes row weights rings ends new-ends counters new-counters run new-run r
-    row-fetches new-ends new-counters new-run r f m e h =
-        f limits m (rw (← e) refl) h (admission-enters limits p k i (row .phase) Fetch sizes x told _ e (ap (λ (r : Row). r .phase) h) phase v)
+        → FetchesAdmitted (3 * sizes .weights + sizes .preds) p k i row′ weights rings ends new-ends counters new-counters run new-run r
+        × HandAndPointer row′ r
+        → Fetches p k i sizes judged row weights rings ends new-ends counters new-counters run new-run r × HandAndPointer row r
+    row-fetches new-ends new-counters new-run r (f, w) = (
+      (λ limits m judges e h. f limits m (rw (← e) refl)
+          (admission-enters p k i sizes row Fetch limits (old weights rings ends counters run m) e h judged judges x told row′ v)),
+      kept r w,
+    )

@@ -7,6 +7,7 @@ use lib.ListN.{length, getD, set}
 use lib.IntN.{ℤ, pos, _-ℤ_}
 use Rattle.lists.specs.Circles.{around}
 use Rattle.task.specs.Types.{engine}
+use Rattle.task.specs.declared.Ends.{Ends}
 use Rattle.ring.specs.Ring.{endWords, Sound, sound, empty, slotAt, endsAt}
 use Rattle.choice.specs.Search.{Found, at, search}
 use Rattle.rules.specs.Memory.{Mem, ringNumber, rowIn}
@@ -14,22 +15,23 @@ use Rattle.rules.specs.Words.{counterFits}
 use Rattle.rules.specs.Plans.{refuse}
 use Rattle.rules.specs.Steps.{fetchTask, fetchRule}
 use Rattle.fetch.specs.Fetch.{lent, stepsWith}
+use Rattle.fetch.specs.declared.Head.{Head}
 use Rattle.fetch.specs.declared.FetchPlan.{FetchPlan}
 use Rattle.fetch.specs.declared.FetchPlan.the-variants.{Refused, Take}
 
--- the lengths of the lists beside weights, and the numbers within the engine's limits
-pub record Sized (p k i : ℕ) (rings ends : List ℕ) (counters : List ℤ) (run : List ℕ) : Type 0 where
+-- the lengths of the lists that are written, and the numbers within the engine's limits
+pub record Ready (p k i : ℕ) (ends : List ℕ) (counters : List ℤ) (run : List ℕ) : Type 0 where
   pub fewWorkers : p ≤ engine .workers
   pub fewSlots : k ≤ engine .slots
   pub worker : i < p
-  pub allRings : length rings ≡ p * p * k
   pub allEnds : length ends ≡ p * p * endWords
   pub allCounters : length counters ≡ p * p
   pub bothWords : _≡_ {A = ℕ} (length run) 2
 
--- the word at the head of ring q
-unfoldable pub headOf : ℕ → List ℕ → List ℕ → ℕ → ℕ
-headOf k rings ends q = getD rings (slotAt k q (endsAt ends q .head)) 0
+-- and of the rings, which are only read
+pub record Sized (p k i : ℕ) (rings ends : List ℕ) (counters : List ℤ) (run : List ℕ) : Type 0 where
+  pub ready : Ready p k i ends counters run
+  pub allRings : length rings ≡ p * p * k
 
 -- what a scan of owner i's rings finds
 abbrev pub scanOf : ℕ → ℕ → ℕ → ℕ → List ℕ → Found
@@ -40,33 +42,37 @@ scanOf p k i pointer ends =
 unfoldable pub lowered : List ℤ → ℕ → ℕ → List ℤ
 lowered counters q weight = set counters q (getD counters q (pos 0) -ℤ pos weight)
 
--- the words that are read once task t is known are in their ranges
-pub record Fetchable (p i steps : ℕ) (weights : List ℕ) (counters : List ℤ) (run : List ℕ) (t weight : ℕ) : Type 0 where
-  pub known : t < length weights
-  pub weighs : weight ≡ getD weights t 0
-  pub light : weight ≤ 65535
+-- the words that are read once the task is known are in their ranges, and the head has them as read
+pub record Fetchable (p i steps : ℕ) (weights : List ℕ) (counters : List ℤ) (run : List ℕ) (head : Head) : Type 0 where
+  pub known : head .task .0 < length weights
+  pub weighs : head .weight ≡ getD weights (head .task .0) 0
+  pub light : head .weight ≤ 65535
   pub counter : counterFits (getD counters (ringNumber p i i) (pos 0)) ≡ true
-  pub accepted : getD run 1 0 < steps
+  pub counts : head .accepted ≡ getD run 1 0
+  pub accepted : head .accepted < steps
 
--- the plan once the ring filled by j and its task t are known
-unfoldable pub PlansTask : ℕ → ℕ → ℕ → List ℕ → List ℤ → List ℕ → ℕ → ℕ → FetchPlan → Type 0
-PlansTask p i steps weights counters run j t (Refused n d) =
+-- the plan once the ring's filler j, its ends and its task t are known
+unfoldable pub PlansTask : ℕ → ℕ → ℕ → List ℕ → List ℤ → List ℕ → ℕ → Ends → ℕ → FetchPlan → Type 0
+PlansTask p i steps weights counters run j both t (Refused n d) =
     (k : ℕ) (rings ends : List ℕ) (m : Mem) → stepsWith weights m ≡ steps
     → fetchTask p k i (lent m weights rings ends counters run (m .rows)) j t ≡ refuse n d
-PlansTask p i steps weights counters run j t (Take filler weight) = (filler .0 ≡ j) × Fetchable p i steps weights counters run t weight
+PlansTask p i steps weights counters run j both t (Take head) =
+    (head .filler .0 ≡ j) × ((head .ends ≡ both) × ((head .task .0 ≡ t) × Fetchable p i steps weights counters run head))
 
--- the scan stops at the ring filled by j, and its head may be fetched
-pub record Takes (p k i steps pointer : ℕ) (weights rings ends : List ℕ) (counters : List ℤ) (run : List ℕ) (j weight : ℕ) : Type 0 where
+-- the scan stops at the ring of the head, with these ends, and the head may be fetched
+pub record Takes (p k i steps pointer : ℕ) (weights rings ends : List ℕ) (counters : List ℤ) (run : List ℕ) (head : Head) : Type 0 where
   pub points : pointer < p
-  pub found : scanOf p k i pointer ends ≡ at j
-  pub filler : j < p
-  pub sound : Sound k (endsAt ends (ringNumber p i j))
-  pub task : Fetchable p i steps weights counters run (headOf k rings ends (ringNumber p i j)) weight
+  pub found : scanOf p k i pointer ends ≡ at (head .filler .0)
+  pub filler : head .filler .0 < p
+  pub reads : head .ends ≡ endsAt ends (ringNumber p i (head .filler .0))
+  pub sound : Sound k (head .ends)
+  pub first : head .task .0 ≡ getD rings (slotAt k (ringNumber p i (head .filler .0)) (head .ends .head)) 0
+  pub task : Fetchable p i steps weights counters run head
 
 -- the plan of the whole rule, with the pointer of worker i
 unfoldable pub PlansFetch : ℕ → ℕ → ℕ → ℕ → ℕ → List ℕ → List ℕ → List ℕ → List ℤ → List ℕ → FetchPlan → Type 0
 PlansFetch p k i steps pointer weights rings ends counters run (Refused n d) =
     (m : Mem) → stepsWith weights m ≡ steps → rowIn m i .pointer ≡ pointer
     → fetchRule p k i (lent m weights rings ends counters run (m .rows)) ≡ refuse n d
-PlansFetch p k i steps pointer weights rings ends counters run (Take filler weight) =
-    Takes p k i steps pointer weights rings ends counters run (filler .0) weight
+PlansFetch p k i steps pointer weights rings ends counters run (Take head) =
+    Takes p k i steps pointer weights rings ends counters run head

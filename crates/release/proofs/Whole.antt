@@ -5,142 +5,150 @@ use mathlib.Core.List.{List}
 use native.Mathlib.Omega.{arith}
 use native.Mathlib.Nat.{mul-le-mul-right, suc-mul}
 use lib.ListN.{length, getD}
+use Rattle.task.specs.Phases.{leadsTo}
 use Rattle.task.specs.declared.Limits.{Limits}
 use Rattle.task.specs.declared.Row.{Row}
 use Rattle.task.specs.declared.Step.the-variants.{Release}
-use Rattle.task.specs.declared.StepAnswer.the-variants as answer
-use Rattle.rules.specs.Memory.{Mem, rowIn}
+use Rattle.rules.specs.Memory.{Mem, rowIn, withHand}
 use Rattle.rules.specs.Plans.{Plan}
 use Rattle.rules.specs.Steps.{releaseWaiting, releaseReady, releaseRule, ruleOf, stepPlan}
-use Rattle.admission.specs.Admission.{sizesOf, Admits, Enters, Measured}
+use Rattle.admission.specs.Admission.{sizesOf, Judges, Knows, Admits, Measured}
 use Rattle.admission.specs.declared.Sizes.{Sizes}
+use Rattle.admission.specs.declared.Judged.{Judged}
 use Rattle.admission.specs.declared.Admitted.{Admitted}
 use Rattle.admission.specs.declared.Admitted.the-variants as admitted
 use Rattle.admission.specs.declared.Stepped.{Stepped}
-use Rattle.admission.proofs.Rows.{admission-refused, admission-enters, admission-measured, few-steps, refused-result}
+use Rattle.admission.specs.declared.Stepped.the-variants as stepped
+use Rattle.admission.proofs.Rows.{admission-entered, admission-measured, admission-refused, admission-enters, few-steps, refused-result}
 use Rattle.release_plan.specs.Picks.{Shows, Picks, Picked}
 use Rattle.release_plan.specs.declared.Successor.{Successor}
 use Rattle.release_plan.specs.declared.Pick.{Pick}
 use Rattle.release_plan.specs.declared.Pick.the-variants as pick
-use Rattle.release.specs.Release.{Tables, Words, wordsOf, lent, Releases, Lent}
+use Rattle.release.specs.Release.{Tables, Words, wordsOf, lent, Releases, ReadAndCursor, Lent}
 use Rattle.release.specs.Parts.{Goes, Sized, Stands, Lowers, PlacesReady}
 
-module _ (p k i : ℕ) (sizes : Sizes) (t : Tables) (x : Words) (f : Measured p k i sizes) (l : Lent sizes t x) where
+-- Release leads to the phase that it suits, so the admitted row is the worker's
+module _ (row : Row) (judged : Judged) (r : Admitted) (told : Admits row Release judged r) (after : Row) (v : r ≡ admitted.To after) where
+  same-row : after ≡ row
+  same-row =
+      let (suited, led) = admission-entered row Release judged r told after v in
+      led ∙ ap (λ x. withHand x (row .held) row) (sym suited)
+
+  same-phase : after .phase ≡ leadsTo Release
+  same-phase = ap (λ (z : Row). z .phase) (admission-entered row Release judged r told after v .1)
+
+  pub row-keeps : (y : Stepped) → ReadAndCursor after y → ReadAndCursor row y
+  row-keeps y = subst (λ (z : Row). ReadAndCursor z y) same-row
+
+module _ (p k i : ℕ) (sizes : Sizes) (judged : Judged) (row : Row) (t : Tables) (x : Words) (r : Admitted) (told : Admits row Release judged r) where
+  pub whole-refused : (n d : ℕ) → r ≡ admitted.Refused n d → Releases p k i sizes judged row t x x (stepped.Refused n d)
+  whole-refused n d v limits m j e h =
+      refused-result limits p k i Release (lent m t x (m .rows)) n d
+      (admission-refused p k i sizes row Release limits (lent m t x (m .rows)) e h judged j r told n d v)
+
   -- the numbers and the lengths, as the parts ask for them
-  pub tables-fit : (length (t .succStarts) ≡ length (x .degrees) + 1) × (i * length (x .degrees) + length (x .degrees) ≤ length (t .buffers))
-  tables-fit =
-      let n : length (x .degrees) ≡ sizes .weights = l .degrees ∙ f .degrees in
-      rw n (
-        l .succStarts ∙ f .succStarts,
-        omega (arith, mul-le-mul-right (sizes .weights) (f .worker), suc-mul i (sizes .weights), l .buffers, f .buffers),
-      )
-
-  words-fit : Sized p k i (length (t .weights)) x
-  words-fit =
-      record {
-        worker = f .worker;
-        fewWorkers = f .fewWorkers;
-        fewSlots = f .fewSlots;
-        degrees = l .degrees ∙ f .degrees ∙ sym (l .weights);
-        rings = l .rings ∙ f .rings;
-        ends = l .ends ∙ f .ends;
-        counters = l .counters ∙ f .counters;
-      }
-
-module _ (limits : Limits) (p k i : ℕ) (sizes : Sizes) (row : Row) (t : Tables) (x : Words) (r : Admitted)
-    (told : Admits limits p k i (row .phase) Release sizes r) where
-  pub whole-refused : (n d : ℕ) → r ≡ admitted.Refused n d → (y : Stepped) → (y .answer ≡ answer.Refused n d) × (y .row ≡ row)
-      → Releases limits p k i sizes row t x x y
-  whole-refused n d v y f m e h =
-      refused-result limits p k i Release (lent m t x (m .rows)) row h n d
-      (admission-refused limits p k i (row .phase) Release sizes r told (lent m t x (m .rows)) e (ap (λ (z : Row). z .phase) h) n d v)
-      (y .answer) (y .row) f
-
-  module _ (q : ℕ) (v : r ≡ admitted.To q) (l : Lent sizes t x) where
+  module _ (given : Knows p k i sizes judged × Lent sizes t x) (after : Row) (v : r ≡ admitted.To after) where
     measured : Measured p k i sizes
-    measured = admission-measured limits p k i (row .phase) Release sizes r told q v
+    measured = admission-measured p k i sizes row Release judged (given .0) r told after v
 
-    sized : Sized p k i (length (t .weights)) x
-    sized = words-fit p k i sizes t x measured l
+    abbrev steps : ℕ
+    steps = 3 * sizes .weights + sizes .preds
+
+    pub steps-fit : steps ≤ 11264
+    steps-fit = few-steps p k i sizes measured
+
+    pub tables-fit : (length (t .succStarts) ≡ length (x .degrees) + 1) × (i * length (x .degrees) + length (x .degrees) ≤ length (t .buffers))
+    tables-fit =
+        let n : length (x .degrees) ≡ sizes .weights = given .1 .degrees ∙ measured .degrees in
+        rw n (
+          given .1 .succStarts ∙ measured .succStarts,
+          omega (arith, mul-le-mul-right (sizes .weights) (measured .worker), suc-mul i (sizes .weights), given .1 .buffers, measured .buffers),
+        )
+
+    words-fit : Sized p k i (length (t .weights)) x
+    words-fit =
+        record {
+          worker = measured .worker;
+          fewWorkers = measured .fewWorkers;
+          fewSlots = measured .fewSlots;
+          degrees = given .1 .degrees ∙ measured .degrees ∙ sym (given .1 .weights);
+          rings = given .1 .rings ∙ measured .rings;
+          ends = given .1 .ends ∙ measured .ends;
+          counters = given .1 .counters ∙ measured .counters;
+        }
 
     -- the memory that is lent shows these lists
     module _ (m : Mem) (e : sizesOf (lent m t x (m .rows)) ≡ sizes) (h : rowIn m i ≡ row) where
-      enters : Enters limits p k i Release (lent m t x (m .rows)) q
-      enters = admission-enters limits p k i (row .phase) Release sizes r told (lent m t x (m .rows)) e (ap (λ (z : Row). z .phase) h) q v
-
-      shows : Shows i row (t .succStarts) (t .succs) (x .degrees) (t .buffers) (lent m t x (m .rows))
+      shows : Shows i after (t .succStarts) (t .succs) (x .degrees) (t .buffers) (lent m t x (m .rows))
       shows =
           record {
-            tasks = sym (sized .degrees);
-            edges = ap (λ (z : Sizes). z .preds) e ∙ sym (l .succs ∙ measured .succs);
-            row = h;
+            tasks = sym (words-fit .degrees);
+            edges = ap (λ (z : Sizes). z .preds) e ∙ sym (given .1 .succs ∙ measured .succs);
+            row = h ∙ sym (same-row row judged r told after v);
             succStarts = refl;
             succs = refl;
             degrees = refl;
             buffers = refl;
           }
 
-      follows : (plan : Plan) → releaseRule p k i (lent m t x (m .rows)) ≡ plan → stepPlan limits p k i Release (lent m t x (m .rows)) ≡ plan
+      follows : (limits : Limits) → Judges limits p k i sizes judged → (plan : Plan) → releaseRule p k i (lent m t x (m .rows)) ≡ plan
+          → stepPlan limits p k i Release (lent m t x (m .rows)) ≡ plan
       unfolding ruleOf
-      follows plan f = enters .follows ∙ f
+      follows limits j plan f =
+          admission-enters p k i sizes row Release limits (lent m t x (m .rows)) e h judged j r told after v .follows ∙ f
 
-    module _ (z : Pick) (picked : Picked i row (t .succStarts) (t .succs) (x .degrees) (t .buffers) z) where
+    module _ (z : Pick) (picked : Picked i after (t .succStarts) (t .succs) (x .degrees) (t .buffers) z) where
       -- once the pick's variant is known
-      known : (z′ : Pick) → z ≡ z′ → Picked i row (t .succStarts) (t .succs) (x .degrees) (t .buffers) z′
-      known z′ c = subst (Picked i row (t .succStarts) (t .succs) (x .degrees) (t .buffers)) c picked
+      known : (z′ : Pick) → z ≡ z′ → Picked i after (t .succStarts) (t .succs) (x .degrees) (t .buffers) z′
+      known z′ c = subst (Picked i after (t .succStarts) (t .succs) (x .degrees) (t .buffers)) c picked
 
-      pub whole-none : (n d : ℕ) → z ≡ pick.Refused n d → (y : Stepped) → (y .answer ≡ answer.Refused n d) × (y .row ≡ row)
-          → Releases limits p k i sizes row t x x y
-      whole-none n d c y f m e h =
-          refused-result limits p k i Release (lent m t x (m .rows)) row h n d
-          (follows m e h _ (known (pick.Refused n d) c p k _ (shows m e h)))
-          (y .answer) (y .row) f
+      pub whole-none : (n d : ℕ) → z ≡ pick.Refused n d → Releases p k i sizes judged row t x x (stepped.Refused n d)
+      whole-none n d c limits m j e h =
+          refused-result limits p k i Release (lent m t x (m .rows)) n d
+          (follows m e h limits j _ (known (pick.Refused n d) c p k _ (shows m e h)))
 
-      abbrev steps : ℕ
-      steps = 3 * sizes .weights + sizes .preds
-
-      module _ (s : Successor) (rest : ℕ → ℕ → Mem → Plan) (g : Picks i row (t .succStarts) (t .succs) (x .degrees) (t .buffers) s rest) where
-        goes : Goes steps row s (length (x .degrees)) (x .run)
+      module _ (s : Successor) (rest : ℕ → ℕ → Mem → Plan) (g : Picks i after (t .succStarts) (t .succs) (x .degrees) (t .buffers) s rest) where
+        goes : Goes steps after s (length (x .degrees)) (x .run)
         goes =
             record {
-              steps = few-steps p k i sizes measured;
+              steps = steps-fit;
               place = g .place;
               cursor = g .cursor;
               task = g .task;
-              run = l .run ∙ measured .run;
+              run = given .1 .run ∙ measured .run;
             }
 
-        stands : (m : Mem) → sizesOf (lent m t x (m .rows)) ≡ sizes → rowIn m i ≡ row → Stands i steps q row s (lent m t x (m .rows))
+        stands : (m : Mem) → sizesOf (lent m t x (m .rows)) ≡ sizes → rowIn m i ≡ row → Stands i steps after s (lent m t x (m .rows))
         stands m e h =
             record {
               steps = rw (← e) refl;
-              phase = enters m e h .leads;
-              row = h;
+              phase = same-phase row judged r told after v;
+              row = shows m e h .row;
               next = g .next _ (shows m e h);
             }
 
       module _ (s : Successor) (left : ℕ) (c : z ≡ pick.Waiting s left) where
-        abbrev waits : Picks i row (t .succStarts) (t .succs) (x .degrees) (t .buffers) s (λ p k. releaseWaiting i)
+        abbrev waits : Picks i after (t .succStarts) (t .succs) (x .degrees) (t .buffers) s (λ p k. releaseWaiting i)
         waits = known (pick.Waiting s left) c .0
 
-        pub waiting-goes : Goes steps row s (length (x .degrees)) (x .run) × (left ≡ getD (x .degrees) (s .task .0) 0 - 1)
+        pub waiting-goes : Goes steps after s (length (x .degrees)) (x .run) × (left ≡ getD (x .degrees) (s .task .0) 0 - 1)
         waiting-goes = (goes s (λ p k. releaseWaiting i) waits, known (pick.Waiting s left) c .1)
 
-        pub whole-waiting : (d′ run′ : List ℕ) (y : Stepped) → Lowers steps q row s (x .degrees) (x .run) d′ run′ y
-            → Releases limits p k i sizes row t x (wordsOf d′ (x .rings) (x .ends) (x .counters) run′) y
-        whole-waiting d′ run′ y f m e h =
+        pub whole-waiting : (d′ run′ : List ℕ) (y : Stepped) → Lowers steps after s (x .degrees) (x .run) d′ run′ y
+            → Releases p k i sizes judged row t x (wordsOf d′ (x .rings) (x .ends) (x .counters) run′) y
+        whole-waiting d′ run′ y f limits m j e h =
             f limits p k i (lent m t x (m .rows)) (stands s (λ p k. releaseWaiting i) waits m e h)
-            (follows m e h _ (waits .follows p k _ (shows m e h)))
+            (follows m e h limits j _ (waits .follows p k _ (shows m e h)))
 
       module _ (s : Successor) (c : z ≡ pick.Ready s) where
-        abbrev readied : Picks i row (t .succStarts) (t .succs) (x .degrees) (t .buffers) s (λ p k. releaseReady p k i)
+        abbrev readied : Picks i after (t .succStarts) (t .succs) (x .degrees) (t .buffers) s (λ p k. releaseReady p k i)
         readied = known (pick.Ready s) c
 
-        pub ready-goes : Goes steps row s (length (t .weights)) (x .run) × Sized p k i (length (t .weights)) x
-        ready-goes = (rw (sym (sized .degrees)) (goes s (λ p k. releaseReady p k i) readied), sized)
+        pub ready-goes : Goes steps after s (length (t .weights)) (x .run) × Sized p k i (length (t .weights)) x
+        ready-goes = (rw (sym (words-fit .degrees)) (goes s (λ p k. releaseReady p k i) readied), words-fit)
 
-        pub whole-ready : (x′ : Words) (y : Stepped) → PlacesReady p k i steps q row s (t .weights) x x′ y
-            → Releases limits p k i sizes row t x x′ y
-        whole-ready x′ y f m e h =
+        pub whole-ready : (x′ : Words) (y : Stepped) → PlacesReady p k i steps after s (t .weights) x x′ y
+            → Releases p k i sizes judged row t x x′ y
+        whole-ready x′ y f limits m j e h =
             f limits (lent m t x (m .rows)) (stands s (λ p k. releaseReady p k i) readied m e h) refl
-            (follows m e h _ (readied .follows p k _ (shows m e h)))
+            (follows m e h limits j _ (readied .follows p k _ (shows m e h)))

@@ -2,7 +2,7 @@
 use Prim.Native.Nat.{ℕ, _+_, _*_, _≤_, _<_}
 use mathlib.Core.Path.{_≡_}
 use mathlib.Core.List.{List}
-use lib.ListN.{length, set}
+use lib.ListN.{length}
 use Rattle.task.specs.Types.{engine}
 use Rattle.task.specs.Phases.{leadsTo}
 use Rattle.task.specs.declared.Limits.{Limits}
@@ -12,6 +12,7 @@ use Rattle.choice.specs.Search.{at}
 use Rattle.rules.specs.Memory.{Mem, memOf, tasks, edges, rowIn}
 use Rattle.rules.specs.Plans.{Plan, resultOf}
 use Rattle.rules.specs.Steps.{releaseTo, releaseReady, releaseWaiting, stepPlan, step}
+use Rattle.admission.specs.Admission.{answerOf, rowsAfter}
 use Rattle.admission.specs.declared.Stepped.{Stepped}
 use Rattle.release_plan.specs.Picks.{Next}
 use Rattle.release_plan.specs.declared.Successor.{Successor}
@@ -35,10 +36,10 @@ pub record Sized (p k i n : ℕ) (x : Words) : Type 0 where
   pub ends : length (x .ends) ≡ p * p * 2
   pub counters : length (x .counters) ≡ p * p
 
--- a memory with that row of worker i and that successor, where a steps are a run, in a Release that leads to phase q
-pub record Stands (i a q : ℕ) (r : Row) (s : Successor) (m : Mem) : Type 0 where
+-- a memory with that row of worker i, in the phase that a Release leads to, and that successor, where a steps are a run
+pub record Stands (i a : ℕ) (r : Row) (s : Successor) (m : Mem) : Type 0 where
   pub steps : 3 * tasks m + edges m ≡ a
-  pub phase : q ≡ leadsTo step-name.Release
+  pub phase : r .phase ≡ leadsTo step-name.Release
   pub row : rowIn m i ≡ r
   pub next : Next i m s
 
@@ -51,23 +52,23 @@ withWords m x rows =
 abbrev pub Finishes : Limits → (p k i : ℕ) → (Mem → Plan) → Mem → Words → Words → Stepped → Type 0
 Finishes limits p k i rest m x x′ r =
     stepPlan limits p k i step-name.Release (withWords m x (m .rows)) ≡ rest (withWords m x (m .rows))
-    → resultOf (r .answer) (withWords m x′ (set (m .rows) i (r .row)))
+    → resultOf (answerOf r) (withWords m x′ (rowsAfter (m .rows) i r))
     ≡ step limits p k i step-name.Release (withWords m x (m .rows))
 
 -- whatever the other lists hold: the degree stays above 0
-abbrev pub Lowers : (a q : ℕ) → Row → Successor → (d run d′ run′ : List ℕ) → Stepped → Type 0
-Lowers a q row next d run d′ run′ r =
-    (limits : Limits) (p k i : ℕ) (m : Mem) → Stands i a q row next m
+abbrev pub Lowers : (a : ℕ) → Row → Successor → (d run d′ run′ : List ℕ) → Stepped → Type 0
+Lowers a row next d run d′ run′ r =
+    (limits : Limits) (p k i : ℕ) (m : Mem) → Stands i a row next m
     → Finishes limits p k i (releaseWaiting i) m
     (wordsOf d (m .rings) (m .ends) (m .counters) run) (wordsOf d′ (m .rings) (m .ends) (m .counters) run′) r
 
 -- the task joins the ring of owner o
-abbrev pub Places : (p k i a q : ℕ) → Row → Successor → ℕ → List ℕ → Words → Words → Stepped → Type 0
-Places p k i a q row next o weights x x′ r =
-    (limits : Limits) (m : Mem) → Stands i a q row next m → m .weights ≡ weights
+abbrev pub Places : (p k i a : ℕ) → Row → Successor → ℕ → List ℕ → Words → Words → Stepped → Type 0
+Places p k i a row next o weights x x′ r =
+    (limits : Limits) (m : Mem) → Stands i a row next m → m .weights ≡ weights
     → Finishes limits p k i (λ m. releaseTo p k i m (at o)) m x x′ r
 
 -- the degree becomes 0
-abbrev pub PlacesReady : (p k i a q : ℕ) → Row → Successor → List ℕ → Words → Words → Stepped → Type 0
-PlacesReady p k i a q row next weights x x′ r =
-    (limits : Limits) (m : Mem) → Stands i a q row next m → m .weights ≡ weights → Finishes limits p k i (releaseReady p k i) m x x′ r
+abbrev pub PlacesReady : (p k i a : ℕ) → Row → Successor → List ℕ → Words → Words → Stepped → Type 0
+PlacesReady p k i a row next weights x x′ r =
+    (limits : Limits) (m : Mem) → Stands i a row next m → m .weights ≡ weights → Finishes limits p k i (releaseReady p k i) m x x′ r

@@ -2,17 +2,19 @@
 use Prim.Native.Nat.{ℕ}
 use mathlib.Core.Path.{_≡_}
 use mathlib.Core.List.{List}
-use lib.ListN.{length, set}
+use lib.ListN.{length}
 use lib.IntN.{ℤ}
 use Rattle.task.specs.declared.Limits.{Limits}
 use Rattle.task.specs.declared.Row.{Row}
 use Rattle.task.specs.declared.Step.the-variants as step-name
-use Rattle.rules.specs.Memory.{Mem, memOf, rowIn}
+use Rattle.rules.specs.Memory.{Mem, memOf, rowIn, withPlaces}
 use Rattle.rules.specs.Plans.{resultOf}
 use Rattle.rules.specs.Steps.{step}
-use Rattle.admission.specs.Admission.{sizesOf}
+use Rattle.admission.specs.Admission.{sizesOf, Judges, answerOf, rowsAfter}
 use Rattle.admission.specs.declared.Sizes.{Sizes}
+use Rattle.admission.specs.declared.Judged.{Judged}
 use Rattle.admission.specs.declared.Stepped.{Stepped}
+use Rattle.admission.specs.declared.Stepped.the-variants.{Refused, Taken}
 
 -- the lists that Release reads alone
 pub record Tables : Type 0 where
@@ -41,11 +43,15 @@ lent m t x rows =
     memOf (t .weights) (m .predStarts) (m .preds) (t .succStarts) (t .succs) (x .degrees) (x .rings) (x .ends) (x .counters) (t .buffers) (m .executed) (x .run) rows
 
 -- whatever the other lists hold
-abbrev pub Releases : Limits → ℕ → ℕ → ℕ → Sizes → Row → Tables → Words → Words → Stepped → Type 0
-Releases limits p k i sizes row t x x' r =
-    (m : Mem) → sizesOf (lent m t x (m .rows)) ≡ sizes → rowIn m i ≡ row
-    → resultOf (r .answer) (lent m t x' (set (m .rows) i (r .row)))
-    ≡ step limits p k i step-name.Release (lent m t x (m .rows))
+abbrev pub Releases : ℕ → ℕ → ℕ → Sizes → Judged → Row → Tables → Words → Words → Stepped → Type 0
+Releases p k i sizes judged row t x x' r =
+    (limits : Limits) (m : Mem) → Judges limits p k i sizes judged → sizesOf (lent m t x (m .rows)) ≡ sizes → rowIn m i ≡ row
+    → resultOf (answerOf r) (lent m t x' (rowsAfter (m .rows) i r)) ≡ step limits p k i step-name.Release (lent m t x (m .rows))
+
+-- the row keeps its words but the read place and the cursor: Release leads to the phase that it suits
+abbrev pub ReadAndCursor : Row → Stepped → Type 0
+ReadAndCursor row (Refused n d) = Unit {0}
+ReadAndCursor row (Taken o after) = after ≡ withPlaces (after .read) (row .write) (after .cursor) row
 
 -- the lists are of the lengths that `sizes` has for them
 pub record Lent (sizes : Sizes) (t : Tables) (x : Words) : Type 0 where

@@ -19,15 +19,16 @@ use Rattle.rules.specs.Memory.{Mem}
 use Rattle.rules.specs.Words.{counterFits, countersFit}
 use Rattle.rules.specs.Steps.{findRoom, releaseTo, releaseReady}
 use Rattle.rules.proofs.Searches.{Looked, search-looked}
+use Rattle.task.specs.declared.Ends.{Ends}
 use Rattle.task.specs.declared.WorkerId.{WorkerId}
 use Rattle.counters.specs.Choice.{Chosen}
 use Rattle.counters.specs.declared.Choice.{Choice}
 use Rattle.counters.specs.declared.Choice.the-variants as choice
-use Rattle.searches.specs.Searches.{foundOf}
+use Rattle.searches.specs.Searches.{foundOf, Reads}
 use Rattle.searches.specs.declared.Found.{Found}
 use Rattle.searches.specs.declared.Found.the-variants as found
-use Rattle.release_plan.specs.Owners.{Offers, Takes, Owned}
-use Rattle.release_plan.specs.declared.Owner.the-variants.{Refused}
+use Rattle.release_plan.specs.Owners.{Offers, Owned}
+use Rattle.release_plan.specs.declared.Owner.the-variants.{Refused, At}
 
 -- one of the counters that all fit
 counter-among : (c : List ℤ) → countersFit c ≡ true → (q : ℕ) → q < length c → counterFits (getD c q (pos 0)) ≡ true
@@ -41,7 +42,7 @@ module _ (p k i j : ℕ) (e : List ℕ) where
   abbrev room : rules.Found
   room = search (λ o. sound k (endsAt e (o * p + i))) (λ o. not (full k (endsAt e (o * p + i)))) (around p j)
 
-  module _ (r : Found) (hr : foundOf r ≡ room) (o : WorkerId) (g : r ≡ found.At o) where
+  module _ (r : Found) (hr : foundOf r ≡ room) (o : WorkerId) (both : Ends) (g : r ≡ found.At o both) where
     looked : Looked p k (Full k) (λ d. endsAt e ((j + d) % p * p + i)) j (at (o .0))
     looked = rw (← hr, g) at (search-looked p k j (Full k) (full k) (full-told k) (λ o. endsAt e (o * p + i)))
 
@@ -77,11 +78,14 @@ module _ (p : ℕ) (c : List ℤ) (x : Choice) (hx : Chosen p c x) where
       unfolding releaseTo
       owner-none g m v = goes-to m v ∙ rw (g, v .task)
 
-      pub owner-at : (o : WorkerId) → r ≡ found.At o → i < p → Takes p k i s e c (o .0)
-      owner-at o g h =
-          record {
-            owner = found-below p k i (j .0) e r hr o g h;
-            sound = found-sound p k i (j .0) e r hr o g;
-            counters = counter-among c (chosen j t .0);
-            follows = λ m v. goes-to m v ∙ rw g;
-          }
+      pub owner-at : Reads (λ o. endsAt e (o * p + i)) r → (o : WorkerId) (both : Ends) → r ≡ found.At o both → i < p
+          → Owned p k i s e c (At o both)
+      owner-at read o both g h = (
+        record {
+          owner = found-below p k i (j .0) e r hr o both g h;
+          sound = found-sound p k i (j .0) e r hr o both g;
+          counters = counter-among c (chosen j t .0);
+          follows = λ m v. goes-to m v ∙ rw g;
+        },
+        subst (Reads (λ o. endsAt e (o * p + i))) g read,
+      )

@@ -29,4 +29,4 @@ pub record Takes (p k i s : ℕ) (e : List ℕ) (c : List ℤ) (o : ℕ) : Type 
 
 abbrev pub Owned : (p k i s : ℕ) → List ℕ → List ℤ → Owner → Type 0
 Owned p k i s e c (Refused n d) = (m : Mem) → Offers i s e c m → releaseReady p k i m ≡ refuse n d
-Owned p k i s e c (At o) = Takes p k i s e c (o .0)
+Owned p k i s e c (At o both) = Takes p k i s e c (o .0) × (both ≡ endsAt e (ringNumber p (o .0) i))

@@ -8,6 +8,7 @@ ghost use Rattle.release_plan.specs.Picks.{Picked};
 ghost use Rattle.release_plan.specs.Owners.{Owned};
 use counters::Choice;
 use searches::Found;
+use task::Ends;
 use task::Row;
 use task::TaskId;
 use task::WorkerId;
@@ -35,7 +36,10 @@ pub fn pick_next(
     worker: WorkerId,
     row: Row,
 ) -> Pick
-    requires { ⌜ (length (now «succ_starts») ≡ length (now degrees) + 1) × (worker .0 * length (now degrees) + length (now degrees) ≤ length (now buffers)) ⌝ }
+    requires { ⌜
+        (length (now «succ_starts») ≡ length (now degrees) + 1) × (worker .0 * length (now degrees) + length (now degrees) ≤
+        length (now buffers))
+        ⌝ }
     ensures { λ r. ⌜ Picked (worker .0) row (now («succ_starts» .entry)) (now (succs .entry)) (now (degrees .entry)) (now (buffers .entry)) r ⌝ }
 {
     let n = degrees.len();
@@ -75,10 +79,10 @@ pub fn pick_next(
     Pick::Waiting(next, degree - 1)
 }
 
-// Refused, or the worker whose ring takes the task.
+// Refused, or the worker whose ring takes the task, and that ring's ends as read.
 pub enum Owner {
     Refused(u32, u32),
-    At(WorkerId),
+    At(WorkerId, Ends),
 }
 
 // The first ring filled by the worker that isn't full, its owners from the target upward, modulo p.
@@ -90,7 +94,11 @@ pub fn find_owner(
     worker: WorkerId,
     task: TaskId,
 ) -> Owner
-    requires { ⌜ (worker .0 < p) × ((p ≤ engine .workers) × ((k ≤ engine .slots) × ((length (now ends) ≡ p * p * endWords) × (length (now counters) ≡ p * p)))) ⌝ }
+    requires { ⌜
+        (worker .0 < p) × ((p ≤ engine .workers) × ((k ≤ engine .slots)
+        × ((length (now ends) ≡ p * p * endWords) × (length (now counters)
+        ≡ p * p))))
+        ⌝ }
     ensures { λ r. ⌜ Owned p k (worker .0) (task .0) (now (ends .entry)) (now (counters .entry)) r ⌝ }
 {
     let choice = counters::choose(counters, p);
@@ -101,6 +109,6 @@ pub fn find_owner(
     match found {
         Found::Unsound => Owner::Refused(refusal::DAMAGED, 0),
         Found::None => Owner::Refused(refusal::RINGS_FULL, task.0),
-        Found::At(owner) => Owner::At(owner),
+        Found::At(owner, both) => Owner::At(owner, both),
     }
 }

@@ -4,12 +4,14 @@ use mathlib.Core.Path.{_≡_, refl, sym, ap, _∙_}
 use mathlib.Core.List.{List, [], _∷_}
 use native.Mathlib.Omega.{arith}
 use native.Mathlib.Numerals.{add-one}
-use lib.ListN.{length, getD, set, drop, length-set, List·getD-eq-default}
-use lib.Seq.{set-out, ext-getD}
+use lib.ListN.{length, getD, set, drop, length-set}
+use lib.Seq.{getD-set-same, set-set, ext-getD}
 use Rattle.lists.proofs.Prefixes.{fill-more}
 use Rattle.task.specs.Types.{idle}
 use Rattle.task.specs.declared.Row.{Row}
-use Rattle.rows.specs.Rows.{rowOf, rowsOf, clearedRows}
+use Rattle.task.specs.declared.TaskId.{TaskId}
+use Rattle.rules.specs.Memory.{withHand, withPointer}
+use Rattle.rows.specs.Rows.{rowOf, rowsOf, withPhase, withWrite, withNext, changed, clearedRows}
 
 pub length-rows : (l : List (List ℕ)) → length (rowsOf l) ≡ length l
 unfolding rowsOf
@@ -28,17 +30,47 @@ rows-set [] i a = refl
 rows-set (b ∷ l) zero a = refl
 rows-set (b ∷ l) (suc i) a = ap (λ (t : List Row). rowOf b ∷ t) (rows-set l i a)
 
-module _ (l : List (List ℕ)) (i : ℕ) (r : Row) where
-  pub rows-stored : (a : List ℕ) → rowOf a ≡ r → rowsOf (set l i a) ≡ set (rowsOf l) i r
-  rows-stored a e = rw (← e) (rows-set l i a)
+pub rows-changed : (f : Row → Row) (l : List (List ℕ)) (i : ℕ) (d a : List ℕ) → i < length l → rowOf a ≡ f (rowOf (getD l i d))
+    → rowsOf (set l i a) ≡ changed f i (rowsOf l)
+unfolding changed
+rows-changed f l i d a h e = rw (rows-set l i a, e, rows-at l i d (rowOf (getD l i d)) h refl) refl
 
-  -- there is no such row
-  module _ (h : length l ≤ i) where
-    pub rows-out : r ≡ idle → r ≡ getD (rowsOf l) i idle
-    rows-out e = rw (List·getD-eq-default (rowsOf l) idle {n = i} (rw (length-rows l) h)) e
+-- words stored in a row of six: what holds of six words in a list holds of any six
+six-words : (Q : List ℕ → Type 0) → ((a b c d e f : ℕ) (l : List ℕ) → Q (a ∷ b ∷ c ∷ d ∷ e ∷ f ∷ l)) → (cells : List ℕ) → length cells ≡ 6 → Q cells
+six-words Q q [] h = absurd (omega arith)
+six-words Q q (a ∷ []) h = absurd (omega arith)
+six-words Q q (a ∷ b ∷ []) h = absurd (omega arith)
+six-words Q q (a ∷ b ∷ c ∷ []) h = absurd (omega arith)
+six-words Q q (a ∷ b ∷ c ∷ d ∷ []) h = absurd (omega arith)
+six-words Q q (a ∷ b ∷ c ∷ d ∷ e ∷ []) h = absurd (omega arith)
+six-words Q q (a ∷ b ∷ c ∷ d ∷ e ∷ f ∷ l) h = q a b c d e f l
 
-    pub rows-kept : rowsOf l ≡ set (rowsOf l) i r
-    rows-kept = rw (set-out (rowsOf l) i r (rw (length-rows l) h))
+module _ (cells : List ℕ) (h : length cells ≡ 6) where
+  pub phase-put : (phase : ℕ) → rowOf (set cells 0 phase) ≡ withPhase phase (rowOf cells)
+  phase-put phase = six-words (λ l. rowOf (set l 0 phase) ≡ withPhase phase (rowOf l)) (λ a b c d e f l. refl) cells h
+
+  pub hand-put : (phase : ℕ) (held : TaskId) → rowOf (set (set cells 0 phase) 1 (held .0)) ≡ withHand phase held (rowOf cells)
+  hand-put phase held = six-words (λ l. rowOf (set (set l 0 phase) 1 (held .0)) ≡ withHand phase held (rowOf l)) (λ a b c d e f l. refl) cells h
+
+  pub pointer-put : (pointer : ℕ) → rowOf (set cells 2 pointer) ≡ withPointer pointer (rowOf cells)
+  pointer-put pointer = six-words (λ l. rowOf (set l 2 pointer) ≡ withPointer pointer (rowOf l)) (λ a b c d e f l. refl) cells h
+
+  pub write-put : (write : ℕ) → rowOf (set cells 4 write) ≡ withWrite write (rowOf cells)
+  write-put write = six-words (λ l. rowOf (set l 4 write) ≡ withWrite write (rowOf l)) (λ a b c d e f l. refl) cells h
+
+  pub next-put : (read cursor : ℕ) → rowOf (set (set cells 3 read) 5 cursor) ≡ withNext read cursor (rowOf cells)
+  next-put read cursor = six-words (λ l. rowOf (set (set l 3 read) 5 cursor) ≡ withNext read cursor (rowOf l)) (λ a b c d e f l. refl) cells h
+
+-- one part changed, and two, one after the other
+module _ (rows : List Row) (i : ℕ) (row : Row) (h : row ≡ getD rows i idle) (f g : Row → Row) (after : Row) where
+  pub one-changed : after ≡ f row → changed f i rows ≡ set rows i after
+  unfolding changed
+  one-changed e = rw (e, h) refl
+
+  pub two-changed : i < length rows → after ≡ g (f row) → changed g i (changed f i rows) ≡ set rows i after
+  unfolding changed
+  two-changed l e =
+      rw (e, h, getD-set-same rows i (f (getD rows i idle)) idle l) (set-set rows i (f (getD rows i idle)) (g (f (getD rows i idle))))
 
 -- no row is cleared yet, and one more
 pub cleared-none : (rows : List Row) → clearedRows 0 rows ≡ rows
@@ -55,11 +87,11 @@ module _ (before : List (List ℕ)) where
   words-cleared-none = (refl, sym (cleared-none (rowsOf before)))
 
   module _ (l : List (List ℕ)) (i : ℕ) (inv : (length l ≡ length before) × (rowsOf l ≡ clearedRows i (rowsOf before))) where
-    pub words-cleared-next : (a : List ℕ) (r : Row) → i < length before → rowOf a ≡ r → r ≡ idle
+    pub words-cleared-next : (a : List ℕ) → i < length before → rowOf a ≡ idle
         → (length (set l i a) ≡ length before) × (rowsOf (set l i a) ≡ clearedRows (i + 1) (rowsOf before))
-    words-cleared-next a r h e d = (
+    words-cleared-next a h e = (
       length-set l i a ∙ inv .0,
-      rw (rows-set l i a, e, d, inv .1) (cleared-next i (rowsOf before) (rw (length-rows before) h)),
+      rw (rows-set l i a, e, inv .1) (cleared-next i (rowsOf before) (rw (length-rows before) h)),
     )
 
     pub words-cleared : (n : ℕ) → i ≡ n → rowsOf l ≡ clearedRows n (rowsOf before)

@@ -1,9 +1,10 @@
 -- The lent words of the worker rows, read as rows: "phase, held task, ring pointer, buffer read place, buffer write place, cursor".
 use Prim.Native.Nat.{ℕ}
 use mathlib.Core.List.{List, [], _∷_, _++_}
-use lib.ListN.{getD, drop, replicate}
+use lib.ListN.{getD, set, drop, replicate}
 use Rattle.task.specs.Types.{idle}
 use Rattle.task.specs.declared.Row.{Row}
+use Rattle.rules.specs.Memory.{withHand, withPlaces}
 
 abbrev pub rowOf : List ℕ → Row
 rowOf cells =
@@ -19,6 +20,20 @@ rowOf cells =
 unfoldable pub rowsOf : List (List ℕ) → List Row
 rowsOf [] = []
 rowsOf (cells ∷ rest) = rowOf cells ∷ rowsOf rest
+
+-- a row with another phase alone, another write place, another read place and cursor
+abbrev pub withPhase : ℕ → Row → Row
+withPhase phase row = withHand phase (row .held) row
+
+abbrev pub withWrite : ℕ → Row → Row
+withWrite write row = withPlaces (row .read) write (row .cursor) row
+
+abbrev pub withNext : ℕ → ℕ → Row → Row
+withNext read cursor row = withPlaces read (row .write) cursor row
+
+-- worker i's row changed, where there is one
+unfoldable pub changed : (Row → Row) → ℕ → List Row → List Row
+changed f i rows = set rows i (f (getD rows i idle))
 
 -- the first n rows are those of idle workers
 unfoldable pub clearedRows : ℕ → List Row → List Row

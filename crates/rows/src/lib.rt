@@ -1,59 +1,129 @@
-// Worker rows as lent words: six to a row, in the order of `Row`.
+// Worker rows as lent words, six to a row: the same memory as a list of `Row`. A word's place in its row is named here alone.
 ghost use mathlib.Core.Path.{_≡_};
-ghost use Prim.Native.Nat.{_≤_};
-ghost use lib.ListN.{length, getD, set};
+ghost use Prim.Native.Nat.{_≤_, _<_};
+ghost use lib.ListN.{length, getD};
 ghost use Rattle.task.specs.Types.{idle};
-ghost use Rattle.rows.specs.Rows.{rowOf, rowsOf, clearedRows};
+ghost use Rattle.rules.specs.Memory.{withHand, withPointer};
+ghost use Rattle.rows.specs.Rows.{rowOf, rowsOf, withPhase, withWrite, withNext, changed, clearedRows};
 use task::Row;
 use task::TaskId;
 use task::WorkerId;
 
-pub fn row_of(cells: [u32; 6]) -> Row
+const PHASE: usize = 0;
+
+const HELD: usize = 1;
+
+const POINTER: usize = 2;
+
+const READ: usize = 3;
+
+const WRITE: usize = 4;
+
+const CURSOR: usize = 5;
+
+fn row_of(cells: [u32; 6]) -> Row
     ensures { λ r. ⌜ r ≡ rowOf cells ⌝ }
 {
     Row {
-        phase: cells[0],
-        held: TaskId(cells[1]),
-        pointer: cells[2],
-        read: cells[3],
-        write: cells[4],
-        cursor: cells[5],
+        phase: cells[PHASE],
+        held: TaskId(cells[HELD]),
+        pointer: cells[POINTER],
+        read: cells[READ],
+        write: cells[WRITE],
+        cursor: cells[CURSOR],
     }
 }
 
-pub fn cells_of(row: Row) -> [u32; 6]
-    ensures { λ r. ⌜ rowOf r ≡ row ⌝ }
-{
-    [
-        row.phase,
-        row.held.0,
-        row.pointer,
-        row.read,
-        row.write,
-        row.cursor,
-    ]
-}
-
-// The worker's row; that of an idle worker where there is none.
+// The worker's row.
 pub fn row_at(rows: &[[u32; 6]], worker: WorkerId) -> Row
+    requires { ⌜ worker .0 < length (now rows) ⌝ }
     ensures { λ r. ⌜ r ≡ getD (rowsOf (now (rows .entry))) (worker .0) idle ⌝ }
 {
-    let i = worker.0 as usize;
-    if rows.len() <= i {
-        return Row::idle();
-    }
-    row_of(rows[i])
+    row_of(rows[worker.0 as usize])
 }
 
-// The worker's row is stored, where there is one.
-pub fn store_row(rows: &mut [[u32; 6]], worker: WorkerId, row: Row)
-    ensures { λ r. ⌜ rowsOf (now (rows .exit)) ≡ set (rowsOf (now (rows .entry))) (worker .0) row ⌝ }
+// The parts of a row that a step changes.
+fn with_phase(cells: [u32; 6], phase: u32) -> [u32; 6]
+    ensures { λ r. ⌜ rowOf r ≡ withPhase phase (rowOf cells) ⌝ }
+{
+    let mut after = cells;
+    after[PHASE] = phase;
+    after
+}
+
+fn with_hand(cells: [u32; 6], phase: u32, held: TaskId) -> [u32; 6]
+    ensures { λ r. ⌜ rowOf r ≡ withHand phase held (rowOf cells) ⌝ }
+{
+    let mut after = cells;
+    after[PHASE] = phase;
+    after[HELD] = held.0;
+    after
+}
+
+fn with_pointer(cells: [u32; 6], pointer: WorkerId) -> [u32; 6]
+    ensures { λ r. ⌜ rowOf r ≡ withPointer (pointer .0) (rowOf cells) ⌝ }
+{
+    let mut after = cells;
+    after[POINTER] = pointer.0;
+    after
+}
+
+fn with_write(cells: [u32; 6], write: u32) -> [u32; 6]
+    ensures { λ r. ⌜ rowOf r ≡ withWrite write (rowOf cells) ⌝ }
+{
+    let mut after = cells;
+    after[WRITE] = write;
+    after
+}
+
+fn with_next(cells: [u32; 6], read: u32, cursor: u32) -> [u32; 6]
+    ensures { λ r. ⌜ rowOf r ≡ withNext read cursor (rowOf cells) ⌝ }
+{
+    let mut after = cells;
+    after[READ] = read;
+    after[CURSOR] = cursor;
+    after
+}
+
+// The worker's row with such a part stored.
+pub fn set_phase(rows: &mut [[u32; 6]], worker: WorkerId, phase: u32)
+    requires { ⌜ worker .0 < length (now rows) ⌝ }
+    ensures { λ r. ⌜ rowsOf (now (rows .exit)) ≡ changed (withPhase phase) (worker .0) (rowsOf (now (rows .entry))) ⌝ }
 {
     let at = worker.0 as usize;
-    if rows.len() <= at {
-        return;
-    }
-    rows[at] = cells_of(row);
+    rows[at] = with_phase(rows[at], phase);
+}
+
+pub fn set_hand(rows: &mut [[u32; 6]], worker: WorkerId, phase: u32, held: TaskId)
+    requires { ⌜ worker .0 < length (now rows) ⌝ }
+    ensures { λ r. ⌜ rowsOf (now (rows .exit)) ≡ changed (withHand phase held) (worker .0) (rowsOf (now (rows .entry))) ⌝ }
+{
+    let at = worker.0 as usize;
+    rows[at] = with_hand(rows[at], phase, held);
+}
+
+pub fn set_pointer(rows: &mut [[u32; 6]], worker: WorkerId, pointer: WorkerId)
+    requires { ⌜ worker .0 < length (now rows) ⌝ }
+    ensures { λ r. ⌜ rowsOf (now (rows .exit)) ≡ changed (withPointer (pointer .0)) (worker .0) (rowsOf (now (rows .entry))) ⌝ }
+{
+    let at = worker.0 as usize;
+    rows[at] = with_pointer(rows[at], pointer);
+}
+
+pub fn set_write(rows: &mut [[u32; 6]], worker: WorkerId, write: u32)
+    requires { ⌜ worker .0 < length (now rows) ⌝ }
+    ensures { λ r. ⌜ rowsOf (now (rows .exit)) ≡ changed (withWrite write) (worker .0) (rowsOf (now (rows .entry))) ⌝ }
+{
+    let at = worker.0 as usize;
+    rows[at] = with_write(rows[at], write);
+}
+
+pub fn set_next(rows: &mut [[u32; 6]], worker: WorkerId, read: u32, cursor: u32)
+    requires { ⌜ worker .0 < length (now rows) ⌝ }
+    ensures { λ r. ⌜ rowsOf (now (rows .exit)) ≡ changed (withNext read cursor) (worker .0) (rowsOf (now (rows .entry))) ⌝ }
+{
+    let at = worker.0 as usize;
+    rows[at] = with_next(rows[at], read, cursor);
 }
 
 // The first n rows become those of idle workers.
@@ -61,7 +131,8 @@ pub fn clear_rows(rows: &mut [[u32; 6]], n: usize)
     requires { ⌜ n ≤ length (now rows) ⌝ }
     ensures { λ r. ⌜ rowsOf (now (rows .exit)) ≡ clearedRows n (rowsOf (now (rows .entry))) ⌝ }
 {
-    let cells = cells_of(Row::idle());
+    let mut cells = [0u32; 6];
+    cells[HELD] = TaskId::NIL.0;
     let mut i = 0;
     while i < n {
         rows[i] = cells;

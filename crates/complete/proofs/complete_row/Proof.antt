@@ -1,106 +1,48 @@
-use Rattle.complete.proofs.Laws.{plan-asks, record-asks, buffer-asks, place-asks, sink-writable, inner-writable, row-refused, rule-refuses, sink-made, inner-made}
+use Rattle.complete.proofs.Laws.{plan-asks, record-asks, buffer-asks, place-asks, sink-writable, inner-writable, row-refused, hand-and-write, rule-refuses, sink-made, inner-made}
 use Rattle.admission.proofs.Rows.{admission-measured}
 use native.Mathlib.Omega.{arith}
 use borrow.Author.Needs.{needs}
 use Rattle.complete.proofs.complete_row.Statement.{statement}
 use Rattle.complete.proofs.complete_row.Tie as tie
 
-judge-sizes-requires : tie.Need-judge-sizes-requires
-judge-sizes-requires c κs = search needs
-
 admit-requires : tie.Need-admit-requires
-admit-requires c κs = c .judge-sizes .ensures
+admit-requires c κs = search needs
 
 enum-known-admitted : tie.Need-enum-known-admitted
 enum-known-admitted c = search needs
 
-refused-requires : tie.Need-refused-requires
-refused-requires c κs = search needs
-
 returns : tie.Need-returns
-returns c =
-    row-refused _ _ _ _ _ _ _ _ _ _ _
-    (c .before .before .before .before .admit .ensures) _ _
-    (c .before .before .admitted .given .1) _
-    (c .refused .ensures)
+returns c = (row-refused _ _ _ _ _ _ _ _ _ (c .before .before .before .before .before .before .before .before .args .judged) _ (c .before .before .before .admit .ensures) _ _ (c .before .admitted .given .1), tt)
 
 enum-known-admitted-2 : tie.Need-enum-known-admitted-2
 enum-known-admitted-2 c = search needs
 
 plan-complete-requires : tie.Need-plan-complete-requires
-plan-complete-requires c κs =
-    plan-asks _ _ _ _
-    (admission-measured _ _ _ _ _ _ _ _
-    (c .before .before .before .before .admit .ensures) _
-    (c .before .before .admitted2 .given .1)) _ _
-    (c .before .before .before .before .before .before .before .before .before .before .pre .0)
-    (c .before .before .before .before .before .before .before .before .before .before .pre .1 .1 .1)
+plan-complete-requires c κs = plan-asks _ _ _ _ (admission-measured _ _ _ _ _ _ (c .before .before .before .before .before .before .before .before .before .args .judged) (c .before .before .before .before .before .before .before .before .before .pre .0) _ (c .before .before .before .before .admit .ensures) _ (c .before .before .admitted2 .given .1)) _ _ (c .before .before .before .before .before .before .before .before .before .pre .1 .0) (c .before .before .before .before .before .before .before .before .before .pre .1 .1 .1 .1)
 
 enum-known-plan : tie.Need-enum-known-plan
 enum-known-plan c = search needs
 
-refused-requires-2 : tie.Need-refused-requires-2
-refused-requires-2 c κs = search needs
-
-enum-told : tie.Need-enum-told
-enum-told c = search needs
+enum-known-plan-2 : tie.Need-enum-known-plan-2
+enum-known-plan-2 c = search needs
 
 join-record-requires : tie.Need-join-record-requires
-join-record-requires c κs =
-    record-asks _ _ _ _
-    (admission-measured _ _ _ _ _ _ _ _
-    (c .before .before .before .before .before .before .before .before .before .before .admit .ensures) _
-    (c .before .before .before .before .before .before .before .before .admitted2 .given .1)) _ _ _ _
-    (c .before .before .before .before .before .before .before .before .before .before .before .before .before .before .before .before .pre .1 .1 .0)
-    (c .before .before .before .before .before .before .before .before .before .before .before .before .before .before .before .before .pre .1 .1 .1)
-    (sink-writable _ _ _ _ _ _
-    (c .before .before .before .before .before .plan-complete .ensures)
-    (c .before .before .enum-told .given .1))
+join-record-requires c κs = record-asks _ _ _ _ (admission-measured _ _ _ _ _ _ (c .before .before .before .before .before .before .before .before .before .before .before .before .before .before .before .before .args .judged) (c .before .before .before .before .before .before .before .before .before .before .before .before .before .before .before .before .pre .0) _ (c .before .before .before .before .before .before .before .before .before .before .before .admit .ensures) _ (c .before .before .before .before .before .before .before .before .before .admitted2 .given .1)) _ _ _ _ _ (c .before .before .before .before .before .before .before .before .before .before .before .before .before .before .before .before .pre .1 .1 .1 .0) (c .before .before .before .before .before .before .before .before .before .before .before .before .before .before .before .before .pre .1 .1 .1 .1) (sink-writable _ _ _ _ _ _ (c .before .before .before .before .before .before .plan-complete .ensures) _ _ (c .before .before .before .plan2 .given .1))
 
 leave-requires : tie.Need-leave-requires
 leave-requires c κs = search needs
 
-enum-told-2 : tie.Need-enum-told-2
-enum-told-2 c = search needs
+enum-known-plan-3 : tie.Need-enum-known-plan-3
+enum-known-plan-3 c = search needs
 
 join-record-requires-2 : tie.Need-join-record-requires-2
-join-record-requires-2 c κs =
-    record-asks _ _ _ _
-    (admission-measured _ _ _ _ _ _ _ _
-    (c .before .before .before .before .before .before .before .before .before .before .admit .ensures) _
-    (c .before .before .before .before .before .before .before .before .admitted2 .given .1)) _ _ _ _
-    (c .before .before .before .before .before .before .before .before .before .before .before .before .before .before .before .before .pre .1 .1 .0)
-    (c .before .before .before .before .before .before .before .before .before .before .before .before .before .before .before .before .pre .1 .1 .1)
-    (inner-writable _ _ _ _ _ _
-    (c .before .before .before .before .before .plan-complete .ensures)
-    (c .before .before .enum-told2 .given .1)
-    .0)
+join-record-requires-2 c κs = record-asks _ _ _ _ (admission-measured _ _ _ _ _ _ (c .before .before .before .before .before .before .before .before .before .before .before .before .before .before .before .before .args .judged) (c .before .before .before .before .before .before .before .before .before .before .before .before .before .before .before .before .pre .0) _ (c .before .before .before .before .before .before .before .before .before .before .before .admit .ensures) _ (c .before .before .before .before .before .before .before .before .before .admitted2 .given .1)) _ _ _ _ _ (c .before .before .before .before .before .before .before .before .before .before .before .before .before .before .before .before .pre .1 .1 .1 .0) (c .before .before .before .before .before .before .before .before .before .before .before .before .before .before .before .before .pre .1 .1 .1 .1) ((inner-writable _ _ _ _ _ _ (c .before .before .before .before .before .before .plan-complete .ensures) _ _ (c .before .before .before .plan3 .given .1)) .0)
 
 join-buffer-requires : tie.Need-join-buffer-requires
-join-buffer-requires c κs =
-    buffer-asks _ _ _ _
-    (admission-measured _ _ _ _ _ _ _ _
-    (c .before .before .before .before .before .before .before .before .before .before .before .before .before .before .before .before .admit .ensures) _
-    (c .before .before .before .before .before .before .before .before .before .before .before .before .before .before .admitted2 .given .1)) _ _
-    (c .before .before .before .before .before .before .before .before .before .before .before .before .before .before .before .before .before .before .before .before .before .before .pre .1 .0)
-    (inner-writable _ _ _ _ _ _
-    (c .before .before .before .before .before .before .before .before .before .before .before .plan-complete .ensures)
-    (c .before .before .before .before .before .before .before .before .enum-told2 .given .1)
-    .1)
+join-buffer-requires c κs = buffer-asks _ _ _ _ (admission-measured _ _ _ _ _ _ (c .before .before .before .before .before .before .before .before .before .before .before .before .before .before .before .before .before .before .before .before .before .before .args .judged) (c .before .before .before .before .before .before .before .before .before .before .before .before .before .before .before .before .before .before .before .before .before .before .pre .0) _ (c .before .before .before .before .before .before .before .before .before .before .before .before .before .before .before .before .before .admit .ensures) _ (c .before .before .before .before .before .before .before .before .before .before .before .before .before .before .before .admitted2 .given .1)) _ _ (c .before .before .before .before .before .before .before .before .before .before .before .before .before .before .before .before .before .before .before .before .before .before .pre .1 .1 .0) ((inner-writable _ _ _ _ _ _ (c .before .before .before .before .before .before .before .before .before .before .before .before .plan-complete .ensures) _ _ (c .before .before .before .before .before .before .before .before .before .plan3 .given .1)) .1)
 
 add-leave : tie.Need-add-leave
-add-leave c =
-    omega (
-      arith,
-      place-asks _ _ _ _
-          (admission-measured _ _ _ _ _ _ _ _
-          (c .before .before .before .before .before .before .before .before .before .before .before .before .before .before .before .before .before .before .before .before .admit .ensures) _
-          (c .before .before .before .before .before .before .before .before .before .before .before .before .before .before .before .before .before .before .admitted2 .given .1)) _
-          (inner-writable _ _ _ _ _ _
-          (c .before .before .before .before .before .before .before .before .before .before .before .before .before .before .before .plan-complete .ensures)
-          (c .before .before .before .before .before .before .before .before .before .before .before .before .enum-told2 .given .1)
-          .1),
-    )
+add-leave c = omega (arith, place-asks _ _ _ _ (admission-measured _ _ _ _ _ _ (c .before .before .before .before .before .before .before .before .before .before .before .before .before .before .before .before .before .before .before .before .before .before .before .before .before .before .args .judged) (c .before .before .before .before .before .before .before .before .before .before .before .before .before .before .before .before .before .before .before .before .before .before .before .before .before .before .pre .0) _ (c .before .before .before .before .before .before .before .before .before .before .before .before .before .before .before .before .before .before .before .before .before .admit .ensures) _ (c .before .before .before .before .before .before .before .before .before .before .before .before .before .before .before .before .before .before .before .admitted2 .given .1)) _ ((inner-writable _ _ _ _ _ _ (c .before .before .before .before .before .before .before .before .before .before .before .before .before .before .before .before .plan-complete .ensures) _ _ (c .before .before .before .before .before .before .before .before .before .before .before .before .before .plan3 .given .1)) .1))
 
 leave-requires-2 : tie.Need-leave-requires-2
 leave-requires-2 c κs = search needs
@@ -109,13 +51,7 @@ same-length : tie.Need-same-length
 same-length c = search needs
 
 returns-2 : tie.Need-returns-2
-returns-2 c =
-    rule-refuses _ _ _ _ _ _ _ _ _ _ _
-    (c .before .before .before .before .before .before .before .before .before .before .admit .ensures) _
-    (c .before .before .before .before .before .before .before .before .admitted2 .given .1) _
-    (c .before .before .before .before .before .plan-complete .ensures) _ _
-    (c .before .before .plan .given .1) _
-    (c .refused2 .ensures)
+returns-2 c = (rule-refuses _ _ _ _ _ _ _ _ _ (c .before .before .before .before .before .before .before .before .before .before .before .before .before .before .args .judged) _ (c .before .before .before .before .before .before .before .before .before .admit .ensures) _ (c .before .before .before .before .before .before .before .admitted2 .given .1) _ (c .before .before .before .before .plan-complete .ensures) _ _ (c .before .plan .given .1), tt)
 
 same-length-2 : tie.Need-same-length-2
 same-length-2 c = search needs
@@ -124,14 +60,10 @@ same-length-3 : tie.Need-same-length-3
 same-length-3 c = search needs
 
 returns-3 : tie.Need-returns-3
-returns-3 c =
-    sink-made _ _ _ _ _ _ _ _ _ _ _
-    (c .before .before .before .before .before .before .before .before .before .before .before .before .before .before .before .before .admit .ensures) _
-    (c .before .before .before .before .before .before .before .before .before .before .before .before .before .before .admitted2 .given .1) _
-    (c .before .before .before .before .before .before .before .before .before .before .before .plan-complete .ensures)
-    (c .before .before .before .before .before .before .before .before .enum-told .given .1) _ _
-    (c .before .before .before .before .before .join-record .ensures) _
-    (c .leave .ensures)
+returns-3 c = (
+  sink-made _ _ _ _ _ _ _ _ _ (c .before .before .before .before .before .before .before .before .before .before .before .before .before .before .before .before .before .before .before .before .before .before .args .judged) _ (c .before .before .before .before .before .before .before .before .before .before .before .before .before .before .before .before .before .admit .ensures) _ (c .before .before .before .before .before .before .before .before .before .before .before .before .before .before .before .admitted2 .given .1) _ (c .before .before .before .before .before .before .before .before .before .before .before .before .plan-complete .ensures) _ _ (sink-writable _ _ _ _ _ _ (c .before .before .before .before .before .before .before .before .before .before .before .before .plan-complete .ensures) _ _ (c .before .before .before .before .before .before .before .before .before .plan2 .given .1)) _ _ (c .before .before .before .before .before .join-record .ensures) _ (c .before .before .before .before .before .before .before .before .before .plan2 .given .1) (c .leave .ensures),
+  hand-and-write _ (c .before .before .before .before .before .before .before .before .before .before .before .before .before .before .before .before .before .before .before .before .before .before .args .judged) _ (c .before .before .before .before .before .before .before .before .before .before .before .before .before .before .before .before .before .admit .ensures) _ (c .before .before .before .before .before .before .before .before .before .before .before .before .before .before .before .admitted2 .given .1) _ _ (c .leave .ensures),
+)
 
 same-length-4 : tie.Need-same-length-4
 same-length-4 c = search needs
@@ -143,33 +75,25 @@ same-length-6 : tie.Need-same-length-6
 same-length-6 c = search needs
 
 returns-4 : tie.Need-returns-4
-returns-4 c =
-    inner-made _ _ _ _ _ _ _ _ _ _ _
-    (c .before .before .before .before .before .before .before .before .before .before .before .before .before .before .before .before .before .before .before .before .before .admit .ensures) _
-    (c .before .before .before .before .before .before .before .before .before .before .before .before .before .before .before .before .before .before .before .admitted2 .given .1) _
-    (c .before .before .before .before .before .before .before .before .before .before .before .before .before .before .before .before .plan-complete .ensures)
-    (c .before .before .before .before .before .before .before .before .before .before .before .before .before .enum-told2 .given .1) _ _
-    (c .before .before .before .before .before .before .before .before .before .before .join-record2 .ensures) _
-    (c .before .before .before .before .join-buffer .ensures) _
-    (c .leave2 .ensures)
+returns-4 c = (
+  inner-made _ _ _ _ _ _ _ _ _ (c .before .before .before .before .before .before .before .before .before .before .before .before .before .before .before .before .before .before .before .before .before .before .before .before .before .before .before .args .judged) _ (c .before .before .before .before .before .before .before .before .before .before .before .before .before .before .before .before .before .before .before .before .before .before .admit .ensures) _ (c .before .before .before .before .before .before .before .before .before .before .before .before .before .before .before .before .before .before .before .before .admitted2 .given .1) _ (c .before .before .before .before .before .before .before .before .before .before .before .before .before .before .before .before .before .plan-complete .ensures) _ _ ((inner-writable _ _ _ _ _ _ (c .before .before .before .before .before .before .before .before .before .before .before .before .before .before .before .before .before .plan-complete .ensures) _ _ (c .before .before .before .before .before .before .before .before .before .before .before .before .before .before .plan3 .given .1)) .0) _ _ (c .before .before .before .before .before .before .before .before .before .before .join-record2 .ensures) _ (c .before .before .before .before .before .before .before .before .before .before .before .before .before .before .plan3 .given .1) _ (c .before .before .before .before .join-buffer .ensures) (c .leave2 .ensures),
+  hand-and-write _ (c .before .before .before .before .before .before .before .before .before .before .before .before .before .before .before .before .before .before .before .before .before .before .before .before .before .before .before .args .judged) _ (c .before .before .before .before .before .before .before .before .before .before .before .before .before .before .before .before .before .before .before .before .before .before .admit .ensures) _ (c .before .before .before .before .before .before .before .before .before .before .before .before .before .before .before .before .before .before .before .before .admitted2 .given .1) _ _ (c .leave2 .ensures),
+)
 
 pub complete-row-spec : {M : Type 1} → statement M
 complete-row-spec =
     tie.close
     (tie.spec
-    judge-sizes-requires
     admit-requires
     enum-known-admitted
-    refused-requires
     returns
     enum-known-admitted-2
     plan-complete-requires
     enum-known-plan
-    refused-requires-2
-    enum-told
+    enum-known-plan-2
     join-record-requires
     leave-requires
-    enum-told-2
+    enum-known-plan-3
     join-record-requires-2
     join-buffer-requires
     add-leave

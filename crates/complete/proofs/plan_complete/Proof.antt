@@ -9,11 +9,14 @@ use Rattle.complete.proofs.plan_complete.Tie as tie
 shared-slice-read-entries : tie.Need-shared-slice-read-entries
 shared-slice-read-entries c = search needs
 
-cast-entries : tie.Need-cast-entries
-cast-entries c = omega (arith, c .shared-slice-known .given 0)
+cast-if1 : tie.Need-cast-if1
+cast-if1 c = omega (arith, c .shared-slice-known .given 0)
 
 returns : tie.Need-returns
 returns c = (plan-over _ _ _ _ _ (c .if1 .taken), tt)
+
+cast-if2 : tie.Need-cast-if2
+cast-if2 c = search needs
 
 returns-2 : tie.Need-returns-2
 returns-2 c = (plan-full _ _ _ _ _ (c .before .if1 .left) (c .if2 .taken), tt)
@@ -43,14 +46,7 @@ cast-if4 : tie.Need-cast-if4
 cast-if4 c = omega (arith, c .shared-slice-known3 .given (c .before .before .before .before .before .before .before .args .row .held .0 + 1))
 
 returns-4 : tie.Need-returns-4
-returns-4 c = (
-  plan-range _ _ _ _ _
-      (c .before .before .before .before .before .before .if1 .left)
-      (c .before .before .before .before .before .if2 .left)
-      (c .before .before .before .if3 .left)
-      (c .if4 .taken),
-  tt,
-)
+returns-4 c = (plan-range _ _ _ _ _ (c .before .before .before .before .before .before .if1 .left) (c .before .before .before .before .before .if2 .left) (c .before .before .before .if3 .left) (c .if4 .taken), tt)
 
 sub-sink : tie.Need-sub-sink
 sub-sink c = first-holds _ _ _ (c .if4 .left)
@@ -59,15 +55,10 @@ cast-joins : tie.Need-cast-joins
 cast-joins c = search needs
 
 returns-5 : tie.Need-returns-5
-returns-5 c = (
-  plan-places _ _ _ _ _
-      (c .before .before .before .before .before .before .before .before .before .if1 .left)
-      (c .before .before .before .before .before .before .before .before .if2 .left)
-      (c .before .before .before .before .before .before .if3 .left)
-      (c .before .before .before .if4 .left)
-      (c .if5 .taken),
-  tt,
-)
+returns-5 c = (plan-places _ _ _ _ _ (c .before .before .before .before .before .before .before .before .before .if1 .left) (c .before .before .before .before .before .before .before .before .if2 .left) (c .before .before .before .before .before .before .if3 .left) (c .before .before .before .if4 .left) (c .if5 .taken), tt)
+
+shared-slice-read-accepted : tie.Need-shared-slice-read-accepted
+shared-slice-read-accepted c = search needs
 
 mul-if6 : tie.Need-mul-if6
 mul-if6 c = search needs
@@ -75,53 +66,26 @@ mul-if6 c = search needs
 add-if6 : tie.Need-add-if6
 add-if6 c = search needs
 
-shared-slice-read-if6 : tie.Need-shared-slice-read-if6
-shared-slice-read-if6 c = search needs
-
 cast-if6 : tie.Need-cast-if6
 cast-if6 c = omega (arith, c .shared-slice-known4 .given 1)
 
 returns-6 : tie.Need-returns-6
-returns-6 c = (
-  plan-counted _ _ _ _ _
-      (c .before .before .before .before .before .before .before .before .before .before .before .if1 .left)
-      (c .before .before .before .before .before .before .before .before .before .before .if2 .left)
-      (c .before .before .before .before .before .before .before .before .if3 .left)
-      (c .before .before .before .before .before .if4 .left)
-      (c .before .before .if5 .left)
-      (c .if6 .taken),
-  tt,
-)
+returns-6 c = (plan-counted _ _ _ _ _ (c .before .before .before .before .before .before .before .before .before .before .before .if1 .left) (c .before .before .before .before .before .before .before .before .before .before .if2 .left) (c .before .before .before .before .before .before .before .before .if3 .left) (c .before .before .before .before .before .if4 .left) (c .before .before .if5 .left) (c .if6 .taken), tt)
 
 returns-7 : tie.Need-returns-7
-returns-7 c =
-    plan-sink _ _ _ _ _
-    (c .before .before .before .before .before .before .before .before .before .before .before .before .if1 .left)
-    (c .before .before .before .before .before .before .before .before .before .before .before .if2 .left)
-    (c .before .before .before .before .before .before .before .before .before .if3 .left)
-    (c .before .before .before .before .before .before .if4 .left)
-    (c .before .before .before .if5 .left)
-    (c .before .if6 .left)
-    (c .if7 .taken)
+returns-7 c = plan-sink _ _ _ _ _ (c .before .before .before .before .before .before .before .before .before .before .before .before .if1 .left) (c .before .before .before .before .before .before .before .before .before .before .before .if2 .left) (c .before .before .before .before .before .before .before .before .before .if3 .left) (c .before .before .before .before .before .before .if4 .left) (c .before .before .before .if5 .left) (c .before .if6 .left) (c .if7 .taken)
 
 returns-8 : tie.Need-returns-8
-returns-8 c =
-    plan-inner _ _ _ _ _
-    (c .before .before .before .before .before .before .before .before .before .before .before .before .if1 .left)
-    (c .before .before .before .before .before .before .before .before .before .before .before .if2 .left)
-    (c .before .before .before .before .before .before .before .before .before .if3 .left)
-    (c .before .before .before .before .before .before .if4 .left)
-    (c .before .before .before .if5 .left)
-    (c .before .if6 .left)
-    (c .if7 .left)
+returns-8 c = plan-inner _ _ _ _ _ (c .before .before .before .before .before .before .before .before .before .before .before .before .if1 .left) (c .before .before .before .before .before .before .before .before .before .before .before .if2 .left) (c .before .before .before .before .before .before .before .before .before .if3 .left) (c .before .before .before .before .before .before .if4 .left) (c .before .before .before .if5 .left) (c .before .if6 .left) (c .if7 .left)
 
 pub plan-complete-spec : {M : Type 1} → statement M
 plan-complete-spec =
     tie.close
     (tie.spec
     shared-slice-read-entries
-    cast-entries
+    cast-if1
     returns
+    cast-if2
     returns-2
     cast-held
     returns-3
@@ -135,9 +99,9 @@ plan-complete-spec =
     sub-sink
     cast-joins
     returns-5
+    shared-slice-read-accepted
     mul-if6
     add-if6
-    shared-slice-read-if6
     cast-if6
     returns-6
     returns-7

@@ -1,4 +1,5 @@
 use Rattle.fetch.proofs.Laws.{fetch-refused, fetch-filler, fetch-ready, fetch-taken}
+use mathlib.Core.Path.{refl}
 use borrow.Author.Needs.{needs}
 use Rattle.fetch.proofs.fetch_admitted.Statement.{statement}
 use Rattle.fetch.proofs.fetch_admitted.Tie as tie
@@ -9,24 +10,22 @@ plan-fetch-requires c κs = search needs
 enum-known-plan : tie.Need-enum-known-plan
 enum-known-plan c = search needs
 
-refused-requires : tie.Need-refused-requires
-refused-requires c κs = search needs
-
 enum-known-plan-2 : tie.Need-enum-known-plan-2
 enum-known-plan-2 c = search needs
 
-take-task-requires : tie.Need-take-task-requires
-take-task-requires c κs =
-    fetch-ready _ _ _ _ _ _ _ _ _ _ _ (c .before .before .before .before .before .before .plan-fetch .ensures) _ _
+take-head-requires : tie.Need-take-head-requires
+take-head-requires c κs =
+    fetch-ready _ _ _ _ _ _ _ _ _ _ _ (c .before .before .before .before .before .before .plan-fetch .ensures) _
     (c .before .before .before .before .plan2 .given .1)
     (c .before .before .before .before .before .before .before .before .before .before .before .before .before .before .pre .0)
     (c .before .before .before .before .before .before .before .before .before .before .before .before .before .before .pre .1)
 
 after-worker-requires : tie.Need-after-worker-requires
 after-worker-requires c κs = (
-  fetch-filler _ _ _ _ _ _ _ _ _ _ _ (c .before .before .before .before .before .before .before .before .before .before .before .before .plan-fetch .ensures) _ _
-      (c .before .before .before .before .before .before .before .before .before .before .plan2 .given .1),
-  c .before .before .before .before .before .before .before .before .before .before .before .before .before .before .before .before .before .before .before .before .pre .0 .fewWorkers,
+  fetch-filler _ _ _ _ _ _ _ _ _ _ _
+      (c .before .before .before .before .before .before .before .before .before .before .before .before .before .plan-fetch .ensures) _
+      (c .before .before .before .before .before .before .before .before .before .before .before .plan2 .given .1),
+  c .before .before .before .before .before .before .before .before .before .before .before .before .before .before .before .before .before .before .before .before .before .pre .0 .ready .fewWorkers,
 )
 
 same-length : tie.Need-same-length
@@ -39,9 +38,7 @@ same-length-3 : tie.Need-same-length-3
 same-length-3 c = search needs
 
 returns : tie.Need-returns
-returns c =
-    fetch-refused _ _ _ _ _ _ _ _ _ _ _ _ (c .before .before .before .before .plan-fetch .ensures) _ _ (c .before .before .plan .given .1) _
-    (c .refused .ensures)
+returns c = (fetch-refused _ _ _ _ _ _ _ _ _ _ _ (c .before .before .before .plan-fetch .ensures) _ _ (c .before .plan .given .1), tt)
 
 same-length-4 : tie.Need-same-length-4
 same-length-4 c = search needs
@@ -53,11 +50,13 @@ same-length-6 : tie.Need-same-length-6
 same-length-6 c = search needs
 
 returns-2 : tie.Need-returns-2
-returns-2 c =
-    fetch-taken _ _ _ _ _ _ _ _ _ _ _ _
-    (c .before .before .before .before .before .before .before .before .before .before .before .before .before .plan-fetch .ensures) _ _
-    (c .before .before .before .before .before .before .before .before .before .before .before .plan2 .given .1)
-    _ _ _ _ _ (c .before .before .before .before .before .before .take-task .ensures) (c .after-worker .ensures)
+returns-2 c = (
+  fetch-taken _ _ _ _ _ _ _ _ _ _ _
+      (c .before .before .before .before .before .before .before .before .before .before .before .before .before .before .plan-fetch .ensures) _
+      (c .before .before .before .before .before .before .before .before .before .before .before .before .plan2 .given .1)
+      _ _ _ _ (c .before .before .before .before .before .before .before .take-head .ensures) (c .after-worker .ensures),
+  refl,
+)
 
 pub fetch-admitted-spec : {M : Type 1} → statement M
 fetch-admitted-spec =
@@ -65,9 +64,8 @@ fetch-admitted-spec =
     (tie.spec
     plan-fetch-requires
     enum-known-plan
-    refused-requires
     enum-known-plan-2
-    take-task-requires
+    take-head-requires
     after-worker-requires
     same-length
     same-length-2

@@ -1,4 +1,5 @@
 use Rattle.release.proofs.Parts.{advance-last, advance-on}
+use mathlib.Core.Path.{refl}
 use mathlib.Core.Logic.{⊎-elim}
 use borrow.Author.Needs.{needs}
 use Rattle.release.proofs.advanced.Statement.{statement}
@@ -11,11 +12,13 @@ add-read : tie.Need-add-read
 add-read c = search needs
 
 returns : tie.Need-returns
-returns c =
-    ⊎-elim
-    (λ w. advance-last _ _ _ _ _ (w .0 .taken) (w .1) (w .2))
-    (λ w. advance-on _ _ _ _ _ (w .0 .left) (w .1) (w .2))
-    (c .before .if1 .came)
+returns c = (
+  ⊎-elim
+      (λ w. advance-last _ _ _ _ (w .0 .taken) (w .1) (w .2))
+      (λ w. advance-on _ _ _ _ (w .0 .left) (w .1) (w .2))
+      (c .before .if1 .came),
+  refl,
+)
 
 pub advanced-spec : {M : Type 1} → statement M
 advanced-spec = tie.close (tie.spec add-cursor add-read returns)

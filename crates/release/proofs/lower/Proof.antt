@@ -4,17 +4,14 @@ use borrow.Author.Needs.{needs}
 use Rattle.release.proofs.lower.Statement.{statement}
 use Rattle.release.proofs.lower.Tie as tie
 
-slice-read-if1 : tie.Need-slice-read-if1
-slice-read-if1 c = search needs
+slice-read-accepted : tie.Need-slice-read-accepted
+slice-read-accepted c = search needs
 
 cast-if1 : tie.Need-cast-if1
 cast-if1 c = fits-32-64 (c .slice-known3 .given 1)
 
-refused-requires : tie.Need-refused-requires
-refused-requires c κs = search needs
-
 returns : tie.Need-returns
-returns c = lower-refused _ _ _ _ _ _ (c .before .if1 .taken) _ (c .refused .ensures)
+returns c = (lower-refused _ _ _ _ _ (c .if1 .taken), tt)
 
 advanced-requires : tie.Need-advanced-requires
 advanced-requires c κs = search needs
@@ -28,8 +25,11 @@ mul-degrees c = search needs
 slice-write-degrees : tie.Need-slice-write-degrees
 slice-write-degrees c = search needs
 
-count-step-requires : tie.Need-count-step-requires
-count-step-requires c κs = search needs
+add-run : tie.Need-add-run
+add-run c = search needs
+
+slice-write-run : tie.Need-slice-write-run
+slice-write-run c = search needs
 
 same-length : tie.Need-same-length
 same-length c = search needs
@@ -38,26 +38,27 @@ same-length-2 : tie.Need-same-length-2
 same-length-2 c = search needs
 
 returns-2 : tie.Need-returns-2
-returns-2 c =
-    lower-accepted _ _ _ _ _ _
-    (c .before .before .before .before .before .before .before .if1 .left) _
-    (c .before .before .before .before .before .before .before .before .before .before .before .pre .1) _
-    (c .before .before .before .before .before .before .advanced .ensures) _
-    (c .before .before .count-step .ensures)
+returns-2 c = (
+  lower-accepted _ _ _ _ _
+      (c .before .before .before .if1 .left) _
+      (c .before .before .before .before .before .before .before .pre .1) _
+      (c .before .before .advanced .ensures .0),
+  c .before .before .advanced .ensures .1,
+)
 
 pub lower-spec : {M : Type 1} → statement M
 lower-spec =
     tie.close
     (tie.spec
-    slice-read-if1
+    slice-read-accepted
     cast-if1
-    refused-requires
     returns
     advanced-requires
     cast-degrees
     mul-degrees
     slice-write-degrees
-    count-step-requires
+    add-run
+    slice-write-run
     same-length
     same-length-2
     returns-2)

@@ -14,23 +14,17 @@ mul-weight c = search needs
 shared-slice-read-weight : tie.Need-shared-slice-read-weight
 shared-slice-read-weight c = search needs
 
-refused-requires : tie.Need-refused-requires
-refused-requires c κs = search needs
-
 returns : tie.Need-returns
-returns c = place-heavy _ _ _ _ _ _ _ _ _ _ (c .before .if1 .taken) _ (c .refused .ensures)
+returns c = (place-heavy _ _ _ _ _ _ _ _ _ (c .if1 .taken), tt)
 
-slice-read-if2 : tie.Need-slice-read-if2
-slice-read-if2 c = search needs
+slice-read-accepted : tie.Need-slice-read-accepted
+slice-read-accepted c = search needs
 
 cast-if2 : tie.Need-cast-if2
 cast-if2 c = fits-32-64 (c .slice-known5 .given 1)
 
-refused-requires-2 : tie.Need-refused-requires-2
-refused-requires-2 c κs = search needs
-
 returns-2 : tie.Need-returns-2
-returns-2 c = place-refused _ _ _ _ _ _ _ _ _ _ (c .before .before .before .if1 .left) (c .before .if2 .taken) _ (c .refused2 .ensures)
+returns-2 c = (place-refused _ _ _ _ _ _ _ _ _ (c .before .before .if1 .left) (c .if2 .taken), tt)
 
 advanced-requires : tie.Need-advanced-requires
 advanced-requires c κs = search needs
@@ -38,20 +32,20 @@ advanced-requires c κs = search needs
 ring-number-requires : tie.Need-ring-number-requires
 ring-number-requires c κs = search needs
 
-append-in-requires : tie.Need-append-in-requires
-append-in-requires c κs =
-    ring-ready _ _ _ _ _
-    (c .before .before .before .before .before .before .before .before .before .before .before .before .before .before .before .pre .1 .0) _ _ _
-    (c .before .before .before .before .before .before .before .before .before .before .before .before .before .before .before .pre .1 .1)
-    (c .before .before .ring-number .ensures .1) (c .before .before .ring-number .ensures .0)
-
 raise-requires : tie.Need-raise-requires
 raise-requires c κs =
     ring-counter _ _ _ _ _
-    (c .before .before .before .before .before .before .before .before .before .before .before .before .before .before .before .before .before .before .before .before .before .pre .1 .0) _ _ _
-    (c .before .before .before .before .before .before .before .before .before .before .before .before .before .before .before .before .before .before .before .before .before .pre .1 .1)
-    (omega (arith, c .before .before .before .before .before .before .before .before .ring-number .ensures)) _
-    (c .before .before .before .before .before .before .before .before .before .before .before .before .if1 .left)
+    (c .before .before .before .before .before .before .before .before .before .before .before .before .before .before .pre .1 .0) _ _ _ _
+    (c .before .before .before .before .before .before .before .before .before .before .before .before .before .before .pre .1 .1)
+    (omega (arith, c .before .ring-number .ensures)) _
+    (c .before .before .before .before .before .if1 .left)
+
+append-in-requires : tie.Need-append-in-requires
+append-in-requires c κs =
+    ring-ready _ _ _ _ _
+    (c .before .before .before .before .before .before .before .before .before .before .before .before .before .before .before .before .before .before .pre .1 .0) _ _ _ _
+    (c .before .before .before .before .before .before .before .before .before .before .before .before .before .before .before .before .before .before .pre .1 .1)
+    (c .before .before .before .before .before .ring-number .ensures .1) (c .before .before .before .before .before .ring-number .ensures .0)
 
 cast-degrees : tie.Need-cast-degrees
 cast-degrees c = search needs
@@ -67,14 +61,16 @@ slice-write-degrees c =
       c .before .before .before .before .before .before .before .before .before .before .before .before .before .before .before .before .before .before .before .before .before .before .before .before .pre .1 .0 .degrees,
     )
 
-count-step-requires : tie.Need-count-step-requires
-count-step-requires c κs =
+add-run : tie.Need-add-run
+add-run c =
     omega (
       arith,
-      c .before .before .before .before .before .before .before .before .before .before .before .before .before .before .before .before .before .before .before .before .before .before .before .before .before .pre .0 .steps,
-      c .before .before .before .before .before .before .before .before .before .before .before .before .before .before .before .before .before .before .before .before .before .before .before .before .before .pre .0 .run,
-      c .before .before .before .before .before .before .before .before .before .before .before .before .before .before .if2 .left,
+      c .before .before .before .before .before .before .before .before .before .before .before .before .before .before .before .before .before .before .before .before .before .before .before .before .pre .0 .steps,
+      c .before .before .before .before .before .before .before .before .before .before .before .before .before .if2 .left,
     )
+
+slice-write-run : tie.Need-slice-write-run
+slice-write-run c = omega (arith, c .before .before .before .before .before .before .before .before .before .before .before .before .before .before .before .before .before .before .before .before .before .before .before .before .pre .0 .run)
 
 same-length : tie.Need-same-length
 same-length c = search needs
@@ -92,15 +88,16 @@ same-length-5 : tie.Need-same-length-5
 same-length-5 c = search needs
 
 returns-3 : tie.Need-returns-3
-returns-3 c =
-    place-accepted _ _ _ _ _ _ _ _ _ _
-    (c .before .before .before .before .before .before .before .before .before .before .before .before .before .before .before .before .before .before .before .if1 .left)
-    (c .before .before .before .before .before .before .before .before .before .before .before .before .before .before .before .before .before .if2 .left) _
-    (c .before .before .before .before .before .before .before .before .before .before .before .before .before .before .before .ring-number .ensures .0) _ _
-    (c .before .before .before .before .before .before .before .before .before .before .before .before .append-in .ensures) _
-    (c .before .before .before .before .before .before .raise .ensures) _
-    (c .before .before .before .before .before .before .before .before .before .before .before .before .before .before .before .before .advanced .ensures) _
-    (c .before .before .count-step .ensures)
+returns-3 c = (
+  place-accepted _ _ _ _ _ _ _ _ _
+      (c .before .before .before .before .before .before .before .before .before .before .before .before .before .before .before .if1 .left)
+      (c .before .before .before .before .before .before .before .before .before .before .before .before .before .if2 .left) _
+      (c .before .before .before .before .before .before .before .before .before .before .before .ring-number .ensures .0) _ _
+      (c .before .before .before .before .before .append-in .ensures) _
+      (c .before .before .before .before .before .before .before .before .before .raise .ensures) _
+      (c .before .before .before .before .before .before .before .before .before .before .before .before .advanced .ensures .0),
+  c .before .before .before .before .before .before .before .before .before .before .before .before .advanced .ensures .1,
+)
 
 pub place-spec : {M : Type 1} → statement M
 place-spec =
@@ -109,20 +106,19 @@ place-spec =
     cast-weight
     mul-weight
     shared-slice-read-weight
-    refused-requires
     returns
-    slice-read-if2
+    slice-read-accepted
     cast-if2
-    refused-requires-2
     returns-2
     advanced-requires
     ring-number-requires
-    append-in-requires
     raise-requires
+    append-in-requires
     cast-degrees
     mul-degrees
     slice-write-degrees
-    count-step-requires
+    add-run
+    slice-write-run
     same-length
     same-length-2
     same-length-3

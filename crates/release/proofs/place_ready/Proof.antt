@@ -9,9 +9,6 @@ find-owner-requires c κs = search needs
 enum-known-found : tie.Need-enum-known-found
 enum-known-found c = search needs
 
-refused-requires : tie.Need-refused-requires
-refused-requires c κs = search needs
-
 enum-known-found-2 : tie.Need-enum-known-found-2
 enum-known-found-2 c = search needs
 
@@ -21,7 +18,7 @@ place-requires c κs = (
   (
     c .before .before .before .before .before .before .before .before .before .before .before .before .before .before .before .before .before .pre .1,
     owner-takes _ _ _ _ _ _ _
-        (c .before .before .before .before .before .before .before .before .find-owner .ensures) _
+        (c .before .before .before .before .before .before .before .before .find-owner .ensures) _ _
         (c .before .before .before .before .before .before .found2 .given .1),
   ),
 )
@@ -33,11 +30,12 @@ same-length-2 : tie.Need-same-length-2
 same-length-2 c = search needs
 
 returns : tie.Need-returns
-returns c =
-    ready-refused _ _ _ _ _ _ _ _ _ _
-    (c .before .before .before .before .find-owner .ensures) _ _
-    (c .before .before .found .given .1) _
-    (c .refused .ensures)
+returns c = (
+  ready-refused _ _ _ _ _ _ _ _ _
+      (c .before .before .before .find-owner .ensures) _ _
+      (c .before .found .given .1),
+  tt,
+)
 
 same-length-3 : tie.Need-same-length-3
 same-length-3 c = search needs
@@ -55,11 +53,13 @@ same-length-7 : tie.Need-same-length-7
 same-length-7 c = search needs
 
 returns-2 : tie.Need-returns-2
-returns-2 c =
-    ready-placed _ _ _ _ _ _ _ _ _ _
-    (c .before .before .before .before .before .before .before .before .before .before .before .before .before .before .before .before .before .before .find-owner .ensures) _
-    (c .before .before .before .before .before .before .before .before .before .before .before .before .before .before .before .before .found2 .given .1) _ _
-    (c .before .before .before .before .before .before .before .before .before .place .ensures)
+returns-2 c = (
+  ready-placed _ _ _ _ _ _ _ _ _
+      (c .before .before .before .before .before .before .before .before .before .before .before .before .before .before .before .before .before .before .find-owner .ensures) _ _
+      (c .before .before .before .before .before .before .before .before .before .before .before .before .before .before .before .before .found2 .given .1) _ (c .before .before .before .before .before .before .before .before .before .place .result)
+      (c .before .before .before .before .before .before .before .before .before .place .ensures .0),
+  c .before .before .before .before .before .before .before .before .before .place .ensures .1,
+)
 
 pub place-ready-spec : {M : Type 1} → statement M
 place-ready-spec =
@@ -67,7 +67,6 @@ place-ready-spec =
     (tie.spec
     find-owner-requires
     enum-known-found
-    refused-requires
     enum-known-found-2
     place-requires
     same-length

@@ -1,28 +1,22 @@
-use Rattle.release.proofs.Whole.{whole-refused, tables-fit, waiting-goes, ready-goes, whole-none, whole-waiting, whole-ready}
-use Rattle.admission.proofs.Rows.{admission-measured, few-steps}
+use Rattle.release.proofs.Whole.{steps-fit, tables-fit, row-keeps, whole-refused, waiting-goes, ready-goes, whole-none, whole-waiting, whole-ready}
 use native.Mathlib.Omega.{arith}
 use borrow.Author.Needs.{needs}
 use Rattle.release.proofs.release_row.Statement.{statement}
 use Rattle.release.proofs.release_row.Tie as tie
 
-judge-sizes-requires : tie.Need-judge-sizes-requires
-judge-sizes-requires c κs = search needs
-
 admit-requires : tie.Need-admit-requires
-admit-requires c κs = c .judge-sizes .ensures
+admit-requires c κs = search needs
 
 enum-known-admitted : tie.Need-enum-known-admitted
 enum-known-admitted c = search needs
 
-refused-requires : tie.Need-refused-requires
-refused-requires c κs = search needs
-
 returns : tie.Need-returns
-returns c =
-    whole-refused _ _ _ _ _ _ _ _ _
-    (c .before .before .before .before .admit .ensures) _ _
-    (c .before .before .admitted .given .1) _
-    (c .refused .ensures)
+returns c = (
+  whole-refused _ _ _ _ (c .before .before .before .before .before .before .before .before .before .before .before .before .args .judged) _ _ _ _
+      (c .before .before .before .admit .ensures) _ _
+      (c .before .admitted .given .1),
+  tt,
+)
 
 enum-known-admitted-2 : tie.Need-enum-known-admitted-2
 enum-known-admitted-2 c = search needs
@@ -31,39 +25,41 @@ mul-steps : tie.Need-mul-steps
 mul-steps c =
     omega (
       arith,
-      few-steps _ _ _ _
-          (admission-measured _ _ _ _ _ _ _ _ (c .before .before .before .before .admit .ensures) _ (c .before .before .admitted2 .given .1)),
+      steps-fit _ _ _ _ (c .before .before .before .before .before .before .before .before .before .before .before .before .before .args .judged) _ _ _ _
+          (c .before .before .before .before .admit .ensures)
+          (c .before .before .before .before .before .before .before .before .before .before .before .before .before .pre) _
+          (c .before .before .admitted2 .given .1),
     )
 
 add-steps : tie.Need-add-steps
 add-steps c =
     omega (
       arith,
-      few-steps _ _ _ _
-          (admission-measured _ _ _ _ _ _ _ _ (c .before .before .before .before .before .admit .ensures) _ (c .before .before .before .admitted2 .given .1)),
+      steps-fit _ _ _ _ (c .before .before .before .before .before .before .before .before .before .before .before .before .before .before .args .judged) _ _ _ _
+          (c .before .before .before .before .before .admit .ensures)
+          (c .before .before .before .before .before .before .before .before .before .before .before .before .before .before .pre) _
+          (c .before .before .before .admitted2 .given .1),
     )
 
 pick-next-requires : tie.Need-pick-next-requires
 pick-next-requires c κs =
-    tables-fit _ _ _ _ _ _
-    (admission-measured _ _ _ _ _ _ _ _ (c .before .before .before .before .before .before .admit .ensures) _ (c .before .before .before .before .admitted2 .given .1))
-    (c .before .before .before .before .before .before .before .before .before .before .before .before .before .before .before .before .pre)
+    tables-fit _ _ _ _ (c .before .before .before .before .before .before .before .before .before .before .before .before .before .before .before .args .judged) _ _ _ _
+    (c .before .before .before .before .before .before .admit .ensures)
+    (c .before .before .before .before .before .before .before .before .before .before .before .before .before .before .before .pre) _
+    (c .before .before .before .before .admitted2 .given .1)
 
 enum-known-picked : tie.Need-enum-known-picked
 enum-known-picked c = search needs
-
-refused-requires-2 : tie.Need-refused-requires-2
-refused-requires-2 c κs = search needs
 
 enum-known-picked-2 : tie.Need-enum-known-picked-2
 enum-known-picked-2 c = search needs
 
 lower-requires : tie.Need-lower-requires
 lower-requires c κs =
-    waiting-goes _ _ _ _ _ _ _ _ _
-    (c .before .before .before .before .before .before .before .before .before .before .before .before .admit .ensures) _
-    (c .before .before .before .before .before .before .before .before .before .before .admitted2 .given .1)
-    (c .before .before .before .before .before .before .before .before .before .before .before .before .before .before .before .before .before .before .before .before .before .before .pre) _
+    waiting-goes _ _ _ _ (c .before .before .before .before .before .before .before .before .before .before .before .before .before .before .before .before .before .before .before .before .before .args .judged) _ _ _ _
+    (c .before .before .before .before .before .before .before .before .before .before .before .before .admit .ensures)
+    (c .before .before .before .before .before .before .before .before .before .before .before .before .before .before .before .before .before .before .before .before .before .pre) _
+    (c .before .before .before .before .before .before .before .before .before .before .admitted2 .given .1) _
     (c .before .before .before .before .before .pick-next .ensures) _ _
     (c .before .before .before .picked2 .given .1)
 
@@ -72,10 +68,10 @@ enum-known-picked-3 c = search needs
 
 place-ready-requires : tie.Need-place-ready-requires
 place-ready-requires c κs =
-    ready-goes _ _ _ _ _ _ _ _ _
-    (c .before .before .before .before .before .before .before .before .before .before .before .before .before .before .before .admit .ensures) _
-    (c .before .before .before .before .before .before .before .before .before .before .before .before .before .admitted2 .given .1)
-    (c .before .before .before .before .before .before .before .before .before .before .before .before .before .before .before .before .before .before .before .before .before .before .before .before .before .pre) _
+    ready-goes _ _ _ _ (c .before .before .before .before .before .before .before .before .before .before .before .before .before .before .before .before .before .before .before .before .before .before .before .before .args .judged) _ _ _ _
+    (c .before .before .before .before .before .before .before .before .before .before .before .before .before .before .before .admit .ensures)
+    (c .before .before .before .before .before .before .before .before .before .before .before .before .before .before .before .before .before .before .before .before .before .before .before .before .pre) _
+    (c .before .before .before .before .before .before .before .before .before .before .before .before .before .admitted2 .given .1) _
     (c .before .before .before .before .before .before .before .before .pick-next .ensures) _
     (c .before .before .before .before .before .before .picked3 .given .1)
 
@@ -83,14 +79,15 @@ same-length : tie.Need-same-length
 same-length c = search needs
 
 returns-2 : tie.Need-returns-2
-returns-2 c =
-    whole-none _ _ _ _ _ _ _ _ _
-    (c .before .before .before .before .before .before .before .before .before .before .before .admit .ensures) _
-    (c .before .before .before .before .before .before .before .before .before .admitted2 .given .1)
-    (c .before .before .before .before .before .before .before .before .before .before .before .before .before .before .before .before .before .before .before .before .before .pre) _
-    (c .before .before .before .before .pick-next .ensures) _ _
-    (c .before .before .picked .given .1) _
-    (c .refused2 .ensures)
+returns-2 c = (
+  whole-none _ _ _ _ (c .before .before .before .before .before .before .before .before .before .before .before .before .before .before .before .before .before .before .before .args .judged) _ _ _ _
+      (c .before .before .before .before .before .before .before .before .before .before .admit .ensures)
+      (c .before .before .before .before .before .before .before .before .before .before .before .before .before .before .before .before .before .before .before .pre) _
+      (c .before .before .before .before .before .before .before .before .admitted2 .given .1) _
+      (c .before .before .before .pick-next .ensures) _ _
+      (c .before .picked .given .1),
+  tt,
+)
 
 same-length-2 : tie.Need-same-length-2
 same-length-2 c = search needs
@@ -99,14 +96,19 @@ same-length-3 : tie.Need-same-length-3
 same-length-3 c = search needs
 
 returns-3 : tie.Need-returns-3
-returns-3 c =
-    whole-waiting _ _ _ _ _ _ _ _ _
-    (c .before .before .before .before .before .before .before .before .before .before .before .before .before .before .before .before .before .admit .ensures) _
-    (c .before .before .before .before .before .before .before .before .before .before .before .before .before .before .before .admitted2 .given .1)
-    (c .before .before .before .before .before .before .before .before .before .before .before .before .before .before .before .before .before .before .before .before .before .before .before .before .before .before .before .pre) _
-    (c .before .before .before .before .before .before .before .before .before .before .pick-next .ensures) _ _
-    (c .before .before .before .before .before .before .before .before .picked2 .given .1) _ _ _
-    (c .before .before .before .before .lower .ensures)
+returns-3 c = (
+  whole-waiting _ _ _ _ (c .before .before .before .before .before .before .before .before .before .before .before .before .before .before .before .before .before .before .before .before .before .before .before .before .before .before .args .judged) _ _ _ _
+      (c .before .before .before .before .before .before .before .before .before .before .before .before .before .before .before .before .before .admit .ensures)
+      (c .before .before .before .before .before .before .before .before .before .before .before .before .before .before .before .before .before .before .before .before .before .before .before .before .before .before .pre) _
+      (c .before .before .before .before .before .before .before .before .before .before .before .before .before .before .before .admitted2 .given .1) _
+      (c .before .before .before .before .before .before .before .before .before .before .pick-next .ensures) _ _
+      (c .before .before .before .before .before .before .before .before .picked2 .given .1) _ _ (c .before .before .before .before .lower .result)
+      (c .before .before .before .before .lower .ensures .0),
+  row-keeps _ (c .before .before .before .before .before .before .before .before .before .before .before .before .before .before .before .before .before .before .before .before .before .before .before .before .before .before .args .judged) _
+      (c .before .before .before .before .before .before .before .before .before .before .before .before .before .before .before .before .before .admit .ensures) _
+      (c .before .before .before .before .before .before .before .before .before .before .before .before .before .before .before .admitted2 .given .1) (c .before .before .before .before .lower .result)
+      (c .before .before .before .before .lower .ensures .1),
+)
 
 same-length-4 : tie.Need-same-length-4
 same-length-4 c = search needs
@@ -124,30 +126,32 @@ same-length-8 : tie.Need-same-length-8
 same-length-8 c = search needs
 
 returns-4 : tie.Need-returns-4
-returns-4 c =
-    whole-ready _ _ _ _ _ _ _ _ _
-    (c .before .before .before .before .before .before .before .before .before .before .before .before .before .before .before .before .before .before .before .before .before .before .before .before .before .admit .ensures) _
-    (c .before .before .before .before .before .before .before .before .before .before .before .before .before .before .before .before .before .before .before .before .before .before .before .admitted2 .given .1)
-    (c .before .before .before .before .before .before .before .before .before .before .before .before .before .before .before .before .before .before .before .before .before .before .before .before .before .before .before .before .before .before .before .before .before .before .before .pre) _
-    (c .before .before .before .before .before .before .before .before .before .before .before .before .before .before .before .before .before .before .pick-next .ensures) _
-    (c .before .before .before .before .before .before .before .before .before .before .before .before .before .before .before .before .picked3 .given .1) _ _
-    (c .before .before .before .before .before .before .before .before .before .place-ready .ensures)
+returns-4 c = (
+  whole-ready _ _ _ _ (c .before .before .before .before .before .before .before .before .before .before .before .before .before .before .before .before .before .before .before .before .before .before .before .before .before .before .before .before .before .before .before .before .before .before .args .judged) _ _ _ _
+      (c .before .before .before .before .before .before .before .before .before .before .before .before .before .before .before .before .before .before .before .before .before .before .before .before .before .admit .ensures)
+      (c .before .before .before .before .before .before .before .before .before .before .before .before .before .before .before .before .before .before .before .before .before .before .before .before .before .before .before .before .before .before .before .before .before .before .pre) _
+      (c .before .before .before .before .before .before .before .before .before .before .before .before .before .before .before .before .before .before .before .before .before .before .before .admitted2 .given .1) _
+      (c .before .before .before .before .before .before .before .before .before .before .before .before .before .before .before .before .before .before .pick-next .ensures) _
+      (c .before .before .before .before .before .before .before .before .before .before .before .before .before .before .before .before .picked3 .given .1) _ (c .before .before .before .before .before .before .before .before .before .place-ready .result)
+      (c .before .before .before .before .before .before .before .before .before .place-ready .ensures .0),
+  row-keeps _ (c .before .before .before .before .before .before .before .before .before .before .before .before .before .before .before .before .before .before .before .before .before .before .before .before .before .before .before .before .before .before .before .before .before .before .args .judged) _
+      (c .before .before .before .before .before .before .before .before .before .before .before .before .before .before .before .before .before .before .before .before .before .before .before .before .before .admit .ensures) _
+      (c .before .before .before .before .before .before .before .before .before .before .before .before .before .before .before .before .before .before .before .before .before .before .before .admitted2 .given .1) (c .before .before .before .before .before .before .before .before .before .place-ready .result)
+      (c .before .before .before .before .before .before .before .before .before .place-ready .ensures .1),
+)
 
 pub release-row-spec : {M : Type 1} → statement M
 release-row-spec =
     tie.close
     (tie.spec
-    judge-sizes-requires
     admit-requires
     enum-known-admitted
-    refused-requires
     returns
     enum-known-admitted-2
     mul-steps
     add-steps
     pick-next-requires
     enum-known-picked
-    refused-requires-2
     enum-known-picked-2
     lower-requires
     enum-known-picked-3

@@ -31,18 +31,18 @@ enum-known-found c = search needs
 returns-2 : tie.Need-returns-2
 returns-2 c =
     owner-unsound _ _ _ (c .before .before .before .before .before .before .choose .ensures) _ _ _ _ _
-    (c .before .before .before .before .choice .given .1) _ (c .before .before .find-room .ensures) (c .enum-told2 .given .1)
+    (c .before .before .before .before .choice .given .1) _ (c .before .before .find-room .ensures .0) (c .enum-told2 .given .1)
 
 returns-3 : tie.Need-returns-3
 returns-3 c =
     owner-none _ _ _ (c .before .before .before .before .before .before .choose .ensures) _ _ _ _ _
-    (c .before .before .before .before .choice .given .1) _ (c .before .before .find-room .ensures) (c .enum-told3 .given .1)
+    (c .before .before .before .before .choice .given .1) _ (c .before .before .find-room .ensures .0) (c .enum-told3 .given .1)
 
 returns-4 : tie.Need-returns-4
 returns-4 c =
     owner-at _ _ _ (c .before .before .before .before .before .before .before .choose .ensures) _ _ _ _ _
-    (c .before .before .before .before .before .choice .given .1) _ (c .before .before .before .find-room .ensures) _
-    (c .before .found .given .1) (omega arith)
+    (c .before .before .before .before .before .choice .given .1) _ (c .before .before .before .find-room .ensures .0)
+    (c .before .before .before .find-room .ensures .1) _ _ (c .before .found .given .1) (omega arith)
 
 pub find-owner-spec : {M : Type 1} → statement M
 find-owner-spec =

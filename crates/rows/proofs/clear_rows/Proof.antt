@@ -2,7 +2,7 @@
 use Rattle.rows.proofs.Laws.{words-cleared-none, words-cleared-next, words-cleared}
 use Rattle.rows.specs.Rows.{rowsOf, clearedRows}
 use Prim.Native.Nat.{_-_, _≤_}
-use mathlib.Core.Path.{_≡_}
+use mathlib.Core.Path.{_≡_, refl}
 use native.Mathlib.Omega.{arith}
 use borrow.Author.Needs.{needs}
 use lib.ListN.{length}
@@ -15,20 +15,17 @@ Inv-loop rows₀ n cells i₀ rows i = (i ≤ n) × ((length rows ≡ length row
 abbrev μ-loop : tie.MeasureT-loop
 μ-loop rows₀ n cells i₀ rows i = n - i
 
-idle-requires : tie.Need-idle-requires Inv-loop μ-loop
-idle-requires c κs = search needs
-
-cells-of-requires : tie.Need-cells-of-requires Inv-loop μ-loop
-cells-of-requires c κs = search needs
+array-write-cells : tie.Need-array-write-cells Inv-loop μ-loop
+array-write-cells c = search needs
 
 loop-holds : tie.Need-loop-holds Inv-loop μ-loop
 loop-holds c = (omega arith, words-cleared-none _)
 
-mul-cells : tie.Need-mul-cells Inv-loop μ-loop
-mul-cells c = search needs
+mul-t10 : tie.Need-mul-t10 Inv-loop μ-loop
+mul-t10 c = search needs
 
-slice-set-from-cells : tie.Need-slice-set-from-cells Inv-loop μ-loop
-slice-set-from-cells c = omega arith
+slice-set-from-rows : tie.Need-slice-set-from-rows Inv-loop μ-loop
+slice-set-from-rows c = omega arith
 
 add-i : tie.Need-add-i Inv-loop μ-loop
 add-i c = omega arith
@@ -37,10 +34,7 @@ loop-less : tie.Need-loop-less Inv-loop μ-loop
 loop-less c = omega arith
 
 loop-again : tie.Need-loop-again Inv-loop μ-loop
-loop-again c = (
-  omega arith,
-  words-cleared-next _ _ _ (c .before .loop .inv .1) _ _ (omega arith) (c .before .before .cells-of .ensures) (c .before .before .before .idle .ensures),
-)
+loop-again c = (omega arith, words-cleared-next _ _ _ (c .before .loop .inv .1) _ (omega arith) refl)
 
 same-length : tie.Need-same-length Inv-loop μ-loop
 same-length c = c .before .loop .inv .1 .0
@@ -54,11 +48,10 @@ clear-rows-spec =
     (tie.spec
     Inv-loop
     μ-loop
-    idle-requires
-    cells-of-requires
+    array-write-cells
     loop-holds
-    mul-cells
-    slice-set-from-cells
+    mul-t10
+    slice-set-from-rows
     add-i
     loop-less
     loop-again

@@ -1,17 +1,11 @@
-use Rattle.rows.proofs.Laws.{rows-at, rows-out}
+use Rattle.rows.proofs.Laws.{rows-at}
 use native.Mathlib.Omega.{arith}
 use borrow.Author.Needs.{needs}
 use Rattle.rows.proofs.row_at.Statement.{statement}
 use Rattle.rows.proofs.row_at.Tie as tie
 
-cast-i : tie.Need-cast-i
-cast-i c = search needs
-
-idle-requires : tie.Need-idle-requires
-idle-requires c κs = search needs
-
-returns : tie.Need-returns
-returns c = rows-out _ _ _ (c .before .if1 .taken) (c .idle .ensures)
+cast-row-of : tie.Need-cast-row-of
+cast-row-of c = search needs
 
 mul-row-of : tie.Need-mul-row-of
 mul-row-of c = search needs
@@ -22,8 +16,10 @@ shared-slice-copy-out-row-of c = search needs
 row-of-requires : tie.Need-row-of-requires
 row-of-requires c κs = search needs
 
-returns-2 : tie.Need-returns-2
-returns-2 c = rows-at _ _ _ _ (omega arith) (c .row-of .ensures)
+returns : tie.Need-returns
+returns c = rows-at _ _ _ _ (omega arith) (c .row-of .ensures)
 
 pub row-at-spec : {M : Type 1} → statement M
-row-at-spec = tie.close (tie.spec cast-i idle-requires returns mul-row-of shared-slice-copy-out-row-of row-of-requires returns-2)
+row-at-spec =
+    tie.close
+    (tie.spec cast-row-of mul-row-of shared-slice-copy-out-row-of row-of-requires returns)

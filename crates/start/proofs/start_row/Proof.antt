@@ -1,129 +1,64 @@
-use Rattle.start.proofs.Laws.{start-refused, start-damaged, start-accepted}
+use Rattle.start.proofs.Laws.{start-refused, start-damaged, start-accepted, phase-alone}
 use Rattle.admission.proofs.Rows.{admission-measured, few-steps}
 use native.Mathlib.Omega.{arith}
 use borrow.Author.Needs.{needs}
 use Rattle.start.proofs.start_row.Statement.{statement}
 use Rattle.start.proofs.start_row.Tie as tie
 
-judge-sizes-requires : tie.Need-judge-sizes-requires
-judge-sizes-requires c κs = search needs
-
 admit-requires : tie.Need-admit-requires
-admit-requires c κs = c .judge-sizes .ensures
+admit-requires c κs = search needs
 
 enum-known-admitted : tie.Need-enum-known-admitted
 enum-known-admitted c = search needs
 
-refused-requires : tie.Need-refused-requires
-refused-requires c κs = search needs
-
 returns : tie.Need-returns
-returns c =
-    λ m e h.
-    start-refused _ _ _ _ _ _ _
-    (c .before .before .before .before .admit .ensures)
-    _ m e h _ _
-    (c .before .before .admitted .given .1) _ _
-    (c .refused .ensures)
+returns c = (start-refused _ _ _ _ _ (c .before .before .before .before .before .args .judged) _ (c .before .before .before .admit .ensures) _ _ _ (c .before .admitted .given .1), tt)
 
 enum-known-admitted-2 : tie.Need-enum-known-admitted-2
 enum-known-admitted-2 c = search needs
 
 slice-read-accepted : tie.Need-slice-read-accepted
-slice-read-accepted c =
-    omega (
-      arith,
-      (admission-measured _ _ _ _ _ _ _ _
-          (c .before .before .before .before .admit .ensures) _
-          (c .before .before .admitted2 .given .1))
-          .run,
-      c .before .before .before .before .before .before .before .pre,
-    )
+slice-read-accepted c = omega (arith, (admission-measured _ _ _ _ _ _ (c .before .before .before .before .before .before .args .judged) (c .before .before .before .before .before .before .pre .0) _ (c .before .before .before .before .admit .ensures) _ (c .before .before .admitted2 .given .1)) .run, c .before .before .before .before .before .before .pre .1)
 
 mul-if1 : tie.Need-mul-if1
-mul-if1 c =
-    omega (
-      arith,
-      (admission-measured _ _ _ _ _ _ _ _
-          (c .before .before .before .before .before .admit .ensures) _
-          (c .before .before .before .admitted2 .given .1))
-          .fewTasks,
-    )
+mul-if1 c = omega (arith, (admission-measured _ _ _ _ _ _ (c .before .before .before .before .before .before .before .args .judged) (c .before .before .before .before .before .before .before .pre .0) _ (c .before .before .before .before .before .admit .ensures) _ (c .before .before .before .admitted2 .given .1)) .fewTasks)
 
 add-if1 : tie.Need-add-if1
-add-if1 c =
-    omega (
-      arith,
-      few-steps _ _ _ _ (admission-measured _ _ _ _ _ _ _ _
-          (c .before .before .before .before .before .before .admit .ensures) _
-          (c .before .before .before .before .admitted2 .given .1)),
-    )
+add-if1 c = omega (arith, few-steps _ _ _ _ (admission-measured _ _ _ _ _ _ (c .before .before .before .before .before .before .before .before .args .judged) (c .before .before .before .before .before .before .before .before .pre .0) _ (c .before .before .before .before .before .before .admit .ensures) _ (c .before .before .before .before .admitted2 .given .1)))
 
 cast-if1 : tie.Need-cast-if1
-cast-if1 c =
-    omega (arith, c .before .before .slice-known2 .given 1)
-
-refused-requires-2 : tie.Need-refused-requires-2
-refused-requires-2 c κs = search needs
+cast-if1 c = omega (arith, c .before .before .slice-known2 .given 1)
 
 returns-2 : tie.Need-returns-2
-returns-2 c =
-    λ m e h.
-    start-damaged _ _ _ _ _ _ _
-    (c .before .before .before .before .before .before .before .before .admit .ensures)
-    _ m e h _
-    (c .before .before .before .before .before .before .admitted2 .given .1)
-    (c .before .if1 .taken) _ _
-    (c .refused2 .ensures)
+returns-2 c = (start-damaged _ _ _ _ _ (c .before .before .before .before .before .before .before .before .before .args .judged) _ (c .before .before .before .before .before .before .before .admit .ensures) _ _ (c .before .before .before .before .before .admitted2 .given .1) (c .if1 .taken), tt)
 
 add-run : tie.Need-add-run
-add-run c =
-    omega (
-      arith,
-      few-steps _ _ _ _ (admission-measured _ _ _ _ _ _ _ _
-          (c .before .before .before .before .before .before .before .admit .ensures) _
-          (c .before .before .before .before .before .admitted2 .given .1)),
-      c .if1 .left,
-    )
+add-run c = omega (arith, few-steps _ _ _ _ (admission-measured _ _ _ _ _ _ (c .before .before .before .before .before .before .before .before .before .args .judged) (c .before .before .before .before .before .before .before .before .before .pre .0) _ (c .before .before .before .before .before .before .before .admit .ensures) _ (c .before .before .before .before .before .admitted2 .given .1)), c .if1 .left)
 
 slice-write-run : tie.Need-slice-write-run
-slice-write-run c =
-    omega (
-      arith,
-      (admission-measured _ _ _ _ _ _ _ _
-          (c .before .before .before .before .before .before .before .admit .ensures) _
-          (c .before .before .before .before .before .admitted2 .given .1))
-          .run,
-      c .before .before .before .before .before .before .before .before .before .before .pre,
-    )
+slice-write-run c = omega (arith, (admission-measured _ _ _ _ _ _ (c .before .before .before .before .before .before .before .before .before .args .judged) (c .before .before .before .before .before .before .before .before .before .pre .0) _ (c .before .before .before .before .before .before .before .admit .ensures) _ (c .before .before .before .before .before .admitted2 .given .1)) .run, c .before .before .before .before .before .before .before .before .before .pre .1)
 
 same-length : tie.Need-same-length
 same-length c = search needs
 
 returns-3 : tie.Need-returns-3
-returns-3 c =
-    λ m e h.
-    start-accepted _ _ _ _ _ _ _
-    (c .before .before .before .before .before .before .before .before .admit .ensures)
-    _ m e h _
-    (c .before .before .before .before .before .before .admitted2 .given .1)
-    (c .before .if1 .left)
+returns-3 c = (
+  start-accepted _ _ _ _ _ (c .before .before .before .before .before .before .before .before .before .args .judged) _ (c .before .before .before .before .before .before .before .admit .ensures) _ _ (c .before .before .before .before .before .admitted2 .given .1) (c .if1 .left),
+  phase-alone _ (c .before .before .before .before .before .before .before .before .before .args .judged) _ (c .before .before .before .before .before .before .before .admit .ensures) _ (c .before .before .before .before .before .admitted2 .given .1),
+)
 
 pub start-row-spec : {M : Type 1} → statement M
 start-row-spec =
     tie.close
     (tie.spec
-    judge-sizes-requires
     admit-requires
     enum-known-admitted
-    refused-requires
     returns
     enum-known-admitted-2
     slice-read-accepted
     mul-if1
     add-if1
     cast-if1
-    refused-requires-2
     returns-2
     add-run
     slice-write-run
