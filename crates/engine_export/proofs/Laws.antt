@@ -1,4 +1,4 @@
--- A reply is what its answer says, whatever the answer comes from.
+-- A reply is what its answer says, beside the memory that the call leaves; the calls are made with the engine's limits.
 use Prim.Native.Nat.{ℕ}
 use mathlib.Core.Path.{_≡_, ap}
 use Rattle.task.specs.Types.{engine}
@@ -10,16 +10,13 @@ use Rattle.rules.specs.Memory.{Mem}
 use Rattle.rules.specs.Begin.{begin}
 use Rattle.rules.specs.Steps.{step}
 use Rattle.rules.specs.Plans.{resultOf}
-use Rattle.replies.specs.declared.Reply.{Reply}
-use Rattle.replies.specs.declared.StepReply.{StepReply}
-use Rattle.replies.specs.Replies.{replyOf, stepReplyOf}
 use Rattle.engine_export.specs.Replies.{replied}
 
--- the calls are made with the engine's limits
-module _ (limits : Limits) (own : limits ≡ engine) (p k : ℕ) (m m′ : Mem) where
-  pub begin-reply : (r : Reply) (a : Answer) → r ≡ replyOf a → resultOf a m′ ≡ begin limits p k m → resultOf r m′ ≡ replied replyOf (begin engine p k m)
-  begin-reply r a e q = rw (e, ← own) (ap (replied replyOf) q)
+module _ {R : Type 0} (limits : Limits) (p k : ℕ) where
+  pub step-replied : (reply : StepAnswer → R) (i : ℕ) (s : Step) (m m′ : Mem) (a : StepAnswer) (r : R)
+      → limits ≡ engine → resultOf a m′ ≡ step limits p k i s m → r ≡ reply a → resultOf r m′ ≡ replied reply (step engine p k i s m)
+  step-replied reply i s m m′ a r e made said = rw said (ap (replied reply) (rw e at made))
 
-  pub step-reply : (s : Step) (i : ℕ) (r : StepReply) (a : StepAnswer) → r ≡ stepReplyOf a → resultOf a m′ ≡ step limits p k i s m
-      → resultOf r m′ ≡ replied stepReplyOf (step engine p k i s m)
-  step-reply s i r a e q = rw (e, ← own) (ap (replied stepReplyOf) q)
+  pub begin-replied : (reply : Answer → R) (m m′ : Mem) (a : Answer) (r : R)
+      → limits ≡ engine → resultOf a m′ ≡ begin limits p k m → r ≡ reply a → resultOf r m′ ≡ replied reply (begin engine p k m)
+  begin-replied reply m m′ a r e made said = rw said (ap (replied reply) (rw e at made))

@@ -1,18 +1,18 @@
 // The engine for C and Rust: lists as pointer and length, all those of a run in document 01's order, then P, K and, for a step, the
-// worker. A call answers the number and the detail, 0 and 0 where it accepts; a step answers its outcome too.
+// worker. A row is lent as its cell of six words, the same memory as a `Row`. A call answers the number and the detail, 0 and 0 where it
+// accepts; a step answers its outcome too.
 ghost use mathlib.Core.Path.{_≡_};
 ghost use Rattle.task.specs.Types.{engine};
 ghost use Rattle.task.specs.declared.Step.{Step};
-ghost use Rattle.rules.specs.Memory.{memOf};
 ghost use Rattle.rules.specs.Begin.{begin};
 ghost use Rattle.rules.specs.Steps.{step};
 ghost use Rattle.rules.specs.Plans.{resultOf};
+ghost use Rattle.engine.specs.Engine.{cellMem};
 ghost use Rattle.replies.specs.Replies.{replyOf, stepReplyOf};
 ghost use Rattle.engine_export.specs.Replies.{replied};
 use replies::Reply;
 use replies::StepReply;
 use task::Limits;
-use task::Row;
 use task::WorkerId;
 
 #[no_mangle]
@@ -29,13 +29,24 @@ pub extern "C" fn yolluvek_begin(
     buffers: &mut [u32],
     executed: &mut [u32],
     run: &mut [u32],
-    rows: &mut [Row],
+    rows: &mut [[u32; 6]],
     p: usize,
     k: usize,
 ) -> Reply
-    ensures { λ r. ⌜ resultOf r (memOf (now (weights .entry)) (now («pred_starts» .entry)) (now (preds .entry)) (now («succ_starts» .exit)) (now (succs .exit)) (now (degrees .exit)) (now (rings .exit)) (now (ends .exit)) (now (counters .exit)) (now (buffers .exit)) (now (executed .exit)) (now (run .exit)) (now (rows .exit))) ≡ replied replyOf (begin engine p k (memOf (now (weights .entry)) (now («pred_starts» .entry)) (now (preds .entry)) (now («succ_starts» .entry)) (now (succs .entry)) (now (degrees .entry)) (now (rings .entry)) (now (ends .entry)) (now (counters .entry)) (now (buffers .entry)) (now (executed .entry)) (now (run .entry)) (now (rows .entry)))) ⌝ }
+    ensures { λ r. ⌜
+        resultOf r
+        (cellMem (now (weights .entry)) (now («pred_starts» .entry)) (now (preds .entry)) (now («succ_starts» .exit))
+        (now (succs .exit)) (now (degrees .exit)) (now (rings .exit)) (now (ends .exit))
+        (now (counters .exit)) (now (buffers .exit)) (now (executed .exit)) (now (run .exit))
+        (now (rows .exit)))
+        ≡ replied replyOf (begin engine p k
+        (cellMem (now (weights .entry)) (now («pred_starts» .entry)) (now (preds .entry)) (now («succ_starts» .entry))
+        (now (succs .entry)) (now (degrees .entry)) (now (rings .entry)) (now (ends .entry))
+        (now (counters .entry)) (now (buffers .entry)) (now (executed .entry)) (now (run .entry))
+        (now (rows .entry))))
+        ⌝ }
 {
-    let answer = engine_ref::begin(
+    let answer = engine::begin(
         Limits::engine(),
         weights,
         pred_starts,
@@ -70,14 +81,25 @@ pub extern "C" fn yolluvek_fetch(
     buffers: &[u32],
     executed: &[u32],
     run: &mut [u32],
-    rows: &mut [Row],
+    rows: &mut [[u32; 6]],
     p: usize,
     k: usize,
     worker: u32,
 ) -> StepReply
-    ensures { λ r. ⌜ resultOf r (memOf (now (weights .entry)) (now («pred_starts» .entry)) (now (preds .entry)) (now («succ_starts» .entry)) (now (succs .entry)) (now (degrees .entry)) (now (rings .entry)) (now (ends .exit)) (now (counters .exit)) (now (buffers .entry)) (now (executed .entry)) (now (run .exit)) (now (rows .exit))) ≡ replied stepReplyOf (step engine p k worker Step.Fetch (memOf (now (weights .entry)) (now («pred_starts» .entry)) (now (preds .entry)) (now («succ_starts» .entry)) (now (succs .entry)) (now (degrees .entry)) (now (rings .entry)) (now (ends .entry)) (now (counters .entry)) (now (buffers .entry)) (now (executed .entry)) (now (run .entry)) (now (rows .entry)))) ⌝ }
+    ensures { λ r. ⌜
+        resultOf r
+        (cellMem (now (weights .entry)) (now («pred_starts» .entry)) (now (preds .entry)) (now («succ_starts» .entry))
+        (now (succs .entry)) (now (degrees .entry)) (now (rings .entry)) (now (ends .exit))
+        (now (counters .exit)) (now (buffers .entry)) (now (executed .entry)) (now (run .exit))
+        (now (rows .exit)))
+        ≡ replied stepReplyOf (step engine p k worker Step.Fetch
+        (cellMem (now (weights .entry)) (now («pred_starts» .entry)) (now (preds .entry)) (now («succ_starts» .entry))
+        (now (succs .entry)) (now (degrees .entry)) (now (rings .entry)) (now (ends .entry))
+        (now (counters .entry)) (now (buffers .entry)) (now (executed .entry)) (now (run .entry))
+        (now (rows .entry))))
+        ⌝ }
 {
-    let answer = engine_ref::fetch(
+    let answer = engine::fetch(
         Limits::engine(),
         weights,
         pred_starts,
@@ -113,14 +135,25 @@ pub extern "C" fn yolluvek_start(
     buffers: &[u32],
     executed: &[u32],
     run: &mut [u32],
-    rows: &mut [Row],
+    rows: &mut [[u32; 6]],
     p: usize,
     k: usize,
     worker: u32,
 ) -> StepReply
-    ensures { λ r. ⌜ resultOf r (memOf (now (weights .entry)) (now («pred_starts» .entry)) (now (preds .entry)) (now («succ_starts» .entry)) (now (succs .entry)) (now (degrees .entry)) (now (rings .entry)) (now (ends .entry)) (now (counters .entry)) (now (buffers .entry)) (now (executed .entry)) (now (run .exit)) (now (rows .exit))) ≡ replied stepReplyOf (step engine p k worker Step.Start (memOf (now (weights .entry)) (now («pred_starts» .entry)) (now (preds .entry)) (now («succ_starts» .entry)) (now (succs .entry)) (now (degrees .entry)) (now (rings .entry)) (now (ends .entry)) (now (counters .entry)) (now (buffers .entry)) (now (executed .entry)) (now (run .entry)) (now (rows .entry)))) ⌝ }
+    ensures { λ r. ⌜
+        resultOf r
+        (cellMem (now (weights .entry)) (now («pred_starts» .entry)) (now (preds .entry)) (now («succ_starts» .entry))
+        (now (succs .entry)) (now (degrees .entry)) (now (rings .entry)) (now (ends .entry))
+        (now (counters .entry)) (now (buffers .entry)) (now (executed .entry)) (now (run .exit))
+        (now (rows .exit)))
+        ≡ replied stepReplyOf (step engine p k worker Step.Start
+        (cellMem (now (weights .entry)) (now («pred_starts» .entry)) (now (preds .entry)) (now («succ_starts» .entry))
+        (now (succs .entry)) (now (degrees .entry)) (now (rings .entry)) (now (ends .entry))
+        (now (counters .entry)) (now (buffers .entry)) (now (executed .entry)) (now (run .entry))
+        (now (rows .entry))))
+        ⌝ }
 {
-    let answer = engine_ref::start(
+    let answer = engine::start(
         Limits::engine(),
         weights,
         pred_starts,
@@ -156,14 +189,25 @@ pub extern "C" fn yolluvek_complete(
     buffers: &mut [u32],
     executed: &mut [u32],
     run: &mut [u32],
-    rows: &mut [Row],
+    rows: &mut [[u32; 6]],
     p: usize,
     k: usize,
     worker: u32,
 ) -> StepReply
-    ensures { λ r. ⌜ resultOf r (memOf (now (weights .entry)) (now («pred_starts» .entry)) (now (preds .entry)) (now («succ_starts» .entry)) (now (succs .entry)) (now (degrees .entry)) (now (rings .entry)) (now (ends .entry)) (now (counters .entry)) (now (buffers .exit)) (now (executed .exit)) (now (run .exit)) (now (rows .exit))) ≡ replied stepReplyOf (step engine p k worker Step.Complete (memOf (now (weights .entry)) (now («pred_starts» .entry)) (now (preds .entry)) (now («succ_starts» .entry)) (now (succs .entry)) (now (degrees .entry)) (now (rings .entry)) (now (ends .entry)) (now (counters .entry)) (now (buffers .entry)) (now (executed .entry)) (now (run .entry)) (now (rows .entry)))) ⌝ }
+    ensures { λ r. ⌜
+        resultOf r
+        (cellMem (now (weights .entry)) (now («pred_starts» .entry)) (now (preds .entry)) (now («succ_starts» .entry))
+        (now (succs .entry)) (now (degrees .entry)) (now (rings .entry)) (now (ends .entry))
+        (now (counters .entry)) (now (buffers .exit)) (now (executed .exit)) (now (run .exit))
+        (now (rows .exit)))
+        ≡ replied stepReplyOf (step engine p k worker Step.Complete
+        (cellMem (now (weights .entry)) (now («pred_starts» .entry)) (now (preds .entry)) (now («succ_starts» .entry))
+        (now (succs .entry)) (now (degrees .entry)) (now (rings .entry)) (now (ends .entry))
+        (now (counters .entry)) (now (buffers .entry)) (now (executed .entry)) (now (run .entry))
+        (now (rows .entry))))
+        ⌝ }
 {
-    let answer = engine_ref::complete(
+    let answer = engine::complete(
         Limits::engine(),
         weights,
         pred_starts,
@@ -199,14 +243,25 @@ pub extern "C" fn yolluvek_release(
     buffers: &[u32],
     executed: &[u32],
     run: &mut [u32],
-    rows: &mut [Row],
+    rows: &mut [[u32; 6]],
     p: usize,
     k: usize,
     worker: u32,
 ) -> StepReply
-    ensures { λ r. ⌜ resultOf r (memOf (now (weights .entry)) (now («pred_starts» .entry)) (now (preds .entry)) (now («succ_starts» .entry)) (now (succs .entry)) (now (degrees .exit)) (now (rings .exit)) (now (ends .exit)) (now (counters .exit)) (now (buffers .entry)) (now (executed .entry)) (now (run .exit)) (now (rows .exit))) ≡ replied stepReplyOf (step engine p k worker Step.Release (memOf (now (weights .entry)) (now («pred_starts» .entry)) (now (preds .entry)) (now («succ_starts» .entry)) (now (succs .entry)) (now (degrees .entry)) (now (rings .entry)) (now (ends .entry)) (now (counters .entry)) (now (buffers .entry)) (now (executed .entry)) (now (run .entry)) (now (rows .entry)))) ⌝ }
+    ensures { λ r. ⌜
+        resultOf r
+        (cellMem (now (weights .entry)) (now («pred_starts» .entry)) (now (preds .entry)) (now («succ_starts» .entry))
+        (now (succs .entry)) (now (degrees .exit)) (now (rings .exit)) (now (ends .exit))
+        (now (counters .exit)) (now (buffers .entry)) (now (executed .entry)) (now (run .exit))
+        (now (rows .exit)))
+        ≡ replied stepReplyOf (step engine p k worker Step.Release
+        (cellMem (now (weights .entry)) (now («pred_starts» .entry)) (now (preds .entry)) (now («succ_starts» .entry))
+        (now (succs .entry)) (now (degrees .entry)) (now (rings .entry)) (now (ends .entry))
+        (now (counters .entry)) (now (buffers .entry)) (now (executed .entry)) (now (run .entry))
+        (now (rows .entry))))
+        ⌝ }
 {
-    let answer = engine_ref::release(
+    let answer = engine::release(
         Limits::engine(),
         weights,
         pred_starts,

@@ -1,6 +1,6 @@
-// The product's calls, lent all lists of a run and the numbers P and K, the worker rows as one list of records: a step reads the worker's
-// row, takes the step by value, and stores the row back; begin clears all rows. A call lends mutably what its rule writes; the other lists
-// keep their words by their type.
+// The library's calls in document 01's form, lent all lists of a run and the numbers P and K, the worker rows as one list of records: a step
+// reads the worker's row, takes the step by value, and stores the row that is then the worker's; begin clears all rows. A call lends
+// mutably what its rule writes; the other lists keep their words by their type.
 ghost use mathlib.Core.Path.{_≡_};
 ghost use Rattle.task.specs.declared.Step.{Step};
 ghost use Rattle.rules.specs.Memory.{memOf};
@@ -33,7 +33,18 @@ pub fn fetch(
     k: usize,
     worker: WorkerId,
 ) -> StepAnswer
-    ensures { λ r. ⌜ resultOf r (memOf (now (weights .entry)) (now («pred_starts» .entry)) (now (preds .entry)) (now («succ_starts» .entry)) (now (succs .entry)) (now (degrees .entry)) (now (rings .entry)) (now (ends .exit)) (now (counters .exit)) (now (buffers .entry)) (now (executed .entry)) (now (run .exit)) (now (rows .exit))) ≡ step limits p k (worker .0) Step.Fetch (memOf (now (weights .entry)) (now («pred_starts» .entry)) (now (preds .entry)) (now («succ_starts» .entry)) (now (succs .entry)) (now (degrees .entry)) (now (rings .entry)) (now (ends .entry)) (now (counters .entry)) (now (buffers .entry)) (now (executed .entry)) (now (run .entry)) (now (rows .entry))) ⌝ }
+    ensures { λ r. ⌜
+        resultOf r
+        (memOf (now (weights .entry)) (now («pred_starts» .entry)) (now (preds .entry)) (now («succ_starts» .entry))
+        (now (succs .entry)) (now (degrees .entry)) (now (rings .entry)) (now (ends .exit))
+        (now (counters .exit)) (now (buffers .entry)) (now (executed .entry)) (now (run .exit))
+        (now (rows .exit)))
+        ≡ step limits p k (worker .0) Step.Fetch
+        (memOf (now (weights .entry)) (now («pred_starts» .entry)) (now (preds .entry)) (now («succ_starts» .entry))
+        (now (succs .entry)) (now (degrees .entry)) (now (rings .entry)) (now (ends .entry))
+        (now (counters .entry)) (now (buffers .entry)) (now (executed .entry)) (now (run .entry))
+        (now (rows .entry)))
+        ⌝ }
 {
     let sizes = Sizes {
         weights: weights.len(),
@@ -50,10 +61,11 @@ pub fn fetch(
         run: run.len(),
         rows: rows.len(),
     };
+    let judged = admission::judge(limits, sizes, p, k, worker);
     let row = row_list::row_at(rows, worker);
     let stepped = fetch::fetch_row(
-        limits,
         sizes,
+        judged,
         p,
         k,
         worker,
@@ -64,8 +76,8 @@ pub fn fetch(
         counters,
         run,
     );
-    row_list::store_row(rows, worker, stepped.row);
-    stepped.answer
+    row_list::store_row(rows, worker, admission::row_after(stepped, row));
+    admission::answer_of(stepped)
 }
 
 pub fn start(
@@ -87,7 +99,18 @@ pub fn start(
     k: usize,
     worker: WorkerId,
 ) -> StepAnswer
-    ensures { λ r. ⌜ resultOf r (memOf (now (weights .entry)) (now («pred_starts» .entry)) (now (preds .entry)) (now («succ_starts» .entry)) (now (succs .entry)) (now (degrees .entry)) (now (rings .entry)) (now (ends .entry)) (now (counters .entry)) (now (buffers .entry)) (now (executed .entry)) (now (run .exit)) (now (rows .exit))) ≡ step limits p k (worker .0) Step.Start (memOf (now (weights .entry)) (now («pred_starts» .entry)) (now (preds .entry)) (now («succ_starts» .entry)) (now (succs .entry)) (now (degrees .entry)) (now (rings .entry)) (now (ends .entry)) (now (counters .entry)) (now (buffers .entry)) (now (executed .entry)) (now (run .entry)) (now (rows .entry))) ⌝ }
+    ensures { λ r. ⌜
+        resultOf r
+        (memOf (now (weights .entry)) (now («pred_starts» .entry)) (now (preds .entry)) (now («succ_starts» .entry))
+        (now (succs .entry)) (now (degrees .entry)) (now (rings .entry)) (now (ends .entry))
+        (now (counters .entry)) (now (buffers .entry)) (now (executed .entry)) (now (run .exit))
+        (now (rows .exit)))
+        ≡ step limits p k (worker .0) Step.Start
+        (memOf (now (weights .entry)) (now («pred_starts» .entry)) (now (preds .entry)) (now («succ_starts» .entry))
+        (now (succs .entry)) (now (degrees .entry)) (now (rings .entry)) (now (ends .entry))
+        (now (counters .entry)) (now (buffers .entry)) (now (executed .entry)) (now (run .entry))
+        (now (rows .entry)))
+        ⌝ }
 {
     let sizes = Sizes {
         weights: weights.len(),
@@ -104,10 +127,11 @@ pub fn start(
         run: run.len(),
         rows: rows.len(),
     };
+    let judged = admission::judge(limits, sizes, p, k, worker);
     let row = row_list::row_at(rows, worker);
-    let stepped = start::start_row(limits, sizes, p, k, worker, row, run);
-    row_list::store_row(rows, worker, stepped.row);
-    stepped.answer
+    let stepped = start::start_row(sizes, judged, p, k, worker, row, run);
+    row_list::store_row(rows, worker, admission::row_after(stepped, row));
+    admission::answer_of(stepped)
 }
 
 pub fn complete(
@@ -129,7 +153,18 @@ pub fn complete(
     k: usize,
     worker: WorkerId,
 ) -> StepAnswer
-    ensures { λ r. ⌜ resultOf r (memOf (now (weights .entry)) (now («pred_starts» .entry)) (now (preds .entry)) (now («succ_starts» .entry)) (now (succs .entry)) (now (degrees .entry)) (now (rings .entry)) (now (ends .entry)) (now (counters .entry)) (now (buffers .exit)) (now (executed .exit)) (now (run .exit)) (now (rows .exit))) ≡ step limits p k (worker .0) Step.Complete (memOf (now (weights .entry)) (now («pred_starts» .entry)) (now (preds .entry)) (now («succ_starts» .entry)) (now (succs .entry)) (now (degrees .entry)) (now (rings .entry)) (now (ends .entry)) (now (counters .entry)) (now (buffers .entry)) (now (executed .entry)) (now (run .entry)) (now (rows .entry))) ⌝ }
+    ensures { λ r. ⌜
+        resultOf r
+        (memOf (now (weights .entry)) (now («pred_starts» .entry)) (now (preds .entry)) (now («succ_starts» .entry))
+        (now (succs .entry)) (now (degrees .entry)) (now (rings .entry)) (now (ends .entry))
+        (now (counters .entry)) (now (buffers .exit)) (now (executed .exit)) (now (run .exit))
+        (now (rows .exit)))
+        ≡ step limits p k (worker .0) Step.Complete
+        (memOf (now (weights .entry)) (now («pred_starts» .entry)) (now (preds .entry)) (now («succ_starts» .entry))
+        (now (succs .entry)) (now (degrees .entry)) (now (rings .entry)) (now (ends .entry))
+        (now (counters .entry)) (now (buffers .entry)) (now (executed .entry)) (now (run .entry))
+        (now (rows .entry)))
+        ⌝ }
 {
     let sizes = Sizes {
         weights: weights.len(),
@@ -146,10 +181,11 @@ pub fn complete(
         run: run.len(),
         rows: rows.len(),
     };
+    let judged = admission::judge(limits, sizes, p, k, worker);
     let row = row_list::row_at(rows, worker);
     let stepped = complete::complete_row(
-        limits,
         sizes,
+        judged,
         p,
         k,
         worker,
@@ -159,8 +195,8 @@ pub fn complete(
         executed,
         run,
     );
-    row_list::store_row(rows, worker, stepped.row);
-    stepped.answer
+    row_list::store_row(rows, worker, admission::row_after(stepped, row));
+    admission::answer_of(stepped)
 }
 
 pub fn release(
@@ -182,7 +218,18 @@ pub fn release(
     k: usize,
     worker: WorkerId,
 ) -> StepAnswer
-    ensures { λ r. ⌜ resultOf r (memOf (now (weights .entry)) (now («pred_starts» .entry)) (now (preds .entry)) (now («succ_starts» .entry)) (now (succs .entry)) (now (degrees .exit)) (now (rings .exit)) (now (ends .exit)) (now (counters .exit)) (now (buffers .entry)) (now (executed .entry)) (now (run .exit)) (now (rows .exit))) ≡ step limits p k (worker .0) Step.Release (memOf (now (weights .entry)) (now («pred_starts» .entry)) (now (preds .entry)) (now («succ_starts» .entry)) (now (succs .entry)) (now (degrees .entry)) (now (rings .entry)) (now (ends .entry)) (now (counters .entry)) (now (buffers .entry)) (now (executed .entry)) (now (run .entry)) (now (rows .entry))) ⌝ }
+    ensures { λ r. ⌜
+        resultOf r
+        (memOf (now (weights .entry)) (now («pred_starts» .entry)) (now (preds .entry)) (now («succ_starts» .entry))
+        (now (succs .entry)) (now (degrees .exit)) (now (rings .exit)) (now (ends .exit))
+        (now (counters .exit)) (now (buffers .entry)) (now (executed .entry)) (now (run .exit))
+        (now (rows .exit)))
+        ≡ step limits p k (worker .0) Step.Release
+        (memOf (now (weights .entry)) (now («pred_starts» .entry)) (now (preds .entry)) (now («succ_starts» .entry))
+        (now (succs .entry)) (now (degrees .entry)) (now (rings .entry)) (now (ends .entry))
+        (now (counters .entry)) (now (buffers .entry)) (now (executed .entry)) (now (run .entry))
+        (now (rows .entry)))
+        ⌝ }
 {
     let sizes = Sizes {
         weights: weights.len(),
@@ -199,10 +246,11 @@ pub fn release(
         run: run.len(),
         rows: rows.len(),
     };
+    let judged = admission::judge(limits, sizes, p, k, worker);
     let row = row_list::row_at(rows, worker);
     let stepped = release::release_row(
-        limits,
         sizes,
+        judged,
         p,
         k,
         worker,
@@ -217,8 +265,8 @@ pub fn release(
         buffers,
         run,
     );
-    row_list::store_row(rows, worker, stepped.row);
-    stepped.answer
+    row_list::store_row(rows, worker, admission::row_after(stepped, row));
+    admission::answer_of(stepped)
 }
 
 pub fn begin(
@@ -239,7 +287,18 @@ pub fn begin(
     p: usize,
     k: usize,
 ) -> Answer
-    ensures { λ r. ⌜ resultOf r (memOf (now (weights .entry)) (now («pred_starts» .entry)) (now (preds .entry)) (now («succ_starts» .exit)) (now (succs .exit)) (now (degrees .exit)) (now (rings .exit)) (now (ends .exit)) (now (counters .exit)) (now (buffers .exit)) (now (executed .exit)) (now (run .exit)) (now (rows .exit))) ≡ begin limits p k (memOf (now (weights .entry)) (now («pred_starts» .entry)) (now (preds .entry)) (now («succ_starts» .entry)) (now (succs .entry)) (now (degrees .entry)) (now (rings .entry)) (now (ends .entry)) (now (counters .entry)) (now (buffers .entry)) (now (executed .entry)) (now (run .entry)) (now (rows .entry))) ⌝ }
+    ensures { λ r. ⌜
+        resultOf r
+        (memOf (now (weights .entry)) (now («pred_starts» .entry)) (now (preds .entry)) (now («succ_starts» .exit))
+        (now (succs .exit)) (now (degrees .exit)) (now (rings .exit)) (now (ends .exit))
+        (now (counters .exit)) (now (buffers .exit)) (now (executed .exit)) (now (run .exit))
+        (now (rows .exit)))
+        ≡ begin limits p k
+        (memOf (now (weights .entry)) (now («pred_starts» .entry)) (now (preds .entry)) (now («succ_starts» .entry))
+        (now (succs .entry)) (now (degrees .entry)) (now (rings .entry)) (now (ends .entry))
+        (now (counters .entry)) (now (buffers .entry)) (now (executed .entry)) (now (run .entry))
+        (now (rows .entry)))
+        ⌝ }
 {
     let begun = begin::begin_lists(
         limits,

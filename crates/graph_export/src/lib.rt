@@ -36,7 +36,10 @@ pub extern "C" fn yolluvek_check_graph(
     starts: &[u32],
     preds: &[u32],
 ) -> Reply
-    ensures { λ r. ⌜ r ≡ replyOf (checkAnswer (limitsOf «most_tasks» «most_edges») true true (now (weights .entry)) (now (starts .entry)) (now (preds .entry))) ⌝ }
+    ensures { λ r. ⌜
+        r ≡ replyOf (checkAnswer (limitsOf «most_tasks» «most_edges») true true (now (weights .entry)) (now (starts .entry))
+        (now (preds .entry)))
+        ⌝ }
 {
     replies::reply_of(graph_check::check_graph(
         limits(most_tasks, most_edges),
@@ -60,7 +63,11 @@ pub extern "C" fn yolluvek_link_graph(
     succs: &mut [u32],
     degrees: &mut [u32],
 ) -> Reply
-    ensures { λ r. ⌜ repliedOf r (now («succ_starts» .exit)) (now (succs .exit)) (now (degrees .exit)) ≡ replied (linked (limitsOf «most_tasks» «most_edges») (now (weights .entry)) (now (starts .entry)) (now (preds .entry)) (now («succ_starts» .entry)) (now (succs .entry)) (now (degrees .entry))) ⌝ }
+    ensures { λ r. ⌜
+        repliedOf r (now («succ_starts» .exit)) (now (succs .exit)) (now (degrees .exit))
+        ≡ replied (linked (limitsOf «most_tasks» «most_edges») (now (weights .entry)) (now (starts .entry)) (now (preds .entry))
+        (now («succ_starts» .entry)) (now (succs .entry)) (now (degrees .entry)))
+        ⌝ }
 {
     let within = limits(most_tasks, most_edges);
     replies::reply_of(link::link_graph(within, weights, starts, preds, succ_starts, succs, degrees))
@@ -87,7 +94,10 @@ pub extern "C" fn yolluvek_judge_lookup(
     side: u32,
     task: u32,
 ) -> Reply
-    ensures { λ r. ⌜ r ≡ replyOf (judgeAnswer (sideOf side) (lentOf (now (weights .entry)) (now («pred_starts» .entry)) (now (preds .entry)) (now («succ_starts» .entry)) (now (succs .entry))) task) ⌝ }
+    ensures { λ r. ⌜
+        r ≡ replyOf (judgeAnswer (sideOf side) (lentOf (now (weights .entry)) (now («pred_starts» .entry)) (now (preds .entry))
+        (now («succ_starts» .entry)) (now (succs .entry))) task)
+        ⌝ }
 {
     let on = side_of(side);
     let named = TaskId::new(task);
@@ -103,7 +113,10 @@ pub struct Part {
 
 fn part_at(starts: &[u32], t: usize) -> Part
     requires { ⌜ (t + 1 < length (now starts)) × (getD (now starts) t 0 ≤ getD (now starts) (t + 1) 0) ⌝ }
-    ensures { λ r. ⌜ (r .place ≡ getD (now (starts .entry)) t 0) × (r .count ≡ getD (now (starts .entry)) (t + 1) 0 - getD (now (starts .entry)) t 0) ⌝ }
+    ensures { λ r. ⌜
+        (r .place ≡ getD (now (starts .entry)) t 0) × (r .count ≡ getD (now (starts .entry)) (t + 1) 0 - getD
+        (now (starts .entry)) t 0)
+        ⌝ }
 {
     let place = starts[t];
     Part {
@@ -122,7 +135,10 @@ pub extern "C" fn yolluvek_lookup(
     side: u32,
     task: u32,
 ) -> Part
-    ensures { λ r. ⌜ r ≡ partIn (sideOf side) (lentOf (now (weights .entry)) (now («pred_starts» .entry)) (now (preds .entry)) (now («succ_starts» .entry)) (now (succs .entry))) task ⌝ }
+    ensures { λ r. ⌜
+        r ≡ partIn (sideOf side) (lentOf (now (weights .entry)) (now («pred_starts» .entry)) (now (preds .entry))
+        (now («succ_starts» .entry)) (now (succs .entry))) task
+        ⌝ }
 {
     let on = side_of(side);
     let named = TaskId::new(task);

@@ -40,7 +40,10 @@ pub extern "C" fn yolluvek_read_text(
     starts: &mut [u32],
     preds: &mut [u32],
 ) -> ReadReply
-    ensures { λ r. ⌜ repliedOf r (now (weights .exit)) (now (starts .exit)) (now (preds .exit)) ≡ replied (readText (now (text .entry)) (now (weights .entry)) (now (starts .entry)) (now (preds .entry))) ⌝ }
+    ensures { λ r. ⌜
+        repliedOf r (now (weights .exit)) (now (starts .exit)) (now (preds .exit))
+        ≡ replied (readText (now (text .entry)) (now (weights .entry)) (now (starts .entry)) (now (preds .entry)))
+        ⌝ }
 {
     reply_of(stg::read(text, weights, starts, preds))
 }

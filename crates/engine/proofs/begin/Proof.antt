@@ -1,4 +1,4 @@
-use Rattle.engine.proofs.Laws.{begin-made}
+use Rattle.call_laws.proofs.Laws.{begin-made}
 use Rattle.rows.specs.Rows.{rowsOf}
 use Rattle.rows.proofs.Laws.{length-rows}
 use borrow.Author.Needs.{needs}
