@@ -1,14 +1,14 @@
 // The engine's calls, made as the commands of a script ask for them, and their answers printed.
-use scripts::script;
+use scripts::script::Call;
 use scripts::script::Command;
 use scripts::tell;
 use task::Limits;
 use task::WorkerId;
 
-// Makes a step; whether it is accepted.
-fn step(
+// Makes a call; whether it is accepted.
+pub fn make(
     command: Command,
-    call: u32,
+    call: Call,
     worker: WorkerId,
     weights: &[u32],
     pred_starts: &[u32],
@@ -26,168 +26,68 @@ fn step(
 ) -> bool {
     let p = command.p as usize;
     let k = command.k as usize;
-    if call == 0 {
-        let answer = engine::fetch(
-            Limits::engine(),
-            weights,
-            pred_starts,
-            preds,
-            succ_starts,
-            succs,
-            degrees,
-            rings,
-            ends,
-            counters,
-            buffers,
-            executed,
-            run,
-            rows,
-            p,
-            k,
-            worker,
-        );
-        return tell::answered(command, worker, call, answer);
+    match call {
+        Call::Begin => {
+            let answer = engine::begin(
+                Limits::engine(),
+                weights,
+                pred_starts,
+                preds,
+                succ_starts,
+                succs,
+                degrees,
+                rings,
+                ends,
+                counters,
+                buffers,
+                executed,
+                run,
+                rows,
+                p,
+                k,
+            );
+            tell::begun(answer)
+        }
+        Call::Lists => {
+            tell::lists(
+                weights,
+                pred_starts,
+                preds,
+                succ_starts,
+                succs,
+                degrees,
+                rings,
+                ends,
+                counters,
+                buffers,
+                executed,
+                run,
+                rows,
+            );
+            true
+        }
+        Call::Step(which) => {
+            let answer = engine::step(
+                Limits::engine(),
+                which,
+                weights,
+                pred_starts,
+                preds,
+                succ_starts,
+                succs,
+                degrees,
+                rings,
+                ends,
+                counters,
+                buffers,
+                executed,
+                run,
+                rows,
+                p,
+                k,
+                worker,
+            );
+            tell::answered(command, worker, which, answer)
+        }
     }
-    if call == 1 {
-        let answer = engine::start(
-            Limits::engine(),
-            weights,
-            pred_starts,
-            preds,
-            succ_starts,
-            succs,
-            degrees,
-            rings,
-            ends,
-            counters,
-            buffers,
-            executed,
-            run,
-            rows,
-            p,
-            k,
-            worker,
-        );
-        return tell::answered(command, worker, call, answer);
-    }
-    if call == 2 {
-        let answer = engine::complete(
-            Limits::engine(),
-            weights,
-            pred_starts,
-            preds,
-            succ_starts,
-            succs,
-            degrees,
-            rings,
-            ends,
-            counters,
-            buffers,
-            executed,
-            run,
-            rows,
-            p,
-            k,
-            worker,
-        );
-        return tell::answered(command, worker, call, answer);
-    }
-    let answer = engine::release(
-        Limits::engine(),
-        weights,
-        pred_starts,
-        preds,
-        succ_starts,
-        succs,
-        degrees,
-        rings,
-        ends,
-        counters,
-        buffers,
-        executed,
-        run,
-        rows,
-        p,
-        k,
-        worker,
-    );
-    tell::answered(command, worker, call, answer)
-}
-
-// Makes a call; whether it is accepted.
-pub fn make(
-    command: Command,
-    call: u32,
-    worker: WorkerId,
-    weights: &[u32],
-    pred_starts: &[u32],
-    preds: &[u32],
-    succ_starts: &mut [u32],
-    succs: &mut [u32],
-    degrees: &mut [u32],
-    rings: &mut [u32],
-    ends: &mut [u32],
-    counters: &mut [i32],
-    buffers: &mut [u32],
-    executed: &mut [u32],
-    run: &mut [u32],
-    rows: &mut [[u32; 6]],
-) -> bool {
-    if call == script::BEGIN {
-        let answer = engine::begin(
-            Limits::engine(),
-            weights,
-            pred_starts,
-            preds,
-            succ_starts,
-            succs,
-            degrees,
-            rings,
-            ends,
-            counters,
-            buffers,
-            executed,
-            run,
-            rows,
-            command.p as usize,
-            command.k as usize,
-        );
-        return tell::begun(answer);
-    }
-    if call == script::LISTS {
-        tell::lists(
-            weights,
-            pred_starts,
-            preds,
-            succ_starts,
-            succs,
-            degrees,
-            rings,
-            ends,
-            counters,
-            buffers,
-            executed,
-            run,
-            rows,
-        );
-        return true;
-    }
-    step(
-        command,
-        call,
-        worker,
-        weights,
-        pred_starts,
-        preds,
-        succ_starts,
-        succs,
-        degrees,
-        rings,
-        ends,
-        counters,
-        buffers,
-        executed,
-        run,
-        rows,
-    )
 }

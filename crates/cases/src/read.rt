@@ -84,6 +84,15 @@ fn number_behind(line: &[u8], at: usize) -> Number
     }
 }
 
+pub fn none() -> Count
+    ensures { λ r. ⌜ r .count ≡ 0 ⌝ }
+{
+    Count {
+        good: false,
+        count: 0,
+    }
+}
+
 // The numbers after the first byte of a line, each behind one blank.
 pub fn numbers(line: &[u8], words: &mut [u32]) -> Count
     ensures { λ r. ⌜ r .count ≤ length (now (words .exit)) ⌝ }
@@ -93,16 +102,10 @@ pub fn numbers(line: &[u8], words: &mut [u32]) -> Count
     while at < line.len() {
         let number = number_behind(line, at);
         if !number.good {
-            return Count {
-                good: false,
-                count: 0,
-            };
+            return none();
         }
         if words.len() <= count {
-            return Count {
-                good: false,
-                count: 0,
-            };
+            return none();
         }
         words[count] = number.value;
         count += 1;

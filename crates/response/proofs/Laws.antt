@@ -27,7 +27,7 @@ use Rattle.desk_rule.specs.Printed.{pairLine}
 use Rattle.desk_rule.specs.Output.{refusedLine, entryLines, runLines, begunOutput, graphOutput, deskMemory, readOutput, deskRead, deskOutput}
 use Rattle.desk_rule.proofs.Finishes.{desk-finishes}
 use Rattle.rows.specs.Rows.{rowsOf}
-use Rattle.engine.specs.Engine.{lentOf}
+use Rattle.engine.specs.Engine.{cellMem}
 use Rattle.printing.specs.Appending.{Appends}
 use Rattle.printing.proofs.Laws.{appends-then}
 
@@ -86,7 +86,7 @@ length-part n m x h = sym (ap length (take-replicate n m x h) ∙ length-replica
 pub tables-put : (w ps p : List ℕ) → length w ≤ 1024 → length p ≤ 8192 → {r : ℕ} {before after : List ℕ}
     → Appends 0
     (graphOutput
-    (lentOf w ps p (take (length w + 1) (replicate 1025 0)) (take (length p) (replicate 8192 0)) (take (length w) (replicate 1024 0)) (replicate 16 0)
+    (cellMem w ps p (take (length w + 1) (replicate 1025 0)) (take (length p) (replicate 8192 0)) (take (length w) (replicate 1024 0)) (replicate 16 0)
     (replicate 8 0) (replicate 4 (pos 0)) (take (2 * length w) (replicate 2048 0)) (take (2 * length w) (replicate 2048 0)) (replicate 2 0)
     (replicate 2 (replicate 6 0))))
     before after r

@@ -3,7 +3,7 @@ ghost use mathlib.Core.Path.{_≡_};
 ghost use Prim.Native.Nat.{_+_, _≤_};
 ghost use lib.ListN.{length};
 ghost use Rattle.task.specs.Types.{engine};
-ghost use Rattle.engine.specs.Engine.{lentOf};
+ghost use Rattle.engine.specs.Engine.{cellMem};
 ghost use Rattle.desk_rule.specs.Output.{deskMemory, graphOutput, deskOutput};
 ghost use Rattle.printing.specs.Appending.{Appends};
 use task::Answer;
@@ -28,7 +28,15 @@ fn run_graph(
     out: &mut [u8],
 ) -> usize
     requires { ⌜ length (now out) ≡ 32768 ⌝ }
-    ensures { λ r. ⌜ Appends 0 (graphOutput (lentOf (now (weights .entry)) (now («pred_starts» .entry)) (now (preds .entry)) (now («succ_starts» .entry)) (now (succs .entry)) (now (degrees .entry)) (now (rings .entry)) (now (ends .entry)) (now (counters .entry)) (now (buffers .entry)) (now (executed .entry)) (now (run .entry)) (now (rows .entry)))) (now (out .entry)) (now (out .exit)) r ⌝ }
+    ensures { λ r. ⌜
+        Appends 0
+        (graphOutput
+        (cellMem (now (weights .entry)) (now («pred_starts» .entry)) (now (preds .entry)) (now («succ_starts» .entry))
+        (now (succs .entry)) (now (degrees .entry)) (now (rings .entry)) (now (ends .entry))
+        (now (counters .entry)) (now (buffers .entry)) (now (executed .entry)) (now (run .entry))
+        (now (rows .entry))))
+        (now (out .entry)) (now (out .exit)) r
+        ⌝ }
 {
     let answer = engine::begin(
         Limits::engine(),

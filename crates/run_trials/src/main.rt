@@ -7,6 +7,7 @@
 //
 // Numbers are decimal, up to 32 bits, each behind one blank. A line that is none of these is printed as unreadable.
 ghost use Prim.Native.Nat.{_≤_};
+use cases::lines;
 use cases::read;
 use cases::show;
 use scripts::script;
@@ -131,21 +132,11 @@ fn run_case(case: &[u32]) {
 }
 
 fn run_line(line: &[u8], words: &mut [u32]) {
-    if line.len() == 0 {
-        show::unreadable();
-        return;
+    let numbers = lines::numbers_of(line, b'r', words);
+    let count = numbers.count;
+    if numbers.good {
+        run_case(&words[..count]);
     }
-    if line[0] == b'#' {
-        show::say(line);
-        show::say(b"\n");
-        return;
-    }
-    let numbers = read::numbers(line, words);
-    if (line[0] != b'r') | !numbers.good {
-        show::unreadable();
-        return;
-    }
-    run_case(&words[..numbers.count]);
 }
 
 fn run_lines(text: &[u8]) {
@@ -160,10 +151,6 @@ fn run_lines(text: &[u8]) {
 
 fn main() {
     let mut space = read::room();
-    let count = io::read_full(libc::STDIN_FILENO, &mut space);
-    if count == 786432 {
-        show::say(b"the input is too long\n");
-        return;
-    }
+    let count = lines::input(&mut space);
     run_lines(&space[..count]);
 }

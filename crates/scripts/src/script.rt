@@ -9,10 +9,11 @@
 //
 // The numbers behind it are P, K, a worker, the stride to the next worker modulo P, and the steps.
 ghost use Prim.Native.Nat.{_≤_};
+use task::Step;
 
-pub const BEGIN: u32 = 4;
+const BEGIN: u32 = 4;
 
-pub const LISTS: u32 = 5;
+const LISTS: u32 = 5;
 
 const EVERY: u32 = 6;
 
@@ -30,6 +31,13 @@ pub struct Command {
     pub worker: u32,
     pub stride: u32,
     pub steps: u32,
+}
+
+// A call that a command stands for.
+pub enum Call {
+    Begin,
+    Lists,
+    Step(Step),
 }
 
 // How far a script has come: where the command stands, whose turn it is, how many steps have been tried in it, how many
@@ -98,32 +106,46 @@ fn behind(script: &[u32], place: usize) -> At {
     entered(script, place + 6)
 }
 
-// What the next call is: 0 to 5 as above.
-pub fn call_of(command: Command, tried: u32) -> u32 {
-    if command.what < EVERY {
-        return command.what;
+pub fn call_of(command: Command, tried: u32) -> Call {
+    if command.what == BEGIN {
+        return Call::Begin;
+    }
+    if command.what == LISTS {
+        return Call::Lists;
+    }
+    if command.what < BEGIN {
+        return Call::Step(named(command.what));
     }
     if command.what == EVERY {
-        return in_every(tried);
+        return Call::Step(in_every(tried));
     }
-    in_turn(tried)
+    Call::Step(in_turn(tried))
 }
 
-fn in_turn(tried: u32) -> u32 {
-    match tried {
-        0 => 3,
-        1 => 0,
-        2 => 1,
-        _ => 2,
+fn named(what: u32) -> Step {
+    match what {
+        0 => Step::Fetch,
+        1 => Step::Start,
+        2 => Step::Complete,
+        _ => Step::Release,
     }
 }
 
-fn in_every(tried: u32) -> u32 {
+fn in_turn(tried: u32) -> Step {
     match tried {
-        0 => 2,
-        1 => 1,
-        2 => 0,
-        _ => 3,
+        0 => Step::Release,
+        1 => Step::Fetch,
+        2 => Step::Start,
+        _ => Step::Complete,
+    }
+}
+
+fn in_every(tried: u32) -> Step {
+    match tried {
+        0 => Step::Complete,
+        1 => Step::Start,
+        2 => Step::Fetch,
+        _ => Step::Release,
     }
 }
 

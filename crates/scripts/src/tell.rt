@@ -4,6 +4,7 @@ use crate::script::Command;
 use cases::show;
 use task::Answer;
 use task::ReleaseOutcome;
+use task::Step;
 use task::StepAnswer;
 use task::StepOutcome;
 use task::WorkerId;
@@ -26,12 +27,12 @@ fn is_accepted(answer: StepAnswer) -> bool {
     true
 }
 
-fn letter(step: u32) {
+fn letter(step: Step) {
     match step {
-        0 => show::say(b" f"),
-        1 => show::say(b" s"),
-        2 => show::say(b" c"),
-        _ => show::say(b" r"),
+        Step::Fetch => show::say(b" f"),
+        Step::Start => show::say(b" s"),
+        Step::Complete => show::say(b" c"),
+        Step::Release => show::say(b" r"),
     }
 }
 
@@ -62,7 +63,7 @@ fn outcome(outcome: StepOutcome) {
 }
 
 // The worker, the step, and what it answers.
-fn stepped(worker: u32, step: u32, answer: StepAnswer) {
+fn stepped(worker: u32, step: Step, answer: StepAnswer) {
     show::number(worker as u64);
     letter(step);
     match answer {
@@ -76,7 +77,7 @@ fn stepped(worker: u32, step: u32, answer: StepAnswer) {
 }
 
 // Prints a step's answer where the command asks for it; whether it is accepted.
-pub fn answered(command: Command, worker: WorkerId, step: u32, answer: StepAnswer) -> bool {
+pub fn answered(command: Command, worker: WorkerId, step: Step, answer: StepAnswer) -> bool {
     let accepted = is_accepted(answer);
     if script::prints(command, accepted) {
         stepped(worker.0, step, answer);

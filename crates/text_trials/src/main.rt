@@ -6,8 +6,9 @@
 //              predecessor starts and predecessors
 //
 // Numbers are decimal, up to 32 bits, each behind one blank. A line that is none of these is printed as unreadable.
-ghost use Prim.Native.Nat.{_≤_, _<_};
+ghost use Prim.Native.Nat.{_<_};
 ghost use lib.ListN.{length};
+use cases::lines;
 use cases::read;
 use cases::show;
 use task::ReadAnswer;
@@ -41,83 +42,39 @@ fn read_lent(text: &[u8], weights: &mut [u32], starts: &mut [u32], preds: &mut [
     show::say(b"\n");
 }
 
-// Lends lists of the lengths named.
-fn lend(text: &[u8], a: usize, b: usize, c: usize)
-    requires { ⌜ (a ≤ 8200) × ((b ≤ 8200) × (c ≤ 8200)) ⌝ }
+// Lends lists of the lengths named behind the text's own.
+fn lend(text: &[u8], numbers: &[u32])
+    requires { ⌜ 3 < length (now numbers) ⌝ }
 {
+    let a = read::length_at(numbers, 1);
+    let b = read::length_at(numbers, 2);
+    let c = read::length_at(numbers, 3);
+    if 8200 < read::larger(a, read::larger(b, c)) {
+        show::unreadable();
+        return;
+    }
     let mut weights = [0u32; 8200];
     let mut starts = [0u32; 8200];
     let mut preds = [0u32; 8200];
     read_lent(text, &mut weights[..a], &mut starts[..b], &mut preds[..c]);
 }
 
-// The place behind a text of the length named.
-fn run_text(input: &[u8], from: usize, numbers: &[u32]) -> usize
-    requires { ⌜ from ≤ length (now input) ⌝ }
-    ensures { λ r. ⌜ from ≤ r ⌝ }
-{
-    if numbers.len() != 4 {
-        show::unreadable();
-        return from;
-    }
-    let size = read::length_at(numbers, 0);
-    let a = read::length_at(numbers, 1);
-    let b = read::length_at(numbers, 2);
-    let c = read::length_at(numbers, 3);
-    if input.len() - from < size {
-        show::unreadable();
-        return from;
-    }
-    if 8200 < read::larger(a, read::larger(b, c)) {
-        show::unreadable();
-        return from;
-    }
-    lend(&input[from..from + size], a, b, c);
-    from + size + 1
-}
-
-// The line from one place to another, and the text behind it; the place where the next line starts.
-fn run_line(input: &[u8], from: usize, end: usize, words: &mut [u32]) -> usize
-    requires { ⌜ (from ≤ end) × (end < length (now input)) ⌝ }
-    ensures { λ r. ⌜ end < r ⌝ }
-{
-    let line = &input[from..end];
-    if line.len() == 0 {
-        show::unreadable();
-        return end + 1;
-    }
-    if line[0] == b'#' {
-        show::say(line);
-        show::say(b"\n");
-        return end + 1;
-    }
-    let numbers = read::numbers(line, words);
-    if (line[0] != b't') | !numbers.good {
-        show::unreadable();
-        return end + 1;
-    }
-    run_text(input, end + 1, &words[..numbers.count])
-}
-
 fn run(input: &[u8]) {
     let mut words = [0u32; 8];
     let mut at = 0;
     while at < input.len() {
-        let end = read::line_end(input, at);
-        if end == input.len() {
-            show::unreadable();
-            return;
+        let text = lines::text_at(input, at, 4, &mut words);
+        let from = text.from;
+        let end = text.end;
+        if text.good {
+            lend(&input[from..end], &words);
         }
-        at = run_line(input, at, end, &mut words);
+        at = text.next;
     }
 }
 
 fn main() {
     let mut space = read::room();
-    let count = io::read_full(libc::STDIN_FILENO, &mut space);
-    if count == 786432 {
-        show::say(b"the input is too long\n");
-        return;
-    }
+    let count = lines::input(&mut space);
     run(&space[..count]);
 }

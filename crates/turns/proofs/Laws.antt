@@ -1,28 +1,13 @@
 -- What is left of the turns ends the desk's run.
 use Prim.Native.Nat.{ℕ, zero, suc, _+_, _-_, _*_, _≤_, _<_}
 use mathlib.Core.Path.{_≡_, refl, sym, _∙_}
-use mathlib.Core.List.{List}
 use native.Mathlib.Omega.{arith}
-use lib.ListN.{length}
-use lib.IntN.{ℤ}
 use Rattle.lists.specs.Circles.{after}
 use Rattle.task.specs.Types.{engine}
 use Rattle.rules.specs.Memory.{Mem, tasks, edges, allSteps, acceptedIn}
 use Rattle.rules.specs.Desk.{tries, turn, turns, deskRun}
 use Rattle.rules.proofs.Words.{all-steps-are}
 use Rattle.desk_rule.proofs.Finishes.{turns-more, turns-none, turns-over}
-
--- the lists that a turn may write keep their lengths
-pub record Lasting (d₀ r₀ e₀ : List ℕ) (c₀ : List ℤ) (b₀ x₀ n₀ : List ℕ) (cells₀ : List (List ℕ))
-    (d r e : List ℕ) (c : List ℤ) (b x n : List ℕ) (cells : List (List ℕ)) : Type 0 where
-  pub degrees : length d ≡ length d₀
-  pub rings : length r ≡ length r₀
-  pub ends : length e ≡ length e₀
-  pub counters : length c ≡ length c₀
-  pub buffers : length b ≡ length b₀
-  pub executed : length x ≡ length x₀
-  pub run : length n ≡ length n₀
-  pub rows : length cells ≡ length cells₀
 
 -- worker i's turn is next, and at most `left` turns from here on end the desk's run
 pub record Driving (start m : Mem) (i left : ℕ) : Type 0 where

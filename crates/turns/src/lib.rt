@@ -4,7 +4,7 @@ ghost use Prim.Native.Nat.{_≤_};
 ghost use lib.ListN.{length};
 ghost use Rattle.task.specs.Types.{engine};
 ghost use Rattle.rules.specs.Desk.{deskRun};
-ghost use Rattle.engine.specs.Engine.{lentOf};
+ghost use Rattle.engine.specs.Engine.{cellMem};
 use task::WorkerId;
 
 // Turns 0, 1, 0, 1, .. on memory that has been begun, until all steps are accepted.
@@ -24,7 +24,17 @@ pub fn drive(
     rows: &mut [[u32; 6]],
 )
     requires { ⌜ (length (now weights) ≤ engine .tasks) × ((length (now preds) ≤ engine .edges) × (length (now run) ≡ 2)) ⌝ }
-    ensures { λ r. ⌜ lentOf (now (weights .entry)) (now («pred_starts» .entry)) (now (preds .entry)) (now («succ_starts» .entry)) (now (succs .entry)) (now (degrees .exit)) (now (rings .exit)) (now (ends .exit)) (now (counters .exit)) (now (buffers .exit)) (now (executed .exit)) (now (run .exit)) (now (rows .exit)) ≡ deskRun (lentOf (now (weights .entry)) (now («pred_starts» .entry)) (now (preds .entry)) (now («succ_starts» .entry)) (now (succs .entry)) (now (degrees .entry)) (now (rings .entry)) (now (ends .entry)) (now (counters .entry)) (now (buffers .entry)) (now (executed .entry)) (now (run .entry)) (now (rows .entry))) ⌝ }
+    ensures { λ r. ⌜
+        cellMem (now (weights .entry)) (now («pred_starts» .entry)) (now (preds .entry)) (now («succ_starts» .entry))
+        (now (succs .entry)) (now (degrees .exit)) (now (rings .exit)) (now (ends .exit))
+        (now (counters .exit)) (now (buffers .exit)) (now (executed .exit)) (now (run .exit))
+        (now (rows .exit))
+        ≡ deskRun
+        (cellMem (now (weights .entry)) (now («pred_starts» .entry)) (now (preds .entry)) (now («succ_starts» .entry))
+        (now (succs .entry)) (now (degrees .entry)) (now (rings .entry)) (now (ends .entry))
+        (now (counters .entry)) (now (buffers .entry)) (now (executed .entry)) (now (run .entry))
+        (now (rows .entry)))
+        ⌝ }
 {
     let steps = 3 * weights.len() + preds.len();
     let mut worker = 0;

@@ -1,8 +1,8 @@
--- The list of words keeps its length, and each turn moves on behind a line's end.
+-- The list of words keeps its length, and each turn moves on to a later line.
 use Prim.Native.Nat.{_-_}
 use mathlib.Core.Path.{_≡_}
-use borrow.Author.Needs.{needs}
 use lib.ListN.{length}
+use borrow.Author.Needs.{needs}
 use Rattle.desk_trials.proofs.run.Statement.{statement}
 use Rattle.desk_trials.proofs.run.Tie as tie
 
@@ -15,20 +15,23 @@ abbrev μ-loop : tie.MeasureT-loop
 loop-holds : tie.Need-loop-holds Inv-loop μ-loop
 loop-holds c = search needs
 
-line-end-requires : tie.Need-line-end-requires Inv-loop μ-loop
-line-end-requires c κs = search needs
+slice-aggregate-text-at : tie.Need-slice-aggregate-text-at Inv-loop μ-loop
+slice-aggregate-text-at c = search needs
 
-unreadable-requires : tie.Need-unreadable-requires Inv-loop μ-loop
-unreadable-requires c κs = search needs
+text-at-requires : tie.Need-text-at-requires Inv-loop μ-loop
+text-at-requires c κs = search needs
 
-returns : tie.Need-returns Inv-loop μ-loop
-returns c = search needs
+sub-respond : tie.Need-sub-respond Inv-loop μ-loop
+sub-respond c = search needs
 
-slice-aggregate-run-line : tie.Need-slice-aggregate-run-line Inv-loop μ-loop
-slice-aggregate-run-line c = search needs
+part-respond-start : tie.Need-part-respond-start Inv-loop μ-loop
+part-respond-start c = search needs
 
-run-line-requires : tie.Need-run-line-requires Inv-loop μ-loop
-run-line-requires c κs = search needs
+part-respond-end : tie.Need-part-respond-end Inv-loop μ-loop
+part-respond-end c = search needs
+
+respond-requires : tie.Need-respond-requires Inv-loop μ-loop
+respond-requires c κs = search needs
 
 loop-less : tie.Need-loop-less Inv-loop μ-loop
 loop-less c = search needs
@@ -36,8 +39,14 @@ loop-less c = search needs
 loop-again : tie.Need-loop-again Inv-loop μ-loop
 loop-again c = search needs
 
-returns-2 : tie.Need-returns-2 Inv-loop μ-loop
-returns-2 c = search needs
+loop-less-2 : tie.Need-loop-less-2 Inv-loop μ-loop
+loop-less-2 c = search needs
+
+loop-again-2 : tie.Need-loop-again-2 Inv-loop μ-loop
+loop-again-2 c = search needs
+
+returns : tie.Need-returns Inv-loop μ-loop
+returns c = search needs
 
 pub run-spec : {M : Type 1} → statement M
 run-spec =
@@ -46,11 +55,14 @@ run-spec =
     Inv-loop
     μ-loop
     loop-holds
-    line-end-requires
-    unreadable-requires
-    returns
-    slice-aggregate-run-line
-    run-line-requires
+    slice-aggregate-text-at
+    text-at-requires
+    sub-respond
+    part-respond-start
+    part-respond-end
+    respond-requires
     loop-less
     loop-again
-    returns-2)
+    loop-less-2
+    loop-again-2
+    returns)

@@ -2,16 +2,17 @@
 use mathlib.Core.Path.{refl}
 use native.Mathlib.Omega.{arith}
 use borrow.Author.Needs.{needs}
-use Rattle.engine.specs.Engine.{lentOf}
-use Rattle.turns.proofs.Laws.{Lasting, Driving, driving-none, driving-over, driving-last, driving-turn}
+use Rattle.engine.specs.Engine.{cellMem}
+use Rattle.tries.proofs.Laws.{Lasting}
+use Rattle.turns.proofs.Laws.{Driving, driving-none, driving-over, driving-last, driving-turn}
 use Rattle.turns.proofs.drive.Statement.{statement}
 use Rattle.turns.proofs.drive.Tie as tie
 
 abbrev Inv-loop : tie.InvT-loop
 Inv-loop weights pred-starts preds succ-starts succs degrees₀ rings₀ ends₀ counters₀ buffers₀ executed₀ run₀ rows₀ steps worker₀ left₀ degrees rings ends counters buffers executed run rows worker left =
     Lasting degrees₀ rings₀ ends₀ counters₀ buffers₀ executed₀ run₀ rows₀ degrees rings ends counters buffers executed run rows
-    × Driving (lentOf weights pred-starts preds succ-starts succs degrees₀ rings₀ ends₀ counters₀ buffers₀ executed₀ run₀ rows₀)
-    (lentOf weights pred-starts preds succ-starts succs degrees rings ends counters buffers executed run rows) worker left
+    × Driving (cellMem weights pred-starts preds succ-starts succs degrees₀ rings₀ ends₀ counters₀ buffers₀ executed₀ run₀ rows₀)
+    (cellMem weights pred-starts preds succ-starts succs degrees rings ends counters buffers executed run rows) worker left
 
 abbrev μ-loop : tie.MeasureT-loop
 μ-loop weights pred-starts preds succ-starts succs degrees₀ rings₀ ends₀ counters₀ buffers₀ executed₀ run₀ rows₀ steps worker₀ left₀ degrees rings ends counters buffers executed run rows worker left =

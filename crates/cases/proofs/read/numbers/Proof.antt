@@ -18,11 +18,17 @@ loop-holds c = search needs
 number-behind-requires : tie.Need-number-behind-requires Inv-loop μ-loop
 number-behind-requires c κs = search needs
 
+none-requires : tie.Need-none-requires Inv-loop μ-loop
+none-requires c κs = search needs
+
 same-length : tie.Need-same-length Inv-loop μ-loop
 same-length c = search needs
 
 returns : tie.Need-returns Inv-loop μ-loop
 returns c = search needs
+
+none-requires-2 : tie.Need-none-requires-2 Inv-loop μ-loop
+none-requires-2 c κs = search needs
 
 same-length-2 : tie.Need-same-length-2 Inv-loop μ-loop
 same-length-2 c = search needs
@@ -59,8 +65,10 @@ numbers-spec =
     μ-loop
     loop-holds
     number-behind-requires
+    none-requires
     same-length
     returns
+    none-requires-2
     same-length-2
     returns-2
     mul-words
