@@ -67,18 +67,21 @@ badPredecessorText =
     ∷ 48 ∷ 32 ∷ 48 ∷ 32 ∷ 48 ∷ 10
     ∷ 49 ∷ 32 ∷ 48 ∷ 32 ∷ 49 ∷ 32 ∷ 53 ∷ 10 ∷ []
 
+-- "4 16␊0 0␊2 1␊1 0␊3 0␊"
+abbrev pub diamondLines : List ℕ
+diamondLines =
+    52 ∷ 32 ∷ 49 ∷ 54 ∷ 10
+    ∷ 48 ∷ 32 ∷ 48 ∷ 10
+    ∷ 50 ∷ 32 ∷ 49 ∷ 10
+    ∷ 49 ∷ 32 ∷ 48 ∷ 10
+    ∷ 51 ∷ 32 ∷ 48 ∷ 10 ∷ []
+
 pub record Examples : Type 0 where
   pub nought : digitsOf 0 ≡ 48 ∷ []
   pub seven : digitsOf 7 ≡ 55 ∷ []
   pub ten : digitsOf 10 ≡ 49 ∷ 48 ∷ []
   pub fiveDigits : digitsOf 65535 ≡ 54 ∷ 53 ∷ 53 ∷ 51 ∷ 53 ∷ []
-  -- "4 16␊0 0␊2 1␊1 0␊3 0␊"
-  pub diamond : deskOutput diamondText
-      ≡ 52 ∷ 32 ∷ 49 ∷ 54 ∷ 10
-      ∷ 48 ∷ 32 ∷ 48 ∷ 10
-      ∷ 50 ∷ 32 ∷ 49 ∷ 10
-      ∷ 49 ∷ 32 ∷ 48 ∷ 10
-      ∷ 51 ∷ 32 ∷ 48 ∷ 10 ∷ []
+  pub diamond : deskOutput diamondText ≡ diamondLines
   -- no text at all: "refused 13 1␊"
   pub nothing : deskOutput []
       ≡ 114 ∷ 101 ∷ 102 ∷ 117 ∷ 115 ∷ 101 ∷ 100 ∷ 32 ∷ 49 ∷ 51 ∷ 32 ∷ 49 ∷ 10 ∷ []

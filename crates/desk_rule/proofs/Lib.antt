@@ -1,4 +1,5 @@
 pub mod Finishes
 pub mod Printed
 pub mod Examples
+pub mod Table
 pub mod Cut

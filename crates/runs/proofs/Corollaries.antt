@@ -10,7 +10,6 @@ use Rattle.lists.specs.Lists.{occ, placeOf}
 use Rattle.lists.proofs.Blocks.{getD-tabulate}
 use Rattle.lists.proofs.Occurrences.{occ-hit, at-occ}
 use Rattle.lists.proofs.Positions.{place-member, place-at, place-least, before-member}
-use Rattle.task.specs.Types.{engine}
 use Rattle.task.specs.Refusals.{answerSays, stepSays, refused, recordFull}
 use Rattle.task.specs.Rows.{Acceptance}
 use Rattle.task.specs.declared.Limits.{Limits}
@@ -22,7 +21,6 @@ use Rattle.exchange.specs.Pairs.{eachOnce}
 use Rattle.rules.specs.Memory.{Mem, tasks, graphIn, rowIn, held, entriesIn}
 use Rattle.rules.specs.Steps.{step}
 use Rattle.rules.specs.Begin.{begin}
-use Rattle.rules.proofs.Examples.{nothing, examples}
 use Rattle.rules.proofs.Moves.{accepted-step}
 use Rattle.rules.proofs.Numbers.{TwoOrOne, other-step, other-begin}
 use Rattle.algorithm1.specs.Reading.{threadIn}
@@ -116,13 +114,6 @@ nothing-finished r none = (finished, omega (arith, none, demand-3 .one r .steps 
 
     ends : EndsFit (graphIn (r .lent))
     ends = rw (graph-reached r) at (run-sound r .ends)
-
--- the run on the table's N 0, begun and not called
-abbrev pub begunAlone : Run
-begunAlone = record { limits = engine; workers = 1; slots = 2; lent = nothing; accepts = examples .noTasks .begins; calls = [] }
-
-pub begun-finished : Finished begunAlone × (_≡_ {A = ℕ} (acceptedSteps (eventsOf begunAlone)) 0)
-begun-finished = nothing-finished begunAlone refl
 
 -- "A call with another P or K than begin's meets 2 or 1.", a step or a begin, at any time of the run
 pub other-numbers : (r : Run) (p k : ℕ) → ¬ ((p ≡ r .workers) × (k ≡ r .slots))

@@ -35,7 +35,7 @@ use Rattle.system.proofs.Finished.{finished-record, finished-steps}
 use Rattle.system.proofs.Progress.{progress, held-wanted, waiting-wanted, pending-blocked}
 use Rattle.runs.specs.Calls.{Run, memoryOf}
 use Rattle.runs.specs.Counters.{handOf}
-use Rattle.runs.specs.Demand.{Finished, taskWord, orderOf, AllowedOrder, nextSays, OneRun, OneGraph, Exchanges, Demand3}
+use Rattle.runs.specs.Demand.{Finished, taskWord, orderOf, AllowedOrder, nextSays, OneRun, Agree, OneGraph, Exchanges, Demand3}
 use Rattle.runs.proofs.Invariant.{itemsOf, pendingOf, meaning}
 use Rattle.runs.proofs.Calls.{graph-reached, tasks-reached}
 use Rattle.runs.proofs.Begun.{all-listed, items-reversed}
@@ -219,19 +219,24 @@ module _ (r : Run) where
       order-is : tabulate (tasks (r .lent)) (taskWord (memoryOf r)) ≡ recorded r
       order-is = ap (λ (n : ℕ). tabulate n (taskWord (memoryOf r))) (sym (finished-full f ∙ tasks-reached r)) ∙ sym (recorded-words r)
 
--- the first run's graph allows the second's order
+-- what one graph allows the same graph in other tables allows
+pub order-agreed : {m m′ : Mem} {l : List ℕ} → Agree m m′ → AllowedOrder m′ l → AllowedOrder m l
+order-agreed o a =
+    record {
+      once = λ t. a .once t ∙ ap (λ (n : ℕ). eachOnce n t) (sym (o .sameTasks));
+      after = λ u t e. a .after u t (o .sameEdges u t .0 e);
+    }
+
 two-runs : (r r′ : Run) → OneGraph r r′ → Finished r → Finished r′ → Exchanges r r′
 two-runs r r′ o f f′ =
-    exchange-tasks (tasks (r .lent)) (Edge (graphIn (r .lent))) (orderOf r) (orderOf r′) (finished-order r f)
-    (record {
-      once = λ t. finished-order r′ f′ .once t ∙ ap (λ (n : ℕ). eachOnce n t) (sym (o .sameTasks));
-      after = λ u t e. finished-order r′ f′ .after u t (o .sameEdges u t .0 e);
-    })
+    exchange-tasks (tasks (r .lent)) (Edge (graphIn (r .lent))) (orderOf r) (orderOf r′) (finished-order r f) (order-agreed o (finished-order r′ f′))
 
 one-run : (r : Run) → OneRun r
 one-run r =
     record {
       steps = λ f. omega (arith, accepted-word r, finished-count r (finished-full r f), tasks-reached r, edges-same r);
+      word = accepted-word r;
+      full = λ f. omega (arith, finished-count r (finished-full r f), tasks-reached r, edges-same r);
       order = finished-order r;
       named = λ f x h. recorded-workers r x (omega (arith, h, f .completes));
       next = λ n. accepted-next r (unfinished-free r n);

@@ -22,3 +22,7 @@ pub mod Wrong
 pub mod Afterwards
 pub mod Undamaged
 pub mod Hosted
+pub mod Links
+pub mod Finishing
+pub mod Pair
+pub mod Examples

@@ -1,12 +1,13 @@
 -- Programs that demand 3 rules out. Each is the rules with one thing changed, and a run of it on a small memory contradicts a clause of demand 3:
--- `next`, since no worker has a step that would be accepted, or `order`, since the record isn't an order that the graph allows.
-use Prim.Native.Nat.{ℕ, _+_, _-_, _≤_, _<_, min}
+-- `next`, since no worker has a step that would be accepted; `order`, since the record isn't an order that the graph allows; `steps`, since there aren't
+-- 3N + E; `word`, since the accepted word isn't their number; or two runs of it contradict `two`, since no exchanges join their records.
+use Prim.Native.Nat.{ℕ, suc, _+_, _-_, _*_, _≤_, _<_, min}
 use mathlib.Core.Path.{_≡_, refl, sym, ap, _∙_}
 use mathlib.Core.Bool.{cond}
 use mathlib.Core.List.{List, [], _∷_, _++_}
 use native.Mathlib.Omega.{arith}
 use native.Mathlib.Decide.{ℕ-discrete, decLe, decLt}
-use lib.ListN.{length, getD, drop, replicate, getD-replicate}
+use lib.ListN.{getD, drop, replicate, getD-replicate}
 use lib.Dec.{ltb, eqb}
 use Rattle.lists.specs.Decided.{firstBelow}
 use Rattle.lists.specs.Lists.{occ, occOf, placeOf, joined, tabulate, allOf}
@@ -16,7 +17,7 @@ use Rattle.lists.proofs.Blocks.{getD-tabulate}
 use Rattle.lists.proofs.Decided.{tally-yes}
 use Rattle.task.specs.Types.{engine, capped}
 use Rattle.task.specs.Phases.{nextPhase, stepNumber}
-use Rattle.task.specs.Refusals.{Said, refused, accepted, ringsFull, answerSays, stepSays}
+use Rattle.task.specs.Refusals.{Said, refused, accepted, wrongPhase, ringsFull, answerSays, stepSays}
 use Rattle.task.specs.Rows.{Acceptance}
 use Rattle.task.specs.declared.Answer.{Answer}
 use Rattle.task.specs.declared.Answer.the-variants.{Refused, Accepted}
@@ -24,7 +25,7 @@ use Rattle.task.specs.declared.Row.{Row}
 use Rattle.task.specs.declared.Step.{Step}
 use Rattle.task.specs.declared.Step.the-variants.{Fetch, Start, Complete, Release}
 use Rattle.task.specs.declared.StepAnswer.{StepAnswer}
-use Rattle.task.specs.declared.StepOutcome.the-variants.{Released}
+use Rattle.task.specs.declared.StepOutcome.the-variants.{Moved, Released}
 use Rattle.task.specs.declared.ReleaseOutcome.the-variants.{Placed}
 use Rattle.graph.specs.Graph.{part, Edge}
 use Rattle.graph.specs.Check.{sizesFit, firstBad, firstTwice, firstOnCycle, tablesAnswer, checkAnswer}
@@ -33,18 +34,21 @@ use Rattle.graph.specs.Successors.{succsBelow, succStart, succStarts, succWords
 use Rattle.ring.specs.Ring.{capacity, slotAt, endsAt, storeEnds, sound, empty, full, headOn, tailOn}
 use Rattle.choice.specs.Least.{load, loads, leastFrom, least, target}
 use Rattle.choice.specs.Search.{search}
-use Rattle.rules.specs.Memory.{Mem, tasks, graphIn, allSteps, allEntries, degreeIn, succCount, rowIn, withPlaces, entriesIn, oldest, successor}
+use Rattle.exchange.specs.Exchange.{Chain, none, more}
+use Rattle.exchange.specs.Pairs.{eachOnce, TaskExchanges}
+use Rattle.exchange.proofs.Theorem.{exchange-tasks}
+use Rattle.rules.specs.Memory.{Mem, tasks, edges, graphIn, allSteps, allEntries, degreeIn, succCount, rowIn, withPlaces, held, entriesIn, acceptedIn, oldest, successor}
 use Rattle.rules.specs.Sizes.{numbersFit, othersFit, lengthsFit}
 use Rattle.rules.specs.Words.{countersFit}
-use Rattle.rules.specs.Updates.{Update, putDegree, putEntry, putEntries, putRow, updated, written}
+use Rattle.rules.specs.Updates.{Update, putDegree, putEntry, putEntries, putAccepted, putRow, updated, written}
 use Rattle.rules.specs.Plans.{Plan, refuse, accept, counted, Result, carriedOut}
 use Rattle.rules.specs.Steps.{scan, fetchTask, fetchFrom, fetchRule, startRule, completeSink, completeInner, completeRule, releasedRow, advance, findRoom, releaseTo, releaseReady, releaseWaiting, releaseRule, ruleOf, stepPlan, step}
 use Rattle.rules.specs.Begin.{cleared, rootsPlaced, begun, rootsAnswer, beginAnswer, begin}
-use Rattle.rules.proofs.Examples.{lent, Call, by, twoRoots, fork}
-use Rattle.runs.specs.Calls.{stepCall, Event, says, leaves, began, memoryAfter, recalled, eventsAfter, Run}
+use Rattle.rules.proofs.Examples.{lent, Call, by, single, twoRoots, fork}
+use Rattle.runs.specs.Calls.{stepCall, beginCall, lookupCall, isStep, says, leaves, Event, eventOf, began, memoryAfter, recalled, eventsAfter, Run, memoryOf, eventsOf}
 use Rattle.runs.specs.Calls as calls
-use Rattle.runs.proofs.Demand.{demand-3}
-use Rattle.runs.specs.Demand.{acceptedOf, acceptedSteps, acceptedCompletes, taskWord, workerWord, orderOf, AllowedOrder, OneRun}
+use Rattle.runs.specs.Demand.{acceptedOf, acceptedSteps, acceptedCompletes, Finished, taskWord, workerWord, orderOf, AllowedOrder, OneRun, Agree, Demand3}
+use Rattle.runs.proofs.Demand.{order-agreed, demand-3}
 
 -- Demand 3 of any program.
 
@@ -56,33 +60,37 @@ pub record Program : Type 0 where
 abbrev pub rules : Program
 rules = record { begins = begin engine; takes = step engine }
 
--- a begin with P and K on a memory, and the steps after it with the same P and K
+-- a begin with P and K on a memory, and the calls after it: "Fetch, Start, Complete and Release with any worker, P and K, accepted or refused, and
+-- refused begins", and lookups
 pub record Trial : Type 0 where
   pub workers : ℕ
   pub slots : ℕ
   pub memory : Mem
-  pub calls : List Call
+  pub calls : List calls.Call
 
-abbrev trial : ℕ → ℕ → Mem → List Call → Trial
-trial p k m cs = record { workers = p; slots = k; memory = m; calls = cs }
+-- what a call answers, and the memory that it leaves; a lookup is lent its lists shared, and is no part of the program
+unfoldable pub answerBy : Program → calls.Call → Mem → Said
+answerBy g (stepCall p k i s) m = stepSays (g .takes p k i s m .answer)
+answerBy g (beginCall p k) m = answerSays (g .begins p k m .answer)
+answerBy g (lookupCall side t) m = says engine (lookupCall side t) m
 
-abbrev pub answerOf : Program → ℕ → ℕ → Mem → Call → Said
-answerOf g p k m c = stepSays (g .takes p k (c .worker) (c .taken) m .answer)
+unfoldable pub leftBy : Program → calls.Call → Mem → Mem
+leftBy g (stepCall p k i s) m = g .takes p k i s m .memory
+leftBy g (beginCall p k) m = g .begins p k m .memory
+leftBy g (lookupCall side t) m = m
 
-abbrev pub leftBy : Program → ℕ → ℕ → Mem → Call → Mem
-leftBy g p k m c = g .takes p k (c .worker) (c .taken) m .memory
+abbrev pub eventBy : Program → calls.Call → Mem → Event
+eventBy g c m = record { call = c; said = answerBy g c m }
 
--- the memory after some steps, and the events, the latest first, `past` being what came before
-unfoldable pub leftAfter : Program → ℕ → ℕ → List Call → Mem → Mem
-leftAfter g p k [] m = m
-leftAfter g p k (c ∷ cs) m = leftAfter g p k cs (leftBy g p k m c)
+-- the memory after some calls, and the events of the run that then goes on, the latest first, `past` being what came before: as `memoryAfter` and
+-- `eventsAfter` are of the rules
+unfoldable pub leftAfter : Program → List calls.Call → Mem → Mem
+leftAfter g [] m = m
+leftAfter g (c ∷ cs) m = leftAfter g cs (leftBy g c m)
 
-abbrev pub asCall : ℕ → ℕ → Call → calls.Call
-asCall p k c = stepCall p k (c .worker) (c .taken)
-
-unfoldable pub eventsBy : Program → ℕ → ℕ → List Call → Mem → List Event → List Event
-eventsBy g p k [] m past = past
-eventsBy g p k (c ∷ cs) m past = eventsBy g p k cs (leftBy g p k m c) (record { call = asCall p k c; said = answerOf g p k m c } ∷ past)
+unfoldable pub eventsBy : Program → List calls.Call → Mem → List Event → List Event
+eventsBy g [] m past = past
+eventsBy g (c ∷ cs) m past = eventsBy g cs (leftBy g c m) (recalled (eventBy g c m) past)
 
 abbrev pub BeginAccepted : Program → Trial → Type 0
 BeginAccepted g r = answerSays (g .begins (r .workers) (r .slots) (r .memory) .answer) ≡ accepted
@@ -91,10 +99,10 @@ abbrev pub begunBy : Program → Trial → Mem
 begunBy g r = g .begins (r .workers) (r .slots) (r .memory) .memory
 
 abbrev pub endOf : Program → Trial → Mem
-endOf g r = leftAfter g (r .workers) (r .slots) (r .calls) (begunBy g r)
+endOf g r = leftAfter g (r .calls) (begunBy g r)
 
 abbrev pub eventsIn : Program → Trial → List Event
-eventsIn g r = eventsBy g (r .workers) (r .slots) (r .calls) (begunBy g r) []
+eventsIn g r = eventsBy g (r .calls) (begunBy g r) []
 
 abbrev pub orderIn : Program → Trial → List ℕ
 orderIn g r = tabulate (tasks (r .memory)) (taskWord (endOf g r))
@@ -105,61 +113,94 @@ FinishedBy g r = tasks (r .memory) ≤ acceptedCompletes (eventsIn g r)
 
 -- what worker i's step would answer next
 abbrev pub nextAnswer : Program → Trial → ℕ → Step → Said
-nextAnswer g r i s = answerOf g (r .workers) (r .slots) (endOf g r) (by i s)
+nextAnswer g r i s = answerBy g (stepCall (r .workers) (r .slots) i s) (endOf g r)
 
--- two of demand 3's clauses, for one run
+-- demand 3's clauses for one run, as in `OneRun`
 pub record OneTrial (g : Program) (r : Trial) : Type 0 where
+  pub steps : FinishedBy g r → acceptedSteps (eventsIn g r) ≡ 3 * tasks (r .memory) + edges (r .memory)
+  pub word : acceptedIn (endOf g r) ≡ acceptedSteps (eventsIn g r)
+  pub full : FinishedBy g r → acceptedIn (endOf g r) ≡ 3 * tasks (r .memory) + edges (r .memory)
   pub order : FinishedBy g r → AllowedOrder (r .memory) (orderIn g r)
+  pub named : FinishedBy g r → (x : ℕ) → x < tasks (r .memory) → workerWord (endOf g r) x < r .workers
   pub next : ¬ (FinishedBy g r) → (i : ℕ) × (s : Step) × (i < r .workers) × Acceptance (nextAnswer g r i s)
 
-abbrev pub Keeps : Program → Type 0
-Keeps g = (r : Trial) → BeginAccepted g r → OneTrial g r
+-- and for two
+abbrev pub Joined : Program → Trial → Trial → Type 0
+Joined g r r′ = TaskExchanges (tasks (r .memory)) (Edge (graphIn (r .memory))) (orderIn g r) (orderIn g r′)
+
+pub record Keeps (g : Program) : Type 0 where
+  pub one : (r : Trial) → BeginAccepted g r → OneTrial g r
+  pub two : (r r′ : Trial) → BeginAccepted g r → BeginAccepted g r′ → Agree (r .memory) (r′ .memory) → FinishedBy g r → FinishedBy g r′ → Joined g r r′
 
 -- The rules keep it, by demand 3: what is refuted below is its own claim, of other programs.
-abbrev asCalls : ℕ → ℕ → List Call → List calls.Call
-asCalls p k [] = []
-asCalls p k (c ∷ cs) = asCall p k c ∷ asCalls p k cs
+same-answer : (c : calls.Call) (m : Mem) → answerBy rules c m ≡ says engine c m
+unfolding answerBy says
+same-answer (stepCall p k i s) m = refl
+same-answer (beginCall p k) m = refl
+same-answer (lookupCall side t) m = refl
 
-same-memory : (p k : ℕ) (cs : List Call) (m : Mem) → memoryAfter engine (asCalls p k cs) m ≡ leftAfter rules p k cs m
-unfolding memoryAfter leaves leftAfter
-same-memory p k [] m = refl
-same-memory p k (c ∷ cs) m = same-memory p k cs (leftBy rules p k m c)
+same-left : (c : calls.Call) (m : Mem) → leftBy rules c m ≡ leaves engine c m
+unfolding leftBy leaves
+same-left (stepCall p k i s) m = refl
+same-left (beginCall p k) m = refl
+same-left (lookupCall side t) m = refl
 
-same-events : (p k : ℕ) (cs : List Call) (m : Mem) (past : List Event) → eventsAfter engine (asCalls p k cs) m past ≡ eventsBy rules p k cs m past
-unfolding eventsAfter recalled began says leaves eventsBy
-same-events p k [] m past = refl
-same-events p k (c ∷ cs) m past = same-events p k cs (leftBy rules p k m c) (record { call = asCall p k c; said = answerOf rules p k m c } ∷ past)
+same-memory : (cs : List calls.Call) (m : Mem) → memoryAfter engine cs m ≡ leftAfter rules cs m
+unfolding memoryAfter leftAfter
+same-memory [] m = refl
+same-memory (c ∷ cs) m = rw (same-left c m) (same-memory cs (leaves engine c m))
 
-kept-by-demand : ((r : Run) → OneRun r) → Keeps rules
-unfolding orderOf
-kept-by-demand one r b =
+same-events : (cs : List calls.Call) (m : Mem) (past : List Event) → eventsAfter engine cs m past ≡ eventsBy rules cs m past
+unfolding eventsAfter eventsBy
+same-events [] m past = refl
+same-events (c ∷ cs) m past = rw (same-left c m, same-answer c m) (same-events cs (leaves engine c m) (recalled (eventOf engine c m) past))
+
+abbrev asRun : (r : Trial) → BeginAccepted rules r → Run
+asRun r b = record { limits = engine; workers = r .workers; slots = r .slots; lent = r .memory; accepts = b; calls = r .calls }
+
+module _ (r : Trial) (b : BeginAccepted rules r) where
+  memory-is : memoryOf (asRun r b) ≡ endOf rules r
+  memory-is = same-memory (r .calls) (begunBy rules r)
+
+  events-are : eventsOf (asRun r b) ≡ eventsIn rules r
+  events-are = same-events (r .calls) (begunBy rules r) []
+
+  order-is : orderOf (asRun r b) ≡ orderIn rules r
+  unfolding orderOf
+  order-is = ap (λ (m : Mem). tabulate (tasks (r .memory)) (taskWord m)) memory-is
+
+  finished-as : FinishedBy rules r → Finished (asRun r b)
+  finished-as f = record { completes = rw events-are f }
+
+  one-kept : OneRun (asRun r b) → OneTrial rules r
+  unfolding answerBy
+  one-kept kept =
+      record {
+        steps = λ f. rw (sym events-are) (kept .steps (finished-as f));
+        word = rw (sym memory-is, sym events-are) (kept .word);
+        full = λ f. rw (sym memory-is) (kept .full (finished-as f));
+        order = λ f. rw (sym order-is) (kept .order (finished-as f));
+        named = λ f. rw (sym memory-is) (kept .named (finished-as f));
+        next = λ n. rw (sym memory-is) (kept .next (λ f. n (rw events-are at (f .completes))));
+      }
+
+kept-by-demand : Demand3 → Keeps rules
+kept-by-demand demand =
     record {
-      order = λ f. rw (sym memory) (kept .order (record { completes = rw (sym events) at f }));
-      next = λ n. rw (sym memory) (kept .next (λ f. n (rw events at (f .completes))));
+      one = λ r b. one-kept r b (demand .one (asRun r b));
+      two = λ r r′ b b′ same f f′.
+          rw (sym (order-is r b), sym (order-is r′ b′)) (demand .two (asRun r b) (asRun r′ b′) same (finished-as r b f) (finished-as r′ b′ f′));
     }
-  where
-    run : Run
-    run =
-        record {
-          limits = engine;
-          workers = r .workers;
-          slots = r .slots;
-          lent = r .memory;
-          accepts = b;
-          calls = asCalls (r .workers) (r .slots) (r .calls);
-        }
-
-    kept : OneRun run
-    kept = one run
-
-    memory : memoryAfter engine (asCalls (r .workers) (r .slots) (r .calls)) (begunBy rules r) ≡ endOf rules r
-    memory = same-memory (r .workers) (r .slots) (r .calls) (begunBy rules r)
-
-    events : eventsAfter engine (asCalls (r .workers) (r .slots) (r .calls)) (begunBy rules r) [] ≡ eventsIn rules r
-    events = same-events (r .workers) (r .slots) (r .calls) (begunBy rules r) []
 
 pub rules-keep-it : Keeps rules
-rules-keep-it = kept-by-demand (demand-3 .one)
+rules-keep-it = kept-by-demand demand-3
+
+-- No program is ruled out by `two` alone: one that keeps `order` keeps `two`, since orders that the graph allows are joined by exchanges. So a program
+-- against `two` has a run against `order` too; what `two` says of it is that the records of two runs differ in more than they may.
+pub order-joins : (g : Program) → ((r : Trial) → BeginAccepted g r → FinishedBy g r → AllowedOrder (r .memory) (orderIn g r))
+    → (r r′ : Trial) → BeginAccepted g r → BeginAccepted g r′ → Agree (r .memory) (r′ .memory) → FinishedBy g r → FinishedBy g r′ → Joined g r r′
+order-joins g order r r′ b b′ same f f′ =
+    exchange-tasks (tasks (r .memory)) (Edge (graphIn (r .memory))) (orderIn g r) (orderIn g r′) (order r b f) (order-agreed same (order r′ b′ f′))
 
 -- How a run contradicts it.
 
@@ -170,10 +211,15 @@ nothingLeft = refused 10 0 ∷ refused 9 0 ∷ refused 9 0 ∷ refused 10 0 ∷ 
 abbrev nextAnswers : Program → Trial → ℕ → List Said
 nextAnswers g r i = nextAnswer g r i Fetch ∷ nextAnswer g r i Start ∷ nextAnswer g r i Complete ∷ nextAnswer g r i Release ∷ []
 
+-- how many of the calls are steps
+unfoldable stepsAmong : List calls.Call → ℕ
+stepsAmong [] = 0
+stepsAmong (c ∷ cs) = cond (isStep c) (suc (stepsAmong cs)) (stepsAmong cs)
+
 -- all steps of the run are accepted, it isn't finished, and no worker has a step that would be accepted next
 record Stuck (g : Program) (r : Trial) : Type 0 where
   begins : BeginAccepted g r
-  taken : acceptedSteps (eventsIn g r) ≡ length (r .calls)
+  taken : acceptedSteps (eventsIn g r) ≡ stepsAmong (r .calls)
   unfinished : acceptedCompletes (eventsIn g r) < tasks (r .memory)
   refusals : tabulate (r .workers) (nextAnswers g r) ≡ replicate (r .workers) nothingLeft
 
@@ -185,7 +231,7 @@ data Fault (m : Mem) (l : List ℕ) : Type 0 where
 -- all steps of the run are accepted, it is finished, and its order is l, with a fault
 record Disordered (g : Program) (r : Trial) (l : List ℕ) : Type 0 where
   begins : BeginAccepted g r
-  taken : acceptedSteps (eventsIn g r) ≡ length (r .calls)
+  taken : acceptedSteps (eventsIn g r) ≡ stepsAmong (r .calls)
   finished : acceptedCompletes (eventsIn g r) ≡ tasks (r .memory)
   order : orderIn g r ≡ l
   fault : Fault (r .memory) l
@@ -194,7 +240,7 @@ no-acceptance : {a : Said} {n d : ℕ} → a ≡ refused n d → ¬ (Acceptance 
 no-acceptance e x = rw e at x
 
 stuck-fails : {g : Program} {r : Trial} → Stuck g r → ¬ (Keeps g)
-stuck-fails {g = g} {r = r} stuck keeps = go (keeps r (stuck .begins) .next (λ f. absurd (omega (arith, f, stuck .unfinished))))
+stuck-fails {g = g} {r = r} stuck keeps = go (keeps .one r (stuck .begins) .next (λ f. absurd (omega (arith, f, stuck .unfinished))))
   where
     answers : (i : ℕ) → i < r .workers → nextAnswers g r i ≡ nothingLeft
     answers i h =
@@ -211,12 +257,46 @@ stuck-fails {g = g} {r = r} stuck keeps = go (keeps r (stuck .begins) .next (λ 
     go (i, Release, h, a) = no-acceptance (at 3 i h) a
 
 fault-forbids : (m : Mem) (l : List ℕ) → Fault m l → ¬ (AllowedOrder m l)
-fault-forbids m l (missing t h none) allowed = absurd (omega (arith, none, allowed .once t, tally-yes (decLt t (tasks m)) h))
+fault-forbids m l (missing t h zero-times) allowed = absurd (omega (arith, zero-times, allowed .once t, tally-yes (decLt t (tasks m)) h))
 fault-forbids m l (early u t edge before) allowed = absurd (omega (arith, before, allowed .after u t edge))
 
 disordered-fails : {g : Program} {r : Trial} {l : List ℕ} → Disordered g r l → ¬ (Keeps g)
 disordered-fails {g = g} {r = r} {l = l} d keeps =
-    fault-forbids (r .memory) l (d .fault) (rw (sym (d .order)) (keeps r (d .begins) .order (omega (arith, d .finished))))
+    fault-forbids (r .memory) l (d .fault) (rw (sym (d .order)) (keeps .one r (d .begins) .order (omega (arith, d .finished))))
+
+-- the run has so many accepted Completes, so many accepted steps, and this accepted word
+record Counted (g : Program) (r : Trial) (completes steps word : ℕ) : Type 0 where
+  begins : BeginAccepted g r
+  completed : acceptedCompletes (eventsIn g r) ≡ completes
+  taken : acceptedSteps (eventsIn g r) ≡ steps
+  written : acceptedIn (endOf g r) ≡ word
+
+-- with N accepted Completes it is finished
+steps-fail : {g : Program} {r : Trial} {completes steps word : ℕ} → Counted g r completes steps word → completes ≡ tasks (r .memory)
+    → ¬ (steps ≡ 3 * tasks (r .memory) + edges (r .memory)) → ¬ (Keeps g)
+steps-fail {r = r} c all wrong keeps = wrong (sym (c .taken) ∙ keeps .one r (c .begins) .steps (omega (arith, c .completed, all)))
+
+word-fails : {g : Program} {r : Trial} {completes steps word : ℕ} → Counted g r completes steps word → ¬ (word ≡ steps) → ¬ (Keeps g)
+word-fails {r = r} c wrong keeps = wrong (sym (c .written) ∙ keeps .one r (c .begins) .word ∙ c .taken)
+
+-- both runs are finished and of one graph, the orders are l and l′, and l′ has a fault
+record Unjoined (g : Program) (r r′ : Trial) (l l′ : List ℕ) : Type 0 where
+  begins : BeginAccepted g r × BeginAccepted g r′
+  agree : Agree (r .memory) (r′ .memory)
+  finished : (acceptedCompletes (eventsIn g r) ≡ tasks (r .memory)) × (acceptedCompletes (eventsIn g r′) ≡ tasks (r′ .memory))
+  order : (orderIn g r ≡ l) × (orderIn g r′ ≡ l′)
+  fault : Fault (r .memory) l′
+
+-- no exchanges lead to a list with a fault
+fault-unreached : (m : Mem) {a l : List ℕ} {n : ℕ} → Chain ℕ-discrete (eachOnce (tasks m)) (Edge (graphIn m)) a l n → ¬ (Fault m l)
+fault-unreached m (none {a = l} allowed) fault = fault-forbids m l fault allowed
+fault-unreached m (more allowed s rest) fault = fault-unreached m rest fault
+
+unjoined-fail : {g : Program} {r r′ : Trial} {l l′ : List ℕ} → Unjoined g r r′ l l′ → ¬ (Keeps g)
+unjoined-fail {r = r} {r′ = r′} u keeps =
+    fault-unreached (r .memory)
+    (keeps .two r r′ (u .begins .0) (u .begins .1) (u .agree) (omega (arith, u .finished .0)) (omega (arith, u .finished .1)) .chain)
+    (rw (u .order .1) (u .fault))
 
 -- The programs.
 
@@ -227,6 +307,14 @@ beginWithout Accepted p k m = record { answer = Accepted; memory = rootsPlaced p
 
 abbrev pub forgetsRoot : Program
 forgetsRoot = record { begins = λ p k m. beginWithout (beginAnswer engine p k m) p k m; takes = step engine }
+
+-- a begin that is refused and clears the memory
+abbrev pub clearing : Answer → Mem → Result Answer
+clearing (Refused n d) m = record { answer = Refused n d; memory = cleared m }
+clearing Accepted m = record { answer = Accepted; memory = m }
+
+abbrev pub clearsRefused : Program
+clearsRefused = record { begins = λ p k m. clearing (begin engine p k m .answer) (begin engine p k m .memory); takes = step engine }
 
 -- the rules with another plan for one of the steps, from P, K, the worker and the memory
 abbrev pub butFor : Step → (ℕ → ℕ → ℕ → Mem → Plan) → Program
@@ -256,6 +344,39 @@ entryKept m = putEntry (entriesIn m) (taskWord m (entriesIn m)) (workerWord m (e
 
 abbrev pub noRecord : Program
 noRecord = butFor Complete (λ p k i m. alsoWriting (stepPlan engine p k i Complete m) (entryKept m))
+
+-- a Complete that exchanges task number and worker number in the entry: "Task ID and thread ID are two things"
+abbrev pub exchangesNumbers : Program
+exchangesNumbers = butFor Complete (λ p k i m. alsoWriting (stepPlan engine p k i Complete m) (putEntry (entriesIn m) i (held m i) ∷ []))
+
+-- steps that never write the accepted word: it stays as it was
+abbrev pub neverCounts : Program
+neverCounts =
+    record {
+      begins = begin engine;
+      takes = λ p k i s m. carriedOut (alsoWriting (stepPlan engine p k i s m) (putAccepted (acceptedIn m) ∷ [])) m;
+    }
+
+-- "an accepted word that is invented": begin writes 3N + E there, and each step follows the rule as if it were 0, and puts the old word back
+abbrev pub wordInvented : Answer → Mem → Result Answer
+wordInvented (Refused n d) m = record { answer = Refused n d; memory = m }
+wordInvented Accepted m = record { answer = Accepted; memory = written (putAccepted (allSteps m) ∷ []) m }
+
+abbrev pub inventsWord : Program
+inventsWord =
+    record {
+      begins = λ p k m. wordInvented (begin engine p k m .answer) (begin engine p k m .memory);
+      takes = λ p k i s m.
+          carriedOut (alsoWriting (stepPlan engine p k i s (written (putAccepted 0 ∷ []) m)) (putAccepted (acceptedIn m) ∷ [])) m;
+    }
+
+-- a Start that is "accepted with nothing moved" where it doesn't suit the phase
+abbrev pub idling : Plan → Plan
+idling (refuse n d) = cond (eqb n wrongPhase) (accept Moved []) (refuse n d)
+idling (accept o us) = accept o us
+
+abbrev pub startsAgain : Program
+startsAgain = butFor Start (λ p k i m. idling (stepPlan engine p k i Start m))
 
 -- worker i's successor at the cursor: its degree, and the memory with another degree of it
 abbrev pub itsDegree : ℕ → Mem → ℕ
@@ -295,9 +416,25 @@ dropsWhenFull = butFor Release (λ p k i m. dropping p i m (stepPlan engine p k 
 abbrev meet : Mem
 meet = lent 2 2 (1 ∷ 1 ∷ 1 ∷ []) (0 ∷ 0 ∷ 0 ∷ 2 ∷ []) (0 ∷ 1 ∷ [])
 
+-- two roots again, for one worker and three slots
+abbrev twoRootsAlone : Mem
+twoRootsAlone = lent 1 3 (4 ∷ 9 ∷ []) (0 ∷ 0 ∷ 0 ∷ []) []
+
+-- a trial whose calls are steps with begin's P and K
+abbrev asCalls : ℕ → ℕ → List Call → List calls.Call
+asCalls p k [] = []
+asCalls p k (c ∷ cs) = stepCall p k (c .worker) (c .taken) ∷ asCalls p k cs
+
+abbrev trial : ℕ → ℕ → Mem → List Call → Trial
+trial p k m cs = record { workers = p; slots = k; memory = m; calls = asCalls p k cs }
+
 -- a worker fetches, starts and completes a task
 abbrev runsOne : ℕ → List Call
 runsOne i = by i Fetch ∷ by i Start ∷ by i Complete ∷ []
+
+-- worker 0 runs a root, and a begin with another K than the first one's is refused
+abbrev begunTwice : Trial
+begunTwice = record { workers = 2; slots = 2; memory = twoRoots; calls = asCalls 2 2 (runsOne 0) ++ (beginCall 2 3 ∷ []) }
 
 -- worker 0 runs task 0, releases task 2 and runs it, and only then worker 1 runs task 1
 abbrev hasty : Trial
@@ -315,22 +452,47 @@ record WrongRuns : Type 0 where
   skips-the-last-successor : Stuck skipsLast (trial 1 2 fork (runsOne 0 ++ (by 0 Release ∷ runsOne 0)))
   -- against `next`: the ring holds task 1, and task 2 is lost
   drops-when-full : Stuck dropsWhenFull (trial 1 2 fork (runsOne 0 ++ (by 0 Release ∷ by 0 Release ∷ runsOne 0)))
+  -- against `next`: the task that waits for worker 1 is in no ring after the refused begin
+  clears-when-refused : Stuck clearsRefused begunTwice
   -- against `order`: both tasks are completed, the record's words are begin's
   does-not-record : Disordered noRecord (trial 2 2 twoRoots (runsOne 0 ++ runsOne 1)) (0 ∷ 0 ∷ [])
   -- against `order`: task 2 stands before its predecessor 1
   lowers-twice : Disordered lowersTwice hasty (0 ∷ 2 ∷ 1 ∷ [])
   places-early : Disordered placesEarly hasty (0 ∷ 2 ∷ 1 ∷ [])
+  -- against `word`: 3 accepted steps, as they should be, and begin's accepted word
+  never-counts : Counted neverCounts (trial 2 2 single (runsOne 0)) 1 3 0
+  -- against `word`: begun, it says 3, and no step is taken; finished, steps and word are what they should be
+  invents-the-word : Counted inventsWord (trial 2 2 single []) 0 0 3
+  invented-in-the-end : Counted inventsWord (trial 2 2 single (runsOne 0)) 1 3 3
+  -- against `steps`: a second Start is accepted, and the accepted word is still 3
+  starts-again : Counted startsAgain (trial 2 2 single (by 0 Fetch ∷ by 0 Start ∷ by 0 Start ∷ by 0 Complete ∷ [])) 1 4 3
+  -- against `two`: worker i runs task i, and the record is good; worker 0 runs both, and task 0 stands there twice
+  exchanges-numbers : Unjoined exchangesNumbers (trial 2 2 twoRoots (runsOne 0 ++ runsOne 1)) (trial 1 3 twoRootsAlone (runsOne 0 ++ runsOne 0))
+      (0 ∷ 1 ∷ []) (0 ∷ 0 ∷ [])
 
 wrong-runs : WrongRuns
-unfolding ℕ-discrete decLe decLt firstBelow occOf placeOf joined tabulate allOf sumTo after around capped nextPhase part sizesFit firstBad firstTwice firstOnCycle tablesAnswer checkAnswer below? among? light? good? bad? endsFit? twice? twiceIn? find-twice edge? thru? path? leads? onCycle? succsBelow succStart succStarts succWords degreeList roots capacity slotAt endsAt storeEnds sound empty full headOn tailOn sumToZ load loads leastFrom least target search allSteps allEntries numbersFit othersFit lengthsFit countersFit updated written counted carriedOut scan fetchTask fetchFrom fetchRule startRule completeSink completeInner completeRule releasedRow findRoom releaseTo releaseReady releaseWaiting releaseRule ruleOf stepPlan step cleared rootsPlaced begun rootsAnswer beginAnswer begin acceptedOf leftAfter eventsBy
+unfolding ℕ-discrete decLe decLt firstBelow occOf placeOf joined tabulate allOf sumTo after around capped nextPhase part sizesFit firstBad firstTwice firstOnCycle tablesAnswer checkAnswer below? among? light? good? bad? endsFit? twice? twiceIn? find-twice edge? thru? path? leads? onCycle? succsBelow succStart succStarts succWords degreeList roots capacity slotAt endsAt storeEnds sound empty full headOn tailOn sumToZ load loads leastFrom least target search allSteps allEntries numbersFit othersFit lengthsFit countersFit updated written counted carriedOut scan fetchTask fetchFrom fetchRule startRule completeSink completeInner completeRule releasedRow findRoom releaseTo releaseReady releaseWaiting releaseRule ruleOf stepPlan step cleared rootsPlaced begun rootsAnswer beginAnswer begin began recalled acceptedOf answerBy leftBy leftAfter eventsBy stepsAmong
 wrong-runs =
     record {
       forgets-a-root = record { begins = refl; taken = refl; unfinished = omega arith; refusals = refl };
       skips-the-last-successor = record { begins = refl; taken = refl; unfinished = omega arith; refusals = refl };
       drops-when-full = record { begins = refl; taken = refl; unfinished = omega arith; refusals = refl };
+      clears-when-refused = record { begins = refl; taken = refl; unfinished = omega arith; refusals = refl };
       does-not-record = record { begins = refl; taken = refl; finished = refl; order = refl; fault = missing 1 (omega arith) refl };
       lowers-twice = record { begins = refl; taken = refl; finished = refl; order = refl; fault = two-early };
       places-early = record { begins = refl; taken = refl; finished = refl; order = refl; fault = two-early };
+      never-counts = record { begins = refl; completed = refl; taken = refl; written = refl };
+      invents-the-word = record { begins = refl; completed = refl; taken = refl; written = refl };
+      invented-in-the-end = record { begins = refl; completed = refl; taken = refl; written = refl };
+      starts-again = record { begins = refl; completed = refl; taken = refl; written = refl };
+      exchanges-numbers =
+          record {
+            begins = (refl, refl);
+            agree = record { sameTasks = refl; sameEdges = λ u t. (λ e. e, λ e. e) };
+            finished = (refl, refl);
+            order = (refl, refl);
+            fault = missing 1 (omega arith) refl;
+          };
     }
 
 -- Demand 3 rules each of them out.
@@ -343,6 +505,9 @@ no-skipped-successor = stuck-fails (wrong-runs .skips-the-last-successor)
 pub no-dropped-task : ¬ (Keeps dropsWhenFull)
 no-dropped-task = stuck-fails (wrong-runs .drops-when-full)
 
+pub no-clearing-refusal : ¬ (Keeps clearsRefused)
+no-clearing-refusal = stuck-fails (wrong-runs .clears-when-refused)
+
 pub no-missing-entry : ¬ (Keeps noRecord)
 no-missing-entry = disordered-fails (wrong-runs .does-not-record)
 
@@ -351,3 +516,15 @@ no-degree-lowered-twice = disordered-fails (wrong-runs .lowers-twice)
 
 pub no-early-place : ¬ (Keeps placesEarly)
 no-early-place = disordered-fails (wrong-runs .places-early)
+
+pub no-unwritten-word : ¬ (Keeps neverCounts)
+no-unwritten-word = word-fails (wrong-runs .never-counts) (λ e. omega (arith, e))
+
+pub no-invented-word : ¬ (Keeps inventsWord)
+no-invented-word = word-fails (wrong-runs .invents-the-word) (λ e. omega (arith, e))
+
+pub no-idle-start : ¬ (Keeps startsAgain)
+no-idle-start = steps-fail (wrong-runs .starts-again) refl (λ e. omega (arith, e))
+
+pub no-exchanged-numbers : ¬ (Keeps exchangesNumbers)
+no-exchanged-numbers = unjoined-fail (wrong-runs .exchanges-numbers)

@@ -3,7 +3,7 @@
 use Prim.Native.Nat.{ℕ, suc}
 use mathlib.Core.Path.{_≡_}
 use mathlib.Core.Bool.{Bool, true, false, cond}
-use mathlib.Core.List.{List, [], _∷_}
+use mathlib.Core.List.{List, [], _∷_, _++_}
 use lib.Dec.{eqb}
 use Rattle.task.specs.Refusals.{Said, refused, accepted, graphRead, taskFetched, degreeLeft, taskPlaced, answerSays, stepSays}
 use Rattle.task.specs.declared.Limits.{Limits}
@@ -134,3 +134,8 @@ memoryOf r = reached (r .limits) (r .workers) (r .slots) (r .lent) (r .calls)
 -- the calls of the run that then goes on, with their answers, the latest first: those since the last accepted begin
 abbrev pub eventsOf : Run → List Event
 eventsOf r = eventsAfter (r .limits) (r .calls) (begunMemory (r .limits) (r .workers) (r .slots) (r .lent)) []
+
+-- the run with further calls
+abbrev pub longer : Run → List Call → Run
+longer r further =
+    record { limits = r .limits; workers = r .workers; slots = r .slots; lent = r .lent; accepts = r .accepts; calls = r .calls ++ further }

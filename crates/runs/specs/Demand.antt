@@ -5,7 +5,7 @@ use mathlib.Core.Bool.{Bool, cond, _&&_}
 use mathlib.Core.Logic.{_↔_}
 use mathlib.Core.List.{List, [], _∷_}
 use native.Mathlib.Decide.{ℕ-discrete}
-use lib.ListN.{getD}
+use lib.ListN.{length, getD}
 use Rattle.lists.specs.Lists.{tabulate}
 use Rattle.task.specs.Types.{nil}
 use Rattle.task.specs.Refusals.{Said, stepSays}
@@ -14,9 +14,9 @@ use Rattle.task.specs.declared.Step.{Step}
 use Rattle.graph.specs.Graph.{Edge}
 use Rattle.exchange.specs.Exchange.{Allows}
 use Rattle.exchange.specs.Pairs.{eachOnce, TaskExchanges}
-use Rattle.rules.specs.Memory.{Mem, tasks, edges, graphIn}
+use Rattle.rules.specs.Memory.{Mem, tasks, edges, graphIn, acceptedIn}
 use Rattle.rules.specs.Steps.{step}
-use Rattle.runs.specs.Calls.{Call, isStep, isComplete, Event, acceptedSaid, Run, memoryOf, eventsOf}
+use Rattle.runs.specs.Calls.{Call, isStep, isComplete, Event, acceptedSaid, Run, memoryOf, eventsOf, longer}
 
 -- how many of the events are accepted calls of the kind; a lookup or a begin is of neither kind below
 unfoldable pub acceptedOf : (Call → Bool) → List Event → ℕ
@@ -56,16 +56,23 @@ nextSays r i s = stepSays (step (r .limits) (r .workers) (r .slots) i s (memoryO
 pub record OneRun (r : Run) : Type 0 where
   -- "with N tasks and E edges a finished run has exactly 3N + E accepted steps"
   pub steps : Finished r → acceptedSteps (eventsOf r) ≡ 3 * tasks (r .lent) + edges (r .lent)
+  -- so says the lent word, and on the way too: "After every list of a run's calls the accepted word is the number of its accepted steps"; "an accepted
+  -- word that is invented (one per step, 3N+E in demand 3)" is to be rejected
+  pub word : acceptedIn (memoryOf r) ≡ acceptedSteps (eventsOf r)
+  pub full : Finished r → acceptedIn (memoryOf r) ≡ 3 * tasks (r .lent) + edges (r .lent)
   -- "and a record that holds every task once, after all its predecessors", each beside one of the workers
   pub order : Finished r → AllowedOrder (r .lent) (orderOf r)
   pub named : Finished r → (x : ℕ) → x < tasks (r .lent) → workerWord (memoryOf r) x < r .workers
   -- "and in an unfinished one some worker has a step that would be accepted next"
   pub next : ¬ (Finished r) → (i : ℕ) × (s : Step) × (i < r .workers) × Acceptance (nextSays r i s)
 
--- "Two runs are of one graph if N and the edges agree."
-pub record OneGraph (r r′ : Run) : Type 0 where
-  pub sameTasks : tasks (r .lent) ≡ tasks (r′ .lent)
-  pub sameEdges : (u t : ℕ) → Edge (graphIn (r .lent)) u t ↔ Edge (graphIn (r′ .lent)) u t
+-- "Two runs are of one graph if N and the edges agree.": in the tables that their begins were lent
+pub record Agree (m m′ : Mem) : Type 0 where
+  pub sameTasks : tasks m ≡ tasks m′
+  pub sameEdges : (u t : ℕ) → Edge (graphIn m) u t ↔ Edge (graphIn m′) u t
+
+abbrev pub OneGraph : Run → Run → Type 0
+OneGraph r r′ = Agree (r .lent) (r′ .lent)
 
 -- "the records differ only in the order of tasks and the workers named: one task order becomes the other by exchanging neighbours that the graph
 -- doesn't order, one exchange for each pair that the two order differently, every list on the way being an order the graph allows"
@@ -78,3 +85,11 @@ pub record Demand3 : Type 0 where
   pub one : (r : Run) → OneRun r
   -- "For every two such lists whose finished runs are of one graph, whatever worker counts and queue lengths were accepted"
   pub two : (r r′ : Run) → OneGraph r r′ → Finished r → Finished r′ → Exchanges r r′
+
+-- PROMISE: beside "in an unfinished one some worker has a step that would be accepted next": such steps lead to the end. From every run, whatever
+-- its limits, P, K and calls so far, some further steps finish it.
+pub record CanFinish (r : Run) : Type 0 where
+  pub further : List Call
+  -- each is accepted, and a step of this run: an accepted begin would start another, whose steps are counted from 0
+  pub taken : acceptedSteps (eventsOf (longer r further)) ≡ acceptedSteps (eventsOf r) + length further
+  pub finishes : Finished (longer r further)

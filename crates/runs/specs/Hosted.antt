@@ -1,13 +1,14 @@
 -- What a host sees of its calls: one after the other on the lent lists, each with its answer and with the words that it left. The contract of each
--- call says what it answers and leaves; here such single facts are put together.
+-- call says what it answers and leaves (`proofs/Links.antt`); here such single facts are put together.
 use Prim.Native.Nat.{ℕ}
-use mathlib.Core.Path.{_≡_}
+use mathlib.Core.Path.{_≡_, sym}
 use mathlib.Core.List.{List, [], _∷_}
+use lib.ListN.{take}
 use Rattle.task.specs.Refusals.{Said, accepted, answerSays}
 use Rattle.task.specs.declared.Limits.{Limits}
 use Rattle.rules.specs.Memory.{Mem}
 use Rattle.rules.specs.Begin.{begin}
-use Rattle.runs.specs.Calls.{Call, says, leaves, Event, recalled, Run, memoryOf, eventsOf}
+use Rattle.runs.specs.Calls.{Call, beginCall, says, leaves, Event, recalled, Run, memoryOf, eventsOf}
 
 -- a call that a host made, what it was answered, and the words of the lists afterwards
 pub record Seen : Type 0 where
@@ -15,10 +16,33 @@ pub record Seen : Type 0 where
   pub said : Said
   pub left : Mem
 
--- each call was made on the words that the last one left, and answered and left what its rule says
+abbrev pub seenAs : Call → Said → Mem → Seen
+seenAs c said m = record { call = c; said = said; left = m }
+
+abbrev pub eventSeen : Seen → Event
+eventSeen s = record { call = s .call; said = s .said }
+
+-- the call was made on the words m, and answered and left what its rule says
+pub record Link (limits : Limits) (m : Mem) (s : Seen) : Type 0 where
+  pub answered : s .said ≡ says limits (s .call) m
+  pub written : s .left ≡ leaves limits (s .call) m
+
+-- each call was made on the words that the last one left
 abbrev pub Chained : Limits → Mem → List Seen → Type 0
 Chained limits m [] = Unit {0}
-Chained limits m (s ∷ rest) = (s .said ≡ says limits (s .call) m) × ((s .left ≡ leaves limits (s .call) m) × Chained limits (s .left) rest)
+Chained limits m (s ∷ rest) = Link limits m s × Chained limits (s .left) rest
+
+-- what a host sees from an accepted begin on
+pub record Hosting : Type 0 where
+  pub limits : Limits
+  pub workers : ℕ
+  pub slots : ℕ
+  -- the words before begin, and after it
+  pub lent : Mem
+  pub begun : Mem
+  pub begins : Link limits lent (seenAs (beginCall workers slots) accepted begun)
+  pub seen : List Seen
+  pub chained : Chained limits begun seen
 
 unfoldable pub callsMade : List Seen → List Call
 callsMade [] = []
@@ -32,12 +56,30 @@ lastLeft m (s ∷ rest) = lastLeft (s .left) rest
 -- the events of the run that then goes on, from calls and answers as they were seen
 unfoldable pub eventsSeen : List Seen → List Event → List Event
 eventsSeen [] past = past
-eventsSeen (s ∷ rest) past = eventsSeen rest (recalled (record { call = s .call; said = s .said }) past)
+eventsSeen (s ∷ rest) past = eventsSeen rest (recalled (eventSeen s) past)
 
--- PROMISE: an accepted begin and the calls after it, as a host sees them, are a run: what is promised of every run is true of what was seen
-pub record Hosted : Type 0 where
-  pub runSeen : (limits : Limits) (p k : ℕ) (lent begun : Mem) → answerSays (begin limits p k lent .answer) ≡ accepted → begun ≡ begin limits p k lent .memory
-      → (seen : List Seen) → Chained limits begun seen
-      → (r : Run)
-      × (r .limits ≡ limits) × (r .workers ≡ p) × (r .slots ≡ k) × (r .lent ≡ lent) × (r .calls ≡ callsMade seen)
-      × (memoryOf r ≡ lastLeft begun seen) × (eventsOf r ≡ eventsSeen seen [])
+pub begin-accepts : (limits : Limits) (p k : ℕ) (m b : Mem) → Link limits m (seenAs (beginCall p k) accepted b)
+    → answerSays (begin limits p k m .answer) ≡ accepted
+unfolding says
+begin-accepts limits p k m b l = sym (l .answered)
+
+-- the run of this begin and the first n calls (all of them, from their number on), and the words that the host saw then
+abbrev pub runAfter : Hosting → ℕ → Run
+runAfter h n =
+    record {
+      limits = h .limits;
+      workers = h .workers;
+      slots = h .slots;
+      lent = h .lent;
+      accepts = begin-accepts (h .limits) (h .workers) (h .slots) (h .lent) (h .begun) (h .begins);
+      calls = callsMade (take n (h .seen));
+    }
+
+abbrev pub wordsAfter : Hosting → ℕ → Mem
+wordsAfter h n = lastLeft (h .begun) (take n (h .seen))
+
+-- PROMISE: an accepted begin and the calls after it, as a host sees them, are a run, and so they were after each of the calls: what is promised of
+-- every run is true of the words and answers seen, on the way and in the end
+pub record Hosted (h : Hosting) : Type 0 where
+  pub words : (n : ℕ) → memoryOf (runAfter h n) ≡ wordsAfter h n
+  pub events : (n : ℕ) → eventsOf (runAfter h n) ≡ eventsSeen (take n (h .seen)) []

@@ -6,3 +6,4 @@ pub mod RunWords
 pub mod AtRest
 pub mod Undamaged
 pub mod Hosted
+pub mod HostedFair
