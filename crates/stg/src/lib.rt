@@ -36,7 +36,10 @@ fn read_tasks(
     preds: &mut [u32],
 ) -> ReadAnswer
     requires { ⌜ Reading (now text) «at_first» «line_first» n (now weights) (now starts) (now preds) ⌝ }
-    ensures { λ r. ⌜ Outcome (dueFrom (drop «at_first» (now (text .entry))) «line_first» n []) r (now (weights .exit)) (now (starts .exit)) (now (preds .exit)) ⌝ }
+    ensures { λ r. ⌜
+        Outcome (dueFrom (drop «at_first» (now (text .entry))) «line_first» n []) r (now (weights .exit)) (now (starts .exit))
+        (now (preds .exit))
+        ⌝ }
 {
     let mut at = at_first;
     let mut line = line_first;
@@ -148,7 +151,10 @@ fn sizes_of(answer: ReadAnswer) -> Sizes
 
 // Reads a task text into weights, predecessor starts and predecessors: N and E, or refused 1, 2 or 13.
 pub fn read(text: &[u8], weights: &mut [u32], starts: &mut [u32], preds: &mut [u32]) -> ReadAnswer
-    ensures { λ r. ⌜ readAs r (now (weights .exit)) (now (starts .exit)) (now (preds .exit)) ≡ readText (now (text .entry)) (now (weights .entry)) (now (starts .entry)) (now (preds .entry)) ⌝ }
+    ensures { λ r. ⌜
+        readAs r (now (weights .exit)) (now (starts .exit)) (now (preds .exit))
+        ≡ readText (now (text .entry)) (now (weights .entry)) (now (starts .entry)) (now (preds .entry))
+        ⌝ }
 {
     let fit = (weights.len() == 1024) & ((starts.len() == 1025) & (preds.len() == 8192));
     if !fit {

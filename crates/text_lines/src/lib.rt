@@ -123,8 +123,15 @@ pub fn task_line(
     starts: &mut [u32],
     preds: &mut [u32],
 ) -> TaskLine
-    requires { ⌜ (at ≤ length (now text)) × ((t < 1024) × ((e ≤ 8192) × ((length (now weights) ≡ 1024) × ((length (now starts) ≡ 1025) × (length (now preds) ≡ 8193))))) ⌝ }
-    ensures { λ r. ⌜ TaskFound (now (text .entry)) at t last e r (now (weights .entry)) (now (starts .entry)) (now (preds .entry)) (now (weights .exit)) (now (starts .exit)) (now (preds .exit)) ⌝ }
+    requires { ⌜
+        (at ≤ length (now text)) × ((t < 1024) × ((e ≤ 8192) × ((length (now weights)
+        ≡ 1024) × ((length (now starts) ≡ 1025) × (length (now preds)
+        ≡ 8193)))))
+        ⌝ }
+    ensures { λ r. ⌜
+        TaskFound (now (text .entry)) at t last e r (now (weights .entry)) (now (starts .entry)) (now (preds .entry))
+        (now (weights .exit)) (now (starts .exit)) (now (preds .exit))
+        ⌝ }
 {
     let head = task_head(text, at, t, last);
     if !head.fits {
