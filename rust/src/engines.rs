@@ -4,6 +4,8 @@ use crate::engine::{Engine, MODEL};
 use crate::plain_engine::PLAIN;
 #[cfg(feature = "linked")]
 use crate::proved_engine::PROVED;
+#[cfg(feature = "linked")]
+use crate::ref_engine::RECORDS;
 
 pub fn all() -> Vec<Engine> {
     vec![
@@ -11,5 +13,7 @@ pub fn all() -> Vec<Engine> {
         PLAIN,
         #[cfg(feature = "linked")]
         PROVED,
+        #[cfg(feature = "linked")]
+        RECORDS,
     ]
 }

@@ -8,8 +8,8 @@
 //! `runs` draws lists of calls over a lent `memory`, `damages` lists damaged words, `engine` says what each must answer, and
 //! `demand3` checks whole runs.
 //! `plain_engine` is begin and the steps without proofs; `measured` has the runs that costs are compared on, and `beside`
-//! makes the calls of an engine beside the model's. `proved` and `proved_engine` call the proved code; `exports` is the
-//! interface of the engine's exports, and `plain_export` puts the plain engine behind it.
+//! makes the calls of an engine beside the model's. `proved`, `proved_engine` and `ref_engine` call the proved
+//! code; `exports` is the interface of the engine's exports, and `plain_export` puts the plain engine behind it.
 //! `rule` and `refusals` make the tables that stand in the pages of `docs`, and `pages` puts them there.
 
 pub mod beside;
@@ -33,6 +33,8 @@ pub mod proved;
 #[cfg(feature = "linked")]
 pub mod proved_engine;
 pub mod reader;
+#[cfg(feature = "linked")]
+pub mod ref_engine;
 pub mod refusals;
 pub mod rule;
 pub mod runs;

@@ -6,7 +6,7 @@ use crate::limits::{MAX_EDGES, MAX_SLOTS, MAX_TASKS, MAX_TEXT, MAX_WEIGHT, MAX_W
 use std::error::Error;
 use std::fmt;
 
-/// A refused call: it has written nothing. `docs/REFUSALS.md` says what to do about each number.
+/// A refused call: it leaves every word as it was. `docs/REFUSALS.md` says what to do about each number.
 ///
 /// | number | variants | answered by |
 /// |---|---|---|

@@ -63,7 +63,8 @@ fn in_c(of: &str) -> &'static str {
         "u32" | "TaskId" => "uint32_t",
         "i32" => "int32_t",
         "usize" => "size_t",
-        "Row" => "yolluvek_row",
+        // a row is lent as its cell of six words, the same memory
+        "Row" | "[u32; 6]" => "yolluvek_row",
         "Reply" => "yolluvek_reply",
         "StepReply" => "yolluvek_step_reply",
         "ReadReply" => "yolluvek_read_reply",
