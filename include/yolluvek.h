@@ -46,8 +46,8 @@ extern "C" {
 #define YOLLUVEK_NIL 65535
 
 /*
- * The number that a call answers, 0 where it is accepted. A refused call has written nothing: every word of every list
- * is what it was. The detail is 0 where none is named.
+ * The number that a call answers, 0 where it is accepted. A refused call leaves every word of every list as it was. The
+ * detail is 0 where none is named.
  */
 enum {
     YOLLUVEK_ACCEPTED = 0,
