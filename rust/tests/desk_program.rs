@@ -45,6 +45,39 @@ fn diamond_of(bytes: usize) -> Vec<u8> {
     text
 }
 
+/// The program started by the shell with these redirections; what it printed and what it told.
+fn redirected(how: &str) -> (String, String) {
+    let program = root().join("target/bin/desk");
+    let line = format!("\"$0\" {how}");
+    let result = Command::new("sh")
+        .arg("-c")
+        .arg(line)
+        .arg(program)
+        .output()
+        .expect("a shell");
+    assert!(result.status.success(), "{how}: {}", result.status);
+    let text = |bytes| String::from_utf8(bytes).expect("a text");
+    (text(result.stdout), text(result.stderr))
+}
+
+/// Nothing is judged where the input can't be read: closed, or a folder.
+#[test]
+fn an_input_that_cannot_be_read() {
+    let told = (String::new(), String::from("desk: standard input can't be read\n"));
+    assert_eq!(redirected("<&-"), told);
+    assert_eq!(redirected("</"), told);
+}
+
+#[test]
+fn an_output_that_cannot_be_written() {
+    let (_, told) = redirected("</dev/null >/dev/full");
+    assert_eq!(told, "desk: standard output can't be written\n");
+    assert_eq!(
+        redirected("</dev/null"),
+        (String::from("refused 13 1\n"), String::new())
+    );
+}
+
 #[test]
 fn the_examples() {
     let entries = fs::read_dir(root().join("examples")).expect("the folder is there");
