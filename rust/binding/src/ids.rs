@@ -43,6 +43,18 @@ impl WorkerId {
     }
 }
 
+impl From<u32> for TaskId {
+    fn from(number: u32) -> TaskId {
+        TaskId(number)
+    }
+}
+
+impl From<u32> for WorkerId {
+    fn from(number: u32) -> WorkerId {
+        WorkerId(number)
+    }
+}
+
 /// Prints the number.
 impl fmt::Display for TaskId {
     fn fmt(&self, to: &mut fmt::Formatter<'_>) -> fmt::Result {

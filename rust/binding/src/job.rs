@@ -1,62 +1,13 @@
 //! A job: a task graph and the memory of its run.
 
-use crate::ffi::{self, StepReply};
+use crate::ffi;
 use crate::ids::{TaskId, WorkerId};
-use crate::memory::{Entry, Memory, Row};
+use crate::memory::Memory;
 use crate::refusal::{Asked, Refusal};
+use crate::reply::{self, Reply};
+use crate::step::{Call, Outcome, Released, Step};
 use crate::tables::Tables;
-
-/// Where a worker is.
-#[derive(Clone, Copy, Debug, PartialEq, Eq, Hash)]
-pub enum Phase {
-    /// It holds no task: Release and Fetch suit.
-    Idle,
-    /// It has fetched a task: Start suits.
-    Fetched,
-    /// It is running the task: Complete suits.
-    Running,
-}
-
-impl Phase {
-    /// The phase with this number.
-    pub(crate) const fn of(number: u32) -> Option<Phase> {
-        match number {
-            0 => Some(Phase::Idle),
-            1 => Some(Phase::Fetched),
-            2 => Some(Phase::Running),
-            _ => None,
-        }
-    }
-
-    /// 0 idle, 1 fetched, 2 running.
-    pub const fn number(self) -> u32 {
-        match self {
-            Phase::Idle => 0,
-            Phase::Fetched => 1,
-            Phase::Running => 2,
-        }
-    }
-}
-
-/// What an accepted Release did with the next successor of the oldest task in the worker's buffer.
-#[derive(Clone, Copy, Debug, PartialEq, Eq, Hash)]
-pub enum Released {
-    /// The successor still waits for other predecessors.
-    DegreeLeft {
-        /// For how many.
-        degree: u32,
-    },
-    /// The successor waits for nothing any more, and was placed into a ring.
-    Placed {
-        /// The successor.
-        task: TaskId,
-        /// The worker that owns the ring: the one that can fetch the task.
-        owner: WorkerId,
-    },
-}
-
-/// The kind of a Release's reply that has a task and its owner; the other kind has the degree left.
-const PLACED: u32 = 3;
+use std::hash::{Hash, Hasher};
 
 /// Which neighbours of a task.
 #[derive(Clone, Copy, Debug, PartialEq, Eq, Hash)]
@@ -75,6 +26,10 @@ pub enum Side {
 ///    [`fetch`](Job::fetch) gives it a task, [`start`](Job::start) says that the task runs, [`complete`](Job::complete)
 ///    that it is done, and each [`release`](Job::release) lets one successor of a completed task wait for one task less.
 /// 4. Read the [`record`](Job::record): which worker completed which task, in order.
+///
+/// On the way a job shows all that the rule speaks of: what [is waiting](Job::waiting) in which ring, the
+/// [load](Job::load) of a worker, its [phase](Job::phase), its [hand](Job::held), its [buffer](Job::buffer), what its
+/// [next Release](Job::next_release) is about. A [log](Job::log) keeps the calls of a run, to make them again.
 ///
 /// ```
 /// use yolluvek::{Job, Refusal, WorkerId};
@@ -99,29 +54,45 @@ pub enum Side {
 ///
 /// | [`Refusal`] | of | means |
 /// |---|---|---|
-/// | [`BadLayout`](Refusal::BadLayout) | a text | it isn't laid out as the Standard Task Graph Set, from this line on |
+/// | [`BadLayout`](Refusal::BadLayout), [`TextEnds`](Refusal::TextEnds) | a text | it isn't laid out as the Standard Task Graph Set, from this line on |
 /// | [`BeyondLimit`](Refusal::BeyondLimit) | a text, begin | too large, or too few or too many workers or slots: see [`limits`](crate::limits) |
 /// | [`WrongLength`](Refusal::WrongLength), [`BadPart`](Refusal::BadPart), [`BadEnds`](Refusal::BadEnds), [`PredecessorTwice`](Refusal::PredecessorTwice), [`Cycle`](Refusal::Cycle) | begin | the tables are no task graph |
 /// | [`TooManyRoots`](Refusal::TooManyRoots) | begin | more workers or slots are needed |
 /// | [`NoSuchWorker`](Refusal::NoSuchWorker) | a step | workers have the numbers 0 to [`workers`](Job::workers) − 1 |
-/// | [`WrongPhase`](Refusal::WrongPhase) | a step | another step suits this worker now: see [`Phase`] |
+/// | [`WrongPhase`](Refusal::WrongPhase) | a step | another step suits this worker now: see [`Phase`](crate::Phase) |
 /// | [`NothingToFetch`](Refusal::NothingToFetch), [`NothingToRelease`](Refusal::NothingToRelease) | Fetch, Release | no fault: another step, or another worker, is next |
 /// | [`NoRoom`](Refusal::NoRoom) | Release | let a worker fetch, then release again |
-/// | [`DamagedWord`](Refusal::DamagedWord) | a step | there was no accepted begin |
-/// | [`NoSuchTask`](Refusal::NoSuchTask), [`BadPart`](Refusal::BadPart) | a lookup | there is no such task; its part of the table is bad, as all of the successors' is before begin |
-/// | [`RecordFull`](Refusal::RecordFull), [`Unknown`](Refusal::Unknown) | no call | a job doesn't answer them |
+/// | [`NotBegun`](Refusal::NotBegun), [`NoSuccessorsYet`](Refusal::NoSuccessorsYet) | a step, a lookup | there was no accepted begin |
+/// | [`NoSuchTask`](Refusal::NoSuchTask), [`BadPart`](Refusal::BadPart) | a lookup | there is no such task, or its part of the table is bad |
+/// | [`DamagedWord`](Refusal::DamagedWord), [`RecordFull`](Refusal::RecordFull), [`UnexpectedReply`](Refusal::UnexpectedReply), [`Unknown`](Refusal::Unknown) | no call | a job doesn't answer them |
 ///
 /// Where begin is refused with `BeyondLimit` or `WrongLength`, a step or a lookup may be too.
 ///
 /// The graph, the workers and the slots of a job stay as they are; for others, make another job, of
-/// [`into_tables`](Job::into_tables) perhaps. Two jobs are equal if all their memory is, so a copy made before a refused
-/// call equals the job after it.
-#[derive(Clone, Debug, PartialEq, Eq)]
+/// [`into_tables`](Job::into_tables) perhaps. Two jobs are equal if all their memory is, whatever log they keep, so a
+/// copy made before a refused call equals the job after it.
+#[derive(Clone, Debug)]
 pub struct Job {
-    memory: Memory,
-    workers: usize,
-    slots: usize,
-    begun: bool,
+    pub(crate) memory: Memory,
+    pub(crate) workers: usize,
+    pub(crate) slots: usize,
+    pub(crate) begun: bool,
+    /// The calls of this run, where they are kept.
+    log: Option<Vec<Call>>,
+}
+
+impl PartialEq for Job {
+    fn eq(&self, other: &Job) -> bool {
+        self.state() == other.state()
+    }
+}
+
+impl Eq for Job {}
+
+impl Hash for Job {
+    fn hash<H: Hasher>(&self, to: &mut H) {
+        self.state().hash(to);
+    }
 }
 
 impl Job {
@@ -139,6 +110,8 @@ impl Job {
     ///
     /// let refusal = Job::from_text(b"2\n0 0 0\n1 5 2 0\n", 2, 4).unwrap_err();
     /// assert_eq!(refusal.to_string(), "the text breaks the layout in line 3");
+    /// let refusal = Job::from_text(b"2\n0 0 0\n", 2, 4).unwrap_err();
+    /// assert_eq!(refusal.to_string(), "the text ends before line 3");
     /// # Ok::<(), Refusal>(())
     /// ```
     pub fn from_text(text: &[u8], workers: usize, slots: usize) -> Result<Job, Refusal> {
@@ -159,7 +132,8 @@ impl Job {
     ///     preds: vec![TaskId::new(0)],
     /// };
     /// let mut job = Job::from_tables(tables, usize::MAX, 4);
-    /// assert_eq!(job.begin(), Err(Refusal::BeyondLimit));
+    /// let refusal = job.begin().unwrap_err();
+    /// assert_eq!((refusal.number(), refusal.detail()), (2, 0));
     ///
     /// let mut job = Job::from_tables(job.into_tables(), 3, 4);
     /// assert_eq!(job.begin(), Ok(()));
@@ -170,16 +144,18 @@ impl Job {
             workers,
             slots,
             begun: false,
+            log: None,
         }
+    }
+
+    /// All that tells a job from another.
+    fn state(&self) -> (&Memory, usize, usize, bool) {
+        (&self.memory, self.workers, self.slots, self.begun)
     }
 
     /// The job's tables, for a job with other numbers.
     pub fn into_tables(self) -> Tables {
-        Tables {
-            weights: self.memory.weights,
-            pred_starts: self.memory.pred_starts,
-            preds: self.memory.preds,
-        }
+        self.memory.tables
     }
 
     /// Begins a run: the tasks without predecessors are dealt to the workers, in the order of their numbers. In the
@@ -207,15 +183,46 @@ impl Job {
     /// assert_eq!(job.begin(), Ok(()));
     /// ```
     pub fn begin(&mut self) -> Result<(), Refusal> {
+        let reply = ffi::begin(&mut self.memory, self.workers, self.slots);
         let asked = Asked::Begin {
-            tasks: self.tasks(),
+            tables: &self.memory.tables,
             workers: self.workers,
             slots: self.slots,
         };
-        let reply = ffi::begin(&mut self.memory, self.workers, self.slots);
         asked.answered(reply.number, reply.detail)?;
         self.begun = true;
+        if let Some(log) = &mut self.log {
+            log.clear();
+            log.push(Call::Begin);
+        }
         Ok(())
+    }
+
+    /// A step by its name, for callers that choose it at run time.
+    ///
+    /// # Errors
+    ///
+    /// Refused as the call of that name is.
+    ///
+    /// ```
+    /// use yolluvek::{Job, Outcome, Refusal, Step, TaskId, WorkerId};
+    ///
+    /// let mut job = Job::from_text(b"0\n0 0 0\n1 0 1 0\n", 2, 2)?;
+    /// job.begin()?;
+    /// let worker = WorkerId::new(0);
+    /// assert_eq!(job.step(Step::Fetch, worker)?, Outcome::Fetched(TaskId::new(0)));
+    /// assert_eq!(job.step(Step::Start, worker)?, Outcome::Started);
+    /// let refusal = job.step(Step::Release, worker).unwrap_err();
+    /// assert_eq!((refusal.number(), refusal.detail()), (9, 2));
+    /// # Ok::<(), Refusal>(())
+    /// ```
+    pub fn step(&mut self, step: Step, worker: WorkerId) -> Result<Outcome, Refusal> {
+        match step {
+            Step::Fetch => self.fetch(worker).map(Outcome::Fetched),
+            Step::Start => self.start(worker).map(|()| Outcome::Started),
+            Step::Complete => self.complete(worker).map(|()| Outcome::Completed),
+            Step::Release => self.release(worker).map(Outcome::Released),
+        }
     }
 
     /// Fetch: the worker takes a task that waits in its rings, and is answered which.
@@ -234,9 +241,7 @@ impl Job {
     /// # Ok::<(), Refusal>(())
     /// ```
     pub fn fetch(&mut self, worker: WorkerId) -> Result<TaskId, Refusal> {
-        let workers = self.workers;
-        let reply = self.step(ffi::fetch, Asked::Fetch { workers }, worker)?;
-        Ok(TaskId::new(reply.first))
+        self.taken(Step::Fetch, worker)?.fetched()
     }
 
     /// Start: the worker starts the task that it has fetched.
@@ -257,8 +262,7 @@ impl Job {
     /// # Ok::<(), Refusal>(())
     /// ```
     pub fn start(&mut self, worker: WorkerId) -> Result<(), Refusal> {
-        let workers = self.workers;
-        self.step(ffi::start, Asked::Start { workers }, worker).map(drop)
+        self.taken(Step::Start, worker)?.moved()
     }
 
     /// Complete: the task that the worker is running joins the record, and the worker's buffer if it has successors.
@@ -280,8 +284,7 @@ impl Job {
     /// # Ok::<(), Refusal>(())
     /// ```
     pub fn complete(&mut self, worker: WorkerId) -> Result<(), Refusal> {
-        let workers = self.workers;
-        self.step(ffi::complete, Asked::Complete { workers }, worker).map(drop)
+        self.taken(Step::Complete, worker)?.moved()
     }
 
     /// Release: the next successor of the oldest task in the worker's buffer waits for one task less; if that was the
@@ -319,25 +322,35 @@ impl Job {
     /// # Ok::<(), Refusal>(())
     /// ```
     pub fn release(&mut self, worker: WorkerId) -> Result<Released, Refusal> {
-        let workers = self.workers;
-        let reply = self.step(ffi::release, Asked::Release { workers }, worker)?;
-        Ok(match reply.kind {
-            PLACED => Released::Placed {
-                task: TaskId::new(reply.first),
-                owner: WorkerId::new(reply.second),
-            },
-            _ => Released::DegreeLeft { degree: reply.first },
-        })
+        self.taken(Step::Release, worker)?.released()
     }
 
-    fn step(
-        &mut self,
-        call: fn(&mut Memory, usize, usize, WorkerId) -> StepReply,
-        asked: Asked,
-        worker: WorkerId,
-    ) -> Result<StepReply, Refusal> {
-        let reply = call(&mut self.memory, self.workers, self.slots, worker);
-        asked.answered(reply.number, reply.detail).map(|()| reply)
+    /// The library's reply to a step that it accepts.
+    fn taken(&mut self, step: Step, worker: WorkerId) -> Result<Reply, Refusal> {
+        let call = match step {
+            Step::Fetch => ffi::fetch,
+            Step::Start => ffi::start,
+            Step::Complete => ffi::complete,
+            Step::Release => ffi::release,
+        };
+        let words = call(&mut self.memory, self.workers, self.slots, worker);
+        let asked = Asked::Step {
+            step,
+            tables: &self.memory.tables,
+            workers: self.workers,
+            slots: self.slots,
+            begun: self.begun,
+        };
+        asked.answered(words.number, words.detail)?;
+        // a log starts at a begin, so that it tells the whole run or nothing
+        if let Some(log) = self.log.as_mut().filter(|log| !log.is_empty()) {
+            log.push(Call::Step(step, worker));
+        }
+        Ok(Reply {
+            words,
+            tasks: self.tasks(),
+            workers: self.workers,
+        })
     }
 
     /// The neighbour lookup: the predecessors of a task as the tables have them, or its successors rising, as that part
@@ -362,152 +375,68 @@ impl Job {
     /// ```
     pub fn lookup(&self, side: Side, task: TaskId) -> Result<&[TaskId], Refusal> {
         let (number, table) = match side {
-            Side::Predecessors => (0, &self.memory.preds),
+            Side::Predecessors => (0, &self.memory.tables.preds),
             Side::Successors => (1, &self.memory.succs),
         };
         let judged = ffi::judge_lookup(&self.memory, number, task);
-        let tasks = self.tasks();
-        Asked::Lookup { tasks }.answered(judged.number, judged.detail)?;
-        let part = ffi::lookup(&self.memory, number, task);
-        let from = table.get(part.place as usize..).unwrap_or(&[]);
-        Ok(from.get(..part.count as usize).unwrap_or(from))
+        let asked = Asked::Lookup {
+            side,
+            tables: &self.memory.tables,
+            begun: self.begun,
+        };
+        asked.answered(judged.number, judged.detail)?;
+        reply::part_of(table, ffi::lookup(&self.memory, number, task))
     }
 }
 
-/// Views, which change nothing.
+/// The log of a run.
 impl Job {
-    /// The number of tasks, N.
-    pub fn tasks(&self) -> usize {
-        self.memory.weights.len()
+    /// Keeps a log from now on. A log starts at an accepted begin; switched on in the middle of a run, it starts at the
+    /// next one.
+    pub fn keep_log(&mut self) {
+        self.log.get_or_insert_with(Vec::new);
     }
 
-    /// The number of edges, E.
-    pub fn edges(&self) -> usize {
-        self.memory.preds.len()
-    }
-
-    /// The number of workers that the job was made for, P.
-    pub fn workers(&self) -> usize {
-        self.workers
-    }
-
-    /// The number of slots of each ring, K; a ring holds one task less.
-    pub fn slots(&self) -> usize {
-        self.slots
-    }
-
-    /// The weight of a task.
-    pub fn weight(&self, task: TaskId) -> Option<u32> {
-        self.memory.weights.get(task.number() as usize).copied()
-    }
-
-    /// Whether there is a run: whether a begin was accepted.
-    pub fn is_begun(&self) -> bool {
-        self.begun
-    }
-
-    /// How many steps of this run were accepted; 3N + E once it is finished.
-    pub fn accepted(&self) -> u32 {
-        self.memory.run.accepted
-    }
-
-    /// Whether every task of this run is completed. Nothing is left to fetch or to release then.
-    pub fn is_finished(&self) -> bool {
-        self.begun && self.memory.run.entries as usize == self.tasks()
-    }
-
-    /// The record of this run: each completed task with its worker, in the order of their Completes.
+    /// The accepted calls of this run in their order, the begin first, where a log is kept: at most 1 + 3N + E. Refused
+    /// calls changed nothing, and aren't in it. Replayed, a log that isn't empty gives the job as it is.
     ///
     /// ```
-    /// use yolluvek::{Job, Refusal, WorkerId};
+    /// use yolluvek::{Call, Job, Refusal, Step, WorkerId};
     ///
-    /// let mut job = Job::from_text(b"0\n0 0 0\n1 0 1 0\n", 1, 2)?;
+    /// let mut job = Job::from_text(b"0\n0 0 0\n1 0 1 0\n", 2, 2)?;
+    /// job.keep_log();
     /// job.begin()?;
-    /// let worker = WorkerId::new(0);
-    /// for _ in 0..job.tasks() {
-    ///     job.fetch(worker)?;
-    ///     job.start(worker)?;
-    ///     job.complete(worker)?;
-    ///     while job.release(worker).is_ok() {}
-    /// }
-    /// assert!(job.is_finished());
-    /// let tasks: Vec<u32> = job.record().iter().map(|entry| entry.task.number()).collect();
-    /// assert_eq!(tasks, [0, 1]);
+    /// let [zero, one] = [0, 1].map(WorkerId::new);
+    /// job.fetch(zero)?;
+    /// assert!(job.fetch(one).is_err());
+    /// job.start(zero)?;
+    /// let calls = [Call::Begin, Call::Step(Step::Fetch, zero), Call::Step(Step::Start, zero)];
+    /// assert_eq!(job.log(), calls);
+    ///
+    /// // a step back: all calls but the last
+    /// let replayed = |calls| Job::replay(job.tables().clone(), job.workers(), job.slots(), calls);
+    /// let mut back = replayed(&calls[..2]);
+    /// assert_ne!(back, job);
+    /// back.start(zero)?;
+    /// assert_eq!(back, job);
     /// # Ok::<(), Refusal>(())
     /// ```
-    pub fn record(&self) -> &[Entry] {
-        let entries = self.memory.run.entries as usize;
-        self.memory.executed.get(..entries).unwrap_or(&[])
+    pub fn log(&self) -> &[Call] {
+        self.log.as_deref().unwrap_or(&[])
     }
 
-    /// The load of a worker: the sum of its counters, which is the weight of the tasks that wait in its rings. None if
-    /// there is no such worker or no accepted begin.
-    ///
-    /// ```
-    /// use yolluvek::{Job, Refusal, Tables, WorkerId};
-    ///
-    /// let tables = Tables {
-    ///     weights: vec![4, 6],
-    ///     pred_starts: vec![0; 3],
-    ///     preds: Vec::new(),
-    /// };
-    /// let mut job = Job::from_tables(tables, 2, 4);
-    /// assert_eq!(job.load(WorkerId::new(1)), None);
-    /// job.begin()?;
-    /// assert_eq!(job.load(WorkerId::new(1)), Some(6));
-    /// job.fetch(WorkerId::new(1))?;
-    /// assert_eq!(job.load(WorkerId::new(1)), Some(0));
-    /// # Ok::<(), Refusal>(())
-    /// ```
-    pub fn load(&self, worker: WorkerId) -> Option<i64> {
-        let place = self.place(worker)?;
-        let first = place.checked_mul(self.workers)?;
-        let end = first.checked_add(self.workers)?;
-        let counters = self.memory.counters.get(first..end)?;
-        Some(counters.iter().map(|&counter| i64::from(counter)).sum())
-    }
-
-    /// The phase of a worker. None if there is no such worker or no accepted begin.
-    ///
-    /// ```
-    /// use yolluvek::{Job, Phase, Refusal, WorkerId};
-    ///
-    /// let mut job = Job::from_text(b"0\n0 0 0\n1 0 1 0\n", 1, 2)?;
-    /// job.begin()?;
-    /// assert_eq!(job.phase(WorkerId::new(0)), Some(Phase::Idle));
-    /// assert_eq!(job.phase(WorkerId::new(1)), None);
-    /// # Ok::<(), Refusal>(())
-    /// ```
-    pub fn phase(&self, worker: WorkerId) -> Option<Phase> {
-        Phase::of(self.row(worker)?.phase)
-    }
-
-    /// The task that a worker has fetched or is running. None if its hand is empty, or there is no such worker or no
-    /// accepted begin.
-    ///
-    /// ```
-    /// use yolluvek::{Job, Refusal, WorkerId};
-    ///
-    /// let mut job = Job::from_text(b"0\n0 0 0\n1 0 1 0\n", 1, 2)?;
-    /// job.begin()?;
-    /// let worker = WorkerId::new(0);
-    /// assert_eq!(job.held(worker), None);
-    /// let task = job.fetch(worker)?;
-    /// assert_eq!(job.held(worker), Some(task));
-    /// # Ok::<(), Refusal>(())
-    /// ```
-    pub fn held(&self, worker: WorkerId) -> Option<TaskId> {
-        let held = self.row(worker)?.held;
-        ((held as usize) < self.tasks()).then_some(TaskId::new(held))
-    }
-
-    /// The place of a worker's row, in a job that is begun.
-    fn place(&self, worker: WorkerId) -> Option<usize> {
-        let place = worker.number() as usize;
-        (self.begun && place < self.workers).then_some(place)
-    }
-
-    fn row(&self, worker: WorkerId) -> Option<&Row> {
-        self.memory.rows.get(self.place(worker)?)
+    /// Makes a job and these calls on it, one after the other; a call that is refused changes nothing. The job keeps its
+    /// log.
+    pub fn replay(tables: Tables, workers: usize, slots: usize, calls: &[Call]) -> Job {
+        let mut job = Job::from_tables(tables, workers, slots);
+        job.keep_log();
+        for &call in calls {
+            // refused means untouched, so there is nothing to do about it
+            let _refused = match call {
+                Call::Begin => job.begin().err(),
+                Call::Step(step, worker) => job.step(step, worker).err(),
+            };
+        }
+        job
     }
 }

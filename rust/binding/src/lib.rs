@@ -59,13 +59,14 @@
 //! Some of that is proved on the condition that nothing but the engine writes its memory. Here this holds by Rust's
 //! types: all that the engine writes is private to a [`Job`] and handed out by shared reference alone, and each call
 //! that writes borrows the job mutably, so that calls come one after the other. To share a job among threads, put it
-//! behind a lock.
+//! behind a lock; `examples/threads.rs` does, and says which thread to wake when.
 //!
 //! # Linking
 //!
 //! The build script links the archives `libgraph_export.a`, `libstg_export.a` and `libengine_export.a` (x86-64 Linux),
 //! which `rt staticlib` writes to `target/staticlib` of the repository; the environment variable `YOLLUVEK_LIB` names
-//! another folder by its absolute path. A call allocates nothing and uses at most about 41 KB of stack.
+//! another folder. A relative name counts from the folder that cargo is called in, or else from the nearest folder around
+//! this package that has it. A call allocates nothing and uses at most about 41 KB of stack.
 
 #![deny(missing_docs, unsafe_code)]
 
@@ -78,10 +79,19 @@ mod layout;
 pub mod limits;
 mod memory;
 mod refusal;
+mod reply;
+mod step;
 mod tables;
+mod views;
 
 pub use ids::{TaskId, WorkerId};
-pub use job::{Job, Phase, Released, Side};
+pub use job::{Job, Side};
 pub use memory::Entry;
 pub use refusal::Refusal;
+pub use step::{Call, NextRelease, Outcome, Phase, Released, Step};
 pub use tables::Tables;
+
+/// The program of the front page, compiled and run as it stands there.
+#[cfg(doctest)]
+#[doc = include_str!("../../../README.md")]
+struct FrontPage;

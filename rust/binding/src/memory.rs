@@ -15,7 +15,7 @@ pub struct Entry {
 }
 
 /// A worker's row: "phase, held task, ring pointer, buffer read place, buffer write place, cursor".
-#[derive(Clone, Copy, Debug, PartialEq, Eq)]
+#[derive(Clone, Copy, Debug, PartialEq, Eq, Hash)]
 #[repr(C)]
 pub(crate) struct Row {
     pub phase: u32,
@@ -27,7 +27,7 @@ pub(crate) struct Row {
 }
 
 /// The two run words.
-#[derive(Clone, Copy, Debug, PartialEq, Eq)]
+#[derive(Clone, Copy, Debug, PartialEq, Eq, Hash)]
 #[repr(C)]
 pub(crate) struct Run {
     pub entries: u32,
@@ -38,18 +38,17 @@ pub(crate) struct Run {
 const UNWRITTEN: u32 = u32::MAX;
 
 /// The thirteen lists in document 01's order. No call but an accepted one of the engine writes them.
-#[derive(Clone, Debug, PartialEq, Eq)]
+#[derive(Clone, Debug, PartialEq, Eq, Hash)]
 pub(crate) struct Memory {
-    pub weights: Vec<u32>,
-    pub pred_starts: Vec<u32>,
-    pub preds: Vec<TaskId>,
+    /// The first three.
+    pub tables: Tables,
     pub succ_starts: Vec<u32>,
     pub succs: Vec<TaskId>,
     pub degrees: Vec<u32>,
-    pub rings: Vec<u32>,
+    pub rings: Vec<TaskId>,
     pub ends: Vec<u32>,
     pub counters: Vec<i32>,
-    pub buffers: Vec<u32>,
+    pub buffers: Vec<TaskId>,
     pub executed: Vec<Entry>,
     pub run: Run,
     pub rows: Vec<Row>,
@@ -69,22 +68,15 @@ impl Memory {
         let e = tables.preds.len().min(MAX_EDGES);
         let p = workers.min(MAX_WORKERS);
         let k = slots.min(MAX_SLOTS);
-        let Tables {
-            weights,
-            pred_starts,
-            preds,
-        } = tables;
         Memory {
-            weights,
-            pred_starts,
-            preds,
+            tables,
             succ_starts: vec![UNWRITTEN; n + 1],
             succs: vec![TaskId::new(UNWRITTEN); e],
             degrees: vec![0; n],
-            rings: vec![0; p * p * k],
+            rings: vec![TaskId::new(0); p * p * k],
             ends: vec![0; 2 * p * p],
             counters: vec![0; p * p],
-            buffers: vec![0; p * n],
+            buffers: vec![TaskId::new(0); p * n],
             executed: vec![Entry::UNWRITTEN; n],
             run: Run {
                 entries: 0,
@@ -93,6 +85,28 @@ impl Memory {
             rows: vec![Row::UNWRITTEN; p],
         }
     }
+
+    /// The words of each list.
+    pub fn lists(&self) -> [Vec<u32>; 13] {
+        let numbers = |tasks: &[TaskId]| tasks.iter().map(|task| task.number()).collect();
+        let counters = self.counters.iter().map(|&counter| counter as u32);
+        let entries = self.executed.iter().flat_map(|entry| entry.words());
+        [
+            self.tables.weights.clone(),
+            self.tables.pred_starts.clone(),
+            numbers(&self.tables.preds),
+            self.succ_starts.clone(),
+            numbers(&self.succs),
+            self.degrees.clone(),
+            numbers(&self.rings),
+            self.ends.clone(),
+            counters.collect(),
+            numbers(&self.buffers),
+            entries.collect(),
+            vec![self.run.entries, self.run.accepted],
+            self.rows.iter().flat_map(|row| row.words()).collect(),
+        ]
+    }
 }
 
 impl Entry {
@@ -100,6 +114,10 @@ impl Entry {
         task: TaskId::new(UNWRITTEN),
         worker: WorkerId::new(UNWRITTEN),
     };
+
+    fn words(self) -> [u32; 2] {
+        [self.task.number(), self.worker.number()]
+    }
 }
 
 impl Row {
@@ -111,4 +129,8 @@ impl Row {
         write: UNWRITTEN,
         cursor: UNWRITTEN,
     };
+
+    fn words(self) -> [u32; 6] {
+        [self.phase, self.held, self.pointer, self.read, self.write, self.cursor]
+    }
 }

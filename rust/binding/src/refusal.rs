@@ -1,8 +1,10 @@
 //! Why a call was refused.
 
 use crate::ids::{TaskId, WorkerId};
-use crate::job::Phase;
-use crate::limits::{MAX_EDGES, MAX_SLOTS, MAX_TASKS, MAX_TEXT, MAX_WEIGHT, MAX_WORKERS, MIN_SLOTS};
+use crate::job::Side;
+use crate::limits::Limit;
+use crate::step::{Phase, Step};
+use crate::tables::Tables;
 use std::error::Error;
 use std::fmt;
 
@@ -12,20 +14,23 @@ use std::fmt;
 /// |---|---|---|
 /// | 1 | [`WrongLength`](Refusal::WrongLength) | check, begin, steps, lookup |
 /// | 2 | [`BeyondLimit`](Refusal::BeyondLimit) | every call |
-/// | 3 | [`BadPart`](Refusal::BadPart), [`BadEnds`](Refusal::BadEnds), [`NoSuchTask`](Refusal::NoSuchTask) | check, begin, lookup |
+/// | 3 | [`BadPart`](Refusal::BadPart), [`BadEnds`](Refusal::BadEnds) | check, begin, lookup |
+/// | 3 | [`NoSuchTask`](Refusal::NoSuchTask), [`NoSuccessorsYet`](Refusal::NoSuccessorsYet) | lookup |
 /// | 4 | [`PredecessorTwice`](Refusal::PredecessorTwice) | check, begin |
 /// | 5 | [`Cycle`](Refusal::Cycle) | check, begin |
 /// | 6 | [`TooManyRoots`](Refusal::TooManyRoots) | begin |
 /// | 7 | [`NoSuchWorker`](Refusal::NoSuchWorker) | every step |
-/// | 8 | [`DamagedWord`](Refusal::DamagedWord) | a step before begin |
+/// | 8 | [`NotBegun`](Refusal::NotBegun) | a step before begin |
+/// | 8 | [`DamagedWord`](Refusal::DamagedWord) | none |
 /// | 9 | [`WrongPhase`](Refusal::WrongPhase) | every step |
 /// | 10 | [`NothingToFetch`](Refusal::NothingToFetch), [`NothingToRelease`](Refusal::NothingToRelease) | Fetch, Release |
 /// | 11 | [`NoRoom`](Refusal::NoRoom) | Release |
 /// | 12 | [`RecordFull`](Refusal::RecordFull) | none |
-/// | 13 | [`BadLayout`](Refusal::BadLayout) | reading |
+/// | 13 | [`BadLayout`](Refusal::BadLayout), [`TextEnds`](Refusal::TextEnds) | reading |
 ///
 /// In a run, from an accepted begin on, 1, 2, 8 and 12 aren't answered: they would say that something else has written
-/// the job's memory.
+/// the job's memory. [`UnexpectedReply`](Refusal::UnexpectedReply) and [`Unknown`](Refusal::Unknown) aren't answered at
+/// all by the library that this crate was made for.
 ///
 /// ```
 /// use yolluvek::{Job, Refusal, WorkerId};
@@ -41,14 +46,17 @@ use std::fmt;
 /// );
 /// # Ok::<(), Refusal>(())
 /// ```
-#[derive(Clone, Copy, Debug, PartialEq, Eq, Hash)]
+#[derive(Clone, Debug, PartialEq, Eq, Hash)]
 #[non_exhaustive]
 pub enum Refusal {
     /// 1: a lent list has the wrong length. A job sizes its own lists, so it is the predecessor starts, of which there
     /// have to be N + 1.
     WrongLength,
     /// 2: a size, a weight or the text is beyond its limit. [`limits`](crate::limits) has them.
-    BeyondLimit,
+    BeyondLimit {
+        /// Which one.
+        limit: Limit,
+    },
     /// 3: a task's part of a table has a bad start, or a task number that is no task's.
     BadPart {
         /// The smallest such task; of a lookup, the task asked for.
@@ -57,7 +65,7 @@ pub enum Refusal {
     /// 3: each task's part is right by itself, but the first start isn't 0 or the last one isn't E. The detail is N.
     BadEnds {
         /// N.
-        tasks: u32,
+        tasks: usize,
     },
     /// 3, by a lookup: there is no such task.
     NoSuchTask {
@@ -65,6 +73,11 @@ pub enum Refusal {
         task: TaskId,
         /// How many tasks there are.
         tasks: usize,
+    },
+    /// 3, by a lookup of successors before an accepted begin, which writes them: begin first.
+    NoSuccessorsYet {
+        /// The task asked for.
+        task: TaskId,
     },
     /// 4: a predecessor stands twice in one task.
     PredecessorTwice {
@@ -75,11 +88,13 @@ pub enum Refusal {
     Cycle {
         /// The smallest task on a cycle.
         task: TaskId,
+        /// A whole cycle: that task, then one of its predecessors, and so on; the task is a predecessor of the last one.
+        path: Vec<TaskId>,
     },
     /// 6: there are more tasks without predecessors than the rings have room for.
     TooManyRoots {
         /// How many tasks have no predecessors.
-        roots: u32,
+        roots: usize,
         /// How many there is room for, P · (K − 1).
         room: usize,
     },
@@ -90,7 +105,9 @@ pub enum Refusal {
         /// How many workers there are.
         workers: usize,
     },
-    /// 8: a damaged word in the lent memory. Of a job that means: there was no accepted begin.
+    /// 8, before an accepted begin: begin first.
+    NotBegun,
+    /// 8: a damaged word in the lent memory. A job doesn't answer it in a run.
     DamagedWord,
     /// 9: the step doesn't suit the worker's phase.
     WrongPhase {
@@ -111,8 +128,19 @@ pub enum Refusal {
     RecordFull,
     /// 13: the text breaks the layout.
     BadLayout {
-        /// The line, counted from 1; a text that ends too early breaks it in the line after its last.
+        /// The line, counted from 1.
         line: u32,
+    },
+    /// 13: the text ends too early.
+    TextEnds {
+        /// The line that isn't there, counted from 1.
+        line: u32,
+    },
+    /// No refusal: the library accepts the call, with a reply that this crate knows no meaning of, as another version of
+    /// the library might. The number is 0, and the job may have changed.
+    UnexpectedReply {
+        /// The reply's words after number and detail, 0 where it has fewer.
+        words: [u32; 3],
     },
     /// A number and a detail that this crate knows no meaning of, as another version of the library might answer them.
     Unknown {
@@ -125,22 +153,37 @@ pub enum Refusal {
 
 /// The call that is made, with what its refusals are put into words by.
 #[derive(Clone, Copy, Debug)]
-pub(crate) enum Asked {
-    Text,
-    Check { tasks: usize },
-    Lookup { tasks: usize },
-    Begin { tasks: usize, workers: usize, slots: usize },
-    Fetch { workers: usize },
-    Start { workers: usize },
-    Complete { workers: usize },
-    Release { workers: usize },
+pub(crate) enum Asked<'a> {
+    Text {
+        text: &'a [u8],
+    },
+    Check {
+        tables: &'a Tables,
+    },
+    Lookup {
+        side: Side,
+        tables: &'a Tables,
+        begun: bool,
+    },
+    Begin {
+        tables: &'a Tables,
+        workers: usize,
+        slots: usize,
+    },
+    Step {
+        step: Step,
+        tables: &'a Tables,
+        workers: usize,
+        slots: usize,
+        begun: bool,
+    },
 }
 
-impl Asked {
-    /// What the library's number and detail say, 0 being acceptance.
+impl Asked<'_> {
+    /// What the library's number and detail say, 0 and 0 being acceptance.
     pub fn answered(self, number: u32, detail: u32) -> Result<(), Refusal> {
-        match number {
-            0 => Ok(()),
+        match (number, detail) {
+            (0, 0) => Ok(()),
             _ => Err(self
                 .refused(number, detail)
                 .unwrap_or(Refusal::Unknown { number, detail })),
@@ -149,120 +192,216 @@ impl Asked {
 
     /// The refusal with this number and detail, if this call is known to answer it.
     fn refused(self, number: u32, detail: u32) -> Option<Refusal> {
-        let task = TaskId::new(detail);
         let refusal = match (number, self) {
             (1, _) => Refusal::WrongLength,
-            (2, _) => Refusal::BeyondLimit,
-            (3, Asked::Check { tasks } | Asked::Begin { tasks, .. }) if detail as usize >= tasks => {
-                Refusal::BadEnds { tasks: detail }
-            }
-            (3, Asked::Lookup { tasks }) if detail as usize >= tasks => Refusal::NoSuchTask { task, tasks },
-            (3, Asked::Check { .. } | Asked::Begin { .. } | Asked::Lookup { .. }) => Refusal::BadPart { task },
-            (4, Asked::Check { .. } | Asked::Begin { .. }) => Refusal::PredecessorTwice { task },
-            (5, Asked::Check { .. } | Asked::Begin { .. }) => Refusal::Cycle { task },
+            (2, _) => Refusal::BeyondLimit { limit: self.limit() },
+            (13, Asked::Text { text }) => layout_refused(text, detail),
+            (_, Asked::Text { .. }) => return None,
+            (_, Asked::Check { tables }) => graph_refused(tables, number, detail)?,
+            (3, Asked::Lookup { side, tables, begun }) => lookup_refused(side, tables, begun, detail),
+            (_, Asked::Lookup { .. }) => return None,
             (6, Asked::Begin { workers, slots, .. }) => Refusal::TooManyRoots {
-                roots: detail,
+                roots: detail as usize,
                 room: workers.saturating_mul(slots.saturating_sub(1)),
             },
-            (13, Asked::Text) => Refusal::BadLayout { line: detail },
-            _ => self.step_refused(number, detail)?,
+            (_, Asked::Begin { tables, .. }) => graph_refused(tables, number, detail)?,
+            (
+                _,
+                Asked::Step {
+                    step, workers, begun, ..
+                },
+            ) => step_refused(step, workers, begun, number, detail)?,
         };
         // what has no detail of its own is known with detail 0 alone
         (refusal.detail() == detail).then_some(refusal)
     }
 
-    fn step_refused(self, number: u32, detail: u32) -> Option<Refusal> {
-        let workers = self.workers()?;
-        Some(match (number, self) {
-            (7, _) => Refusal::NoSuchWorker {
-                worker: WorkerId::new(detail),
-                workers,
-            },
-            (8, _) => Refusal::DamagedWord,
-            (9, _) => Refusal::WrongPhase {
-                phase: Phase::of(detail)?,
-            },
-            (10, Asked::Fetch { .. }) => Refusal::NothingToFetch,
-            (10, Asked::Release { .. }) => Refusal::NothingToRelease,
-            (11, Asked::Release { .. }) => Refusal::NoRoom {
-                task: TaskId::new(detail),
-            },
-            (12, Asked::Complete { .. }) => Refusal::RecordFull,
-            _ => return None,
-        })
+    /// Which limit this call goes beyond.
+    fn limit(self) -> Limit {
+        let found = match self {
+            Asked::Text { text } => Some(Limit::of_text(text)),
+            Asked::Check { tables } => Limit::of_sizes(tables).or_else(|| Limit::of_weights(tables)),
+            Asked::Lookup { tables, .. } => Limit::of_sizes(tables),
+            Asked::Begin { tables, workers, slots } => Limit::of_sizes(tables)
+                .or_else(|| Limit::of_numbers(workers, slots))
+                .or_else(|| Limit::of_weights(tables)),
+            Asked::Step {
+                tables, workers, slots, ..
+            } => Limit::of_sizes(tables).or_else(|| Limit::of_numbers(workers, slots)),
+        };
+        found.unwrap_or(Limit::Unknown)
     }
+}
 
-    /// P, of a step.
-    fn workers(self) -> Option<usize> {
-        match self {
-            Asked::Fetch { workers }
-            | Asked::Start { workers }
-            | Asked::Complete { workers }
-            | Asked::Release { workers } => Some(workers),
-            Asked::Text | Asked::Check { .. } | Asked::Lookup { .. } | Asked::Begin { .. } => None,
-        }
+/// 13: "a text that ends too early breaks it at its count of lines plus 1".
+fn layout_refused(text: &[u8], line: u32) -> Refusal {
+    let ended = text.iter().filter(|&&mark| mark == b'\n').count();
+    let open = text.last().is_some_and(|&mark| mark != b'\n');
+    let lines = ended + usize::from(open);
+    match line as usize > lines {
+        true => Refusal::TextEnds { line },
+        false => Refusal::BadLayout { line },
     }
+}
+
+/// 3, 4 and 5 by the check and by begin.
+fn graph_refused(tables: &Tables, number: u32, detail: u32) -> Option<Refusal> {
+    let task = TaskId::new(detail);
+    let tasks = detail as usize;
+    Some(match number {
+        3 if tasks >= tables.weights.len() => Refusal::BadEnds { tasks },
+        3 => Refusal::BadPart { task },
+        4 => Refusal::PredecessorTwice { task },
+        5 => Refusal::Cycle {
+            task,
+            path: tables.cycle(task).unwrap_or_default(),
+        },
+        _ => return None,
+    })
+}
+
+/// 3 by a lookup.
+fn lookup_refused(side: Side, tables: &Tables, begun: bool, detail: u32) -> Refusal {
+    let task = TaskId::new(detail);
+    let tasks = tables.weights.len();
+    match side {
+        _ if detail as usize >= tasks => Refusal::NoSuchTask { task, tasks },
+        Side::Successors if !begun => Refusal::NoSuccessorsYet { task },
+        _ => Refusal::BadPart { task },
+    }
+}
+
+/// 7 to 12 by a step.
+fn step_refused(step: Step, workers: usize, begun: bool, number: u32, detail: u32) -> Option<Refusal> {
+    Some(match (number, step) {
+        (7, _) => Refusal::NoSuchWorker {
+            worker: WorkerId::new(detail),
+            workers,
+        },
+        (8, _) if begun => Refusal::DamagedWord,
+        (8, _) => Refusal::NotBegun,
+        (9, _) => Refusal::WrongPhase {
+            phase: Phase::of(detail)?,
+        },
+        (10, Step::Fetch) => Refusal::NothingToFetch,
+        (10, Step::Release) => Refusal::NothingToRelease,
+        (11, Step::Release) => Refusal::NoRoom {
+            task: TaskId::new(detail),
+        },
+        (12, Step::Complete) => Refusal::RecordFull,
+        _ => return None,
+    })
 }
 
 impl Refusal {
     /// The number in the published table of refusals.
-    pub const fn number(self) -> u32 {
-        match self {
+    pub const fn number(&self) -> u32 {
+        match *self {
+            Refusal::UnexpectedReply { .. } => 0,
             Refusal::WrongLength => 1,
-            Refusal::BeyondLimit => 2,
-            Refusal::BadPart { .. } | Refusal::BadEnds { .. } | Refusal::NoSuchTask { .. } => 3,
+            Refusal::BeyondLimit { .. } => 2,
+            Refusal::BadPart { .. }
+            | Refusal::BadEnds { .. }
+            | Refusal::NoSuchTask { .. }
+            | Refusal::NoSuccessorsYet { .. } => 3,
             Refusal::PredecessorTwice { .. } => 4,
             Refusal::Cycle { .. } => 5,
             Refusal::TooManyRoots { .. } => 6,
             Refusal::NoSuchWorker { .. } => 7,
-            Refusal::DamagedWord => 8,
+            Refusal::NotBegun | Refusal::DamagedWord => 8,
             Refusal::WrongPhase { .. } => 9,
             Refusal::NothingToFetch | Refusal::NothingToRelease => 10,
             Refusal::NoRoom { .. } => 11,
             Refusal::RecordFull => 12,
-            Refusal::BadLayout { .. } => 13,
+            Refusal::BadLayout { .. } | Refusal::TextEnds { .. } => 13,
             Refusal::Unknown { number, .. } => number,
         }
     }
 
     /// The detail that comes with the number; 0 where the table states none.
-    pub const fn detail(self) -> u32 {
-        match self {
-            Refusal::WrongLength
-            | Refusal::BeyondLimit
+    pub const fn detail(&self) -> u32 {
+        match *self {
+            Refusal::UnexpectedReply { .. }
+            | Refusal::WrongLength
+            | Refusal::BeyondLimit { .. }
+            | Refusal::NotBegun
             | Refusal::DamagedWord
             | Refusal::NothingToFetch
             | Refusal::NothingToRelease
             | Refusal::RecordFull => 0,
             Refusal::BadPart { task }
             | Refusal::NoSuchTask { task, .. }
+            | Refusal::NoSuccessorsYet { task }
             | Refusal::PredecessorTwice { task }
-            | Refusal::Cycle { task }
+            | Refusal::Cycle { task, .. }
             | Refusal::NoRoom { task } => task.number(),
-            Refusal::BadEnds { tasks } => tasks,
-            Refusal::TooManyRoots { roots, .. } => roots,
+            // both come from a detail
+            Refusal::BadEnds { tasks: count } | Refusal::TooManyRoots { roots: count, .. } => count as u32,
             Refusal::NoSuchWorker { worker, .. } => worker.number(),
             Refusal::WrongPhase { phase } => phase.number(),
-            Refusal::BadLayout { line } => line,
+            Refusal::BadLayout { line } | Refusal::TextEnds { line } => line,
             Refusal::Unknown { detail, .. } => detail,
         }
+    }
+
+    /// What an operator does about it, in the words of `docs/REFUSALS.md`.
+    ///
+    /// ```
+    /// use yolluvek::{Job, Refusal, WorkerId};
+    ///
+    /// let mut job = Job::from_text(b"0\n0 0 0\n1 0 1 0\n", 2, 2)?;
+    /// job.begin()?;
+    /// let refusal = job.fetch(WorkerId::new(2)).unwrap_err();
+    /// assert_eq!(refusal.advice(), "choose another worker.");
+    /// # Ok::<(), Refusal>(())
+    /// ```
+    pub const fn advice(&self) -> &'static str {
+        match self {
+            Refusal::NotBegun | Refusal::NoSuccessorsYet { .. } => "begin first.",
+            _ => advice_on(self.number()),
+        }
+    }
+}
+
+/// The operator's line of a number's part of docs/REFUSALS.md.
+const fn advice_on(number: u32) -> &'static str {
+    match number {
+        2 => "choose another number of workers or slots; else the job is too large, and has to be split.",
+        3 => {
+            "look at the predecessors of that task in the text. The reader takes any number there; begin judges it."
+        }
+        4 => "remove one of the two from that task; in a text, lower the count before them too.",
+        5 => "find the way from that task through predecessors back to it. One of these edges is wrong.",
+        6 => "use more workers or more slots, or give some of the roots a common predecessor.",
+        7 => "choose another worker.",
+        9 => "take a step that suits, or choose another worker.",
+        10 => {
+            "after a refused Fetch try Release, after a refused Release try Fetch; if both are refused, go on with \
+             another worker."
+        }
+        11 => {
+            "let a worker fetch, then release again. The refused worker can fetch itself, since a ring that it owns is \
+             full. After at most P accepted Fetches of any one worker there is room. If it happens often, use a larger K."
+        }
+        13 => {
+            "look in that line for a wrong number of fields, a task number out of turn, a number of more than five \
+             digits or over 65,535, a mark other than digits, spaces and tabs, a time at the first or last task, a \
+             predecessor at task 0, or a line after the last task."
+        }
+        // 1, 8 and 12 are faults of the host, as are numbers that the page doesn't have
+        _ => "report it.",
     }
 }
 
 /// Prints the meaning in words, the detail among them.
 impl fmt::Display for Refusal {
     fn fmt(&self, to: &mut fmt::Formatter<'_>) -> fmt::Result {
-        match *self {
+        match self {
             Refusal::WrongLength => {
                 to.write_str("a list has the wrong length: ")?;
                 to.write_str("there has to be one predecessor start more than there are weights")
             }
-            Refusal::BeyondLimit => write!(
-                to,
-                "a size, a weight or the text is beyond its limit: at most {MAX_TASKS} tasks, {MAX_EDGES} edges, \
-                 a weight of {MAX_WEIGHT}, a text of {MAX_TEXT} bytes, 1 to {MAX_WORKERS} workers, \
-                 {MIN_SLOTS} to {MAX_SLOTS} slots"
-            ),
+            Refusal::BeyondLimit { limit } => limit.fmt(to),
             Refusal::BadPart { task } => {
                 write!(
                     to,
@@ -273,10 +412,23 @@ impl fmt::Display for Refusal {
                 to.write_str("the first predecessor start isn't 0, or the last one isn't the number of predecessors")
             }
             Refusal::NoSuchTask { task, tasks } => {
-                write!(to, "task {task} doesn't exist: there {}", counted(tasks, "task"))
+                write!(to, "task {task} doesn't exist: there {}", counted(*tasks, "task"))
+            }
+            Refusal::NoSuccessorsYet { task } => {
+                write!(
+                    to,
+                    "the successors of task {task} aren't known before begin: begin first"
+                )
             }
             Refusal::PredecessorTwice { task } => write!(to, "a predecessor stands twice in task {task}"),
-            Refusal::Cycle { task } => write!(to, "the tasks form a cycle, and task {task} is on it"),
+            Refusal::Cycle { task, path } if path.is_empty() => {
+                write!(to, "the tasks form a cycle, and task {task} is on it")
+            }
+            Refusal::Cycle { task, path } => {
+                to.write_str("the tasks form a cycle: ")?;
+                path.iter().try_for_each(|on| write!(to, "{on} after "))?;
+                task.fmt(to)
+            }
             Refusal::TooManyRoots { roots, room } => {
                 write!(to, "too many roots for the rings: {roots} tasks have no predecessors, ")?;
                 write!(to, "and there is room for {room}")
@@ -285,12 +437,13 @@ impl fmt::Display for Refusal {
                 write!(
                     to,
                     "worker {worker} doesn't exist: there {}",
-                    counted(workers, "worker")
+                    counted(*workers, "worker")
                 )
             }
-            Refusal::DamagedWord => to.write_str(
-                "a damaged word in the lent memory: there was no accepted begin, or something else has written it",
-            ),
+            Refusal::NotBegun => to.write_str("there was no accepted begin: begin first"),
+            Refusal::DamagedWord => {
+                to.write_str("a damaged word in the lent memory: something else than the engine has written it")
+            }
             Refusal::WrongPhase { phase } => {
                 let suits = match phase {
                     Phase::Idle => "it is idle, which suits Release and Fetch",
@@ -306,7 +459,19 @@ impl fmt::Display for Refusal {
             Refusal::NoRoom { task } => write!(to, "no room for task {task}: all rings that the worker fills are full"),
             Refusal::RecordFull => to.write_str("the record is full: every task is recorded already"),
             Refusal::BadLayout { line } => write!(to, "the text breaks the layout in line {line}"),
-            Refusal::Unknown { number, detail } => write!(to, "refused with number {number} and detail {detail}"),
+            Refusal::TextEnds { line } => write!(to, "the text ends before line {line}"),
+            Refusal::UnexpectedReply { words } => {
+                write!(
+                    to,
+                    "the library accepts the call with a reply that isn't known: {words:?}"
+                )
+            }
+            Refusal::Unknown { number, detail } => {
+                write!(
+                    to,
+                    "the library answers number {number} and detail {detail}, which isn't known"
+                )
+            }
         }
     }
 }
@@ -325,28 +490,50 @@ fn counted(count: usize, what: &str) -> String {
 mod tests {
     use super::*;
 
-    const ASKED: [Asked; 8] = [
-        Asked::Text,
-        Asked::Check { tasks: 4 },
-        Asked::Lookup { tasks: 4 },
-        Asked::Begin {
-            tasks: 4,
+    /// Every call on a graph of four tasks, two workers and two slots.
+    fn every_call(tables: &Tables) -> Vec<Asked<'_>> {
+        let [workers, slots] = [2; 2];
+        let text = b"2\n0 0 0\n";
+        let steps = Step::ALL
+            .iter()
+            .flat_map(|&step| [false, true].map(|begun| (step, begun)));
+        let steps = steps.map(|(step, begun)| asked(tables, step, begun));
+        let sides = [
+            (Side::Predecessors, false),
+            (Side::Successors, false),
+            (Side::Successors, true),
+        ];
+        let lookups = sides.map(|(side, begun)| Asked::Lookup { side, tables, begun });
+        let others = [
+            Asked::Text { text },
+            Asked::Check { tables },
+            Asked::Begin { tables, workers, slots },
+        ];
+        steps.chain(lookups).chain(others).collect()
+    }
+
+    fn asked(tables: &Tables, step: Step, begun: bool) -> Asked<'_> {
+        Asked::Step {
+            step,
+            tables,
             workers: 2,
             slots: 2,
-        },
-        Asked::Fetch { workers: 2 },
-        Asked::Start { workers: 2 },
-        Asked::Complete { workers: 2 },
-        Asked::Release { workers: 2 },
-    ];
+            begun,
+        }
+    }
+
+    fn diamond() -> Tables {
+        Tables::from_edges([0, 5, 3, 0], [(0, 1), (0, 2), (1, 3), (2, 3)])
+    }
 
     /// Whatever the library answers to whatever call, number and detail come out as they went in, and it prints.
     #[test]
     fn every_number_and_detail_is_carried() {
-        for asked in ASKED {
+        let tables = diamond();
+        for asked in every_call(&tables) {
+            assert_eq!(asked.answered(0, 0), Ok(()));
             for detail in [0, 1, 2, 3, 4, 5, 65_535, u32::MAX] {
-                assert_eq!(asked.answered(0, detail), Ok(()));
-                for number in (1..40).chain([u32::MAX]) {
+                for number in (u32::from(detail == 0)..40).chain([u32::MAX]) {
                     let refusal = asked.answered(number, detail).unwrap_err();
                     assert_eq!((refusal.number(), refusal.detail()), (number, detail), "{asked:?}");
                     assert!(!refusal.to_string().is_empty());
@@ -358,16 +545,26 @@ mod tests {
     /// What a job doesn't answer: 12, and numbers of other versions.
     #[test]
     fn refusals_that_no_job_meets() {
-        let full = Asked::Complete { workers: 2 }.answered(12, 0).unwrap_err();
+        let tables = diamond();
+        let full = asked(&tables, Step::Complete, true).answered(12, 0).unwrap_err();
         assert_eq!(full, Refusal::RecordFull);
         assert_eq!(full.to_string(), "the record is full: every task is recorded already");
-        let unknown = Asked::Text.answered(14, 3).unwrap_err();
+        let damaged = asked(&tables, Step::Fetch, true).answered(8, 0).unwrap_err();
+        assert_eq!(damaged, Refusal::DamagedWord);
+        let words = "a damaged word in the lent memory: something else than the engine has written it";
+        assert_eq!(damaged.to_string(), words);
+        let text = Asked::Text { text: b"" };
+        let unknown = text.answered(14, 3).unwrap_err();
         assert_eq!(unknown, Refusal::Unknown { number: 14, detail: 3 });
-        assert_eq!(unknown.to_string(), "refused with number 14 and detail 3");
+        let words = "the library answers number 14 and detail 3, which isn't known";
+        assert_eq!(unknown.to_string(), words);
+        // "An accepted call of the exports for C answers number 0 and detail 0"
+        let accepted = text.answered(0, 3).unwrap_err();
+        assert_eq!(accepted, Refusal::Unknown { number: 0, detail: 3 });
         // a phase and a detail that the table doesn't have
-        let phase = Asked::Start { workers: 2 }.answered(9, 3).unwrap_err();
+        let phase = asked(&tables, Step::Start, true).answered(9, 3).unwrap_err();
         assert_eq!(phase, Refusal::Unknown { number: 9, detail: 3 });
-        let detail = Asked::Text.answered(1, 1).unwrap_err();
+        let detail = text.answered(1, 1).unwrap_err();
         assert_eq!(detail, Refusal::Unknown { number: 1, detail: 1 });
     }
 }

@@ -4,6 +4,9 @@ use crate::ffi;
 use crate::ids::TaskId;
 use crate::limits::{MAX_EDGES, MAX_TASKS};
 use crate::refusal::{Asked, Refusal};
+use crate::reply;
+use std::collections::btree_map::{BTreeMap, Entry};
+use std::collections::VecDeque;
 
 /// A task graph: the weight of each task, and the predecessors of all tasks in one list.
 ///
@@ -28,7 +31,7 @@ use crate::refusal::{Asked, Refusal};
 /// job.begin()?;
 /// # Ok::<(), Refusal>(())
 /// ```
-#[derive(Clone, Debug, PartialEq, Eq)]
+#[derive(Clone, Debug, PartialEq, Eq, Hash)]
 pub struct Tables {
     /// The weight of each task, at most 65,535; their number is N, at most 1,024.
     pub weights: Vec<u32>,
@@ -38,7 +41,53 @@ pub struct Tables {
     pub preds: Vec<TaskId>,
 }
 
+/// The graph without tasks.
+impl Default for Tables {
+    fn default() -> Tables {
+        Tables {
+            weights: Vec::new(),
+            pred_starts: vec![0],
+            preds: Vec::new(),
+        }
+    }
+}
+
 impl Tables {
+    /// The tables of a graph with these weights, one for each task, and these edges, each from a predecessor to the task
+    /// that waits for it. The predecessors of a task keep the order of its edges.
+    ///
+    /// Nothing is judged here. An edge to a task that isn't there belongs to no task's part; it stands after the last
+    /// one, so that [`check`](Tables::check) and [`Job::begin`](crate::Job::begin) refuse the tables with 3.
+    ///
+    /// ```
+    /// use yolluvek::{Refusal, Tables};
+    ///
+    /// // tasks 1 and 2 after task 0, task 3 after both
+    /// let tables = Tables::from_edges([0, 5, 3, 0], [(0, 1), (0, 2), (1, 3), (2, 3)]);
+    /// let text = b"2\n0 0 0\n1 5 1 0\n2 3 1 0\n3 0 2 1 2\n";
+    /// assert_eq!(tables, Tables::from_text(text)?);
+    ///
+    /// let wrong = Tables::from_edges([0, 5], [(0, 2)]);
+    /// assert_eq!(wrong.check(), Err(Refusal::BadEnds { tasks: 2 }));
+    /// # Ok::<(), Refusal>(())
+    /// ```
+    pub fn from_edges(
+        weights: impl Into<Vec<u32>>,
+        edges: impl IntoIterator<Item = (impl Into<TaskId>, impl Into<TaskId>)>,
+    ) -> Tables {
+        let weights = weights.into();
+        let edges = edges.into_iter().map(|(from, to)| (from.into(), to.into()));
+        let mut edges: Vec<(TaskId, TaskId)> = edges.collect();
+        // stable, so a task's predecessors keep their order
+        edges.sort_by_key(|&(_, to)| to);
+        let start = |task: usize| edges.partition_point(|(_, to)| (to.number() as usize) < task) as u32;
+        Tables {
+            pred_starts: (0..=weights.len()).map(start).collect(),
+            preds: edges.iter().map(|&(from, _)| from).collect(),
+            weights,
+        }
+    }
+
     /// Reads a text of the Standard Task Graph Set, without communication costs.
     ///
     /// # Errors
@@ -64,11 +113,12 @@ impl Tables {
         let mut pred_starts = vec![0; MAX_TASKS + 1];
         let mut preds = vec![TaskId::new(0); MAX_EDGES];
         let reply = ffi::read_text(text, &mut weights, &mut pred_starts, &mut preds);
-        Asked::Text.answered(reply.number, reply.detail)?;
+        Asked::Text { text }.answered(reply.number, reply.detail)?;
+        let (tasks, edges) = reply::sizes(reply)?;
         Ok(Tables {
-            weights: first(&weights, reply.tasks as usize),
-            pred_starts: first(&pred_starts, reply.tasks as usize + 1),
-            preds: first(&preds, reply.edges as usize),
+            weights: first(&weights, tasks),
+            pred_starts: first(&pred_starts, tasks + 1),
+            preds: first(&preds, edges),
         })
     }
 
@@ -80,15 +130,13 @@ impl Tables {
     /// predecessor that stands twice, 5 for a cycle, the first of them in this order.
     ///
     /// ```
-    /// use yolluvek::{Refusal, TaskId, Tables};
+    /// use yolluvek::Tables;
     ///
     /// // task 1 after task 2, task 2 after task 1
-    /// let tables = Tables {
-    ///     weights: vec![1, 1, 1],
-    ///     pred_starts: vec![0, 0, 1, 2],
-    ///     preds: [2, 1].map(TaskId::new).to_vec(),
-    /// };
-    /// assert_eq!(tables.check(), Err(Refusal::Cycle { task: TaskId::new(1) }));
+    /// let tables = Tables::from_edges([1, 1, 1], [(2, 1), (1, 2)]);
+    /// let refusal = tables.check().unwrap_err();
+    /// assert_eq!((refusal.number(), refusal.detail()), (5, 1));
+    /// assert_eq!(refusal.to_string(), "the tasks form a cycle: 1 after 2 after 1");
     /// ```
     pub fn check(&self) -> Result<(), Refusal> {
         let Tables {
@@ -97,8 +145,69 @@ impl Tables {
             preds,
         } = self;
         let reply = ffi::check_graph(MAX_TASKS, MAX_EDGES, weights, pred_starts, preds);
-        let tasks = weights.len();
-        Asked::Check { tasks }.answered(reply.number, reply.detail)
+        Asked::Check { tables: self }.answered(reply.number, reply.detail)
+    }
+}
+
+impl Tables {
+    /// A task's predecessors as the tables have them; none where its part is bad.
+    fn predecessors(&self, task: TaskId) -> &[TaskId] {
+        let place = task.number() as usize;
+        let start = |place: usize| self.pred_starts.get(place).map(|&start| start as usize);
+        let part = start(place).zip(start(place + 1));
+        part.and_then(|(from, to)| self.preds.get(from..to)).unwrap_or(&[])
+    }
+
+    /// The shortest way from a task through predecessors back to it, the task first and each other one a predecessor of
+    /// the one before it. None if there is no such way.
+    pub(crate) fn cycle(&self, task: TaskId) -> Option<Vec<TaskId>> {
+        // the task that each one was first met from
+        let mut met = BTreeMap::new();
+        let mut next = VecDeque::from([task]);
+        while let Some(from) = next.pop_front() {
+            for &pred in self.predecessors(from) {
+                if let Entry::Vacant(place) = met.entry(pred) {
+                    place.insert(from);
+                    next.push_back(pred);
+                }
+            }
+        }
+        let mut way = Vec::new();
+        let mut at = *met.get(&task)?;
+        while at != task {
+            way.push(at);
+            at = *met.get(&at)?;
+        }
+        way.push(task);
+        way.reverse();
+        Some(way)
+    }
+
+    /// The graph in the DOT language, an arrow from each predecessor to the task that waits for it. Nothing is judged
+    /// here: a number that is no task's is drawn as a task without a weight.
+    ///
+    /// ```
+    /// use yolluvek::Tables;
+    ///
+    /// let tables = Tables::from_edges([4, 6], [(0, 1)]);
+    /// let lines = [
+    ///     "digraph tasks {",
+    ///     "    0 [label=\"0: 4\"];",
+    ///     "    1 [label=\"1: 6\"];",
+    ///     "    0 -> 1;",
+    ///     "}",
+    /// ];
+    /// assert_eq!(tables.dot().lines().collect::<Vec<_>>(), lines);
+    /// ```
+    pub fn dot(&self) -> String {
+        let tasks = || (0..).map(TaskId::new).zip(&self.weights);
+        let nodes = tasks().map(|(task, weight)| format!("    {task} [label=\"{task}: {weight}\"];\n"));
+        let arrows = tasks().flat_map(|(task, _)| {
+            let preds = self.predecessors(task).iter();
+            preds.map(move |pred| format!("    {pred} -> {task};\n"))
+        });
+        let lines: String = nodes.chain(arrows).collect();
+        format!("digraph tasks {{\n{lines}}}\n")
     }
 }
 

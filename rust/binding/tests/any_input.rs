@@ -2,6 +2,7 @@
 
 use engine_model::frames::{texts, LENT};
 use engine_model::{reader, texts as generator};
+use yolluvek::limits::MAX_TEXT;
 use yolluvek::{Job, Refusal, Side, Tables, TaskId, WorkerId};
 
 const NUMBERS: [usize; 12] = [
@@ -39,9 +40,21 @@ fn make_every_call(job: &mut Job) {
                 .for_each(|refusal| assert!(refusal.number() <= 11));
             assert!(job.load(worker).is_some() == job.phase(worker).is_some());
             assert!(job.held(worker).is_none() || job.phase(worker).is_some());
+            let beside = WorkerId::new(number / 2);
+            assert_eq!(
+                job.waiting(worker, beside).is_some(),
+                job.counter(worker, beside).is_some()
+            );
+            assert!(job.pointer(worker).is_some() == job.buffer(worker).is_some());
+            assert!(job.next_release(worker).is_none() || job.buffer(worker).is_some());
+            assert!(job.degree(task).is_none() || job.weight(task).is_some());
             assert!(job.weight(task).is_some() == ((number as usize) < job.tasks()));
         }
         assert!(job.record().len() <= job.tasks());
+        assert_eq!(job.task_ids().len(), job.tasks());
+        assert!(job.worker_ids().len() == job.workers() || job.workers() > u32::MAX as usize);
+        assert!(job.words() > job.tasks() + job.edges());
+        assert!(job.tables().dot().ends_with("}\n"));
         let refusal = job.begin().err();
         assert_eq!(refusal.is_none(), job.is_begun());
         refusal
@@ -65,11 +78,29 @@ fn read(text: &[u8]) -> Result<Tables, Refusal> {
         }
         (Err(refusal), Err(expected)) => {
             assert_eq!((refusal.number(), refusal.detail()), (expected.number, expected.detail));
-            assert!(matches!(refusal, Refusal::BeyondLimit | Refusal::BadLayout { .. }));
+            assert!(matches!(
+                refusal,
+                Refusal::BeyondLimit { .. } | Refusal::BadLayout { .. } | Refusal::TextEnds { .. }
+            ));
         }
         _ => panic!("{found:?}, where the model has {expected:?}"),
     }
+    assert_end(text, &found);
     found
+}
+
+/// Further blank lines move the refusal exactly if the text ends too early.
+fn assert_end(text: &[u8], found: &Result<Tables, Refusal>) {
+    let longer = [text, b" \n \n"].concat();
+    // the first of the two ends an open line; its space keeps a CR there from ending it too
+    let open = text.last().is_some_and(|&mark| mark != b'\n');
+    let further = if open { 1 } else { 2 };
+    let expected = match found {
+        _ if longer.len() > MAX_TEXT => return,
+        Err(Refusal::TextEnds { line }) => Err(Refusal::TextEnds { line: line + further }),
+        found => found.clone(),
+    };
+    assert_eq!(Tables::from_text(&longer), expected);
 }
 
 #[test]

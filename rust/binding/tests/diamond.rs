@@ -1,6 +1,6 @@
 //! The diamond of document 01, through the safe interface.
 
-use yolluvek::{Entry, Job, Phase, Refusal, Released, Side, TaskId, WorkerId};
+use yolluvek::{Entry, Job, Phase, Refusal, Released, Side, Step, TaskId, WorkerId};
 
 const TEXT: &[u8] = b"2\n0 0 0\n1 5 1 0\n2 3 1 0\n3 0 2 1 2\n";
 
@@ -120,4 +120,29 @@ fn no_task() {
     assert!(job.is_finished() && job.is_begun());
     assert_eq!((job.accepted(), job.record()), (0, [].as_slice()));
     assert_eq!(job.fetch(WorkerId::new(0)), Err(Refusal::NothingToFetch));
+}
+
+/// Document 01's names, also in columns.
+#[test]
+fn names() {
+    let steps = Step::ALL.map(|step| step.to_string());
+    assert_eq!(steps, ["Fetch", "Start", "Complete", "Release"]);
+    let phases = [Phase::Idle, Phase::Fetched, Phase::Running];
+    assert_eq!(phases.map(|phase| phase.to_string()), ["idle", "fetched", "running"]);
+    assert_eq!(format!("{:>8}|{:<6}|", Step::Start, Phase::Idle), "   Start|idle  |");
+    assert_eq!((TaskId::from(7).number(), WorkerId::from(7).number()), (7, 7));
+}
+
+/// Document 01's list of the lent memory, with N 4, E 4, P 2, K 4.
+#[test]
+fn words() {
+    let tables = 4 + 5 + 4 + 5 + 4 + 4;
+    let rings = 2 * 2 * 4 + 2 * 2 * 2 + 2 * 2;
+    let rest = 2 * 4 + 2 * 4 + 2 + 2 * 6;
+    let job = begun();
+    assert_eq!(job.words(), tables + rings + rest);
+    // a slot more in each of the four rings
+    let mut wider = Job::from_text(TEXT, 2, 5).expect("document 01's text");
+    wider.begin().expect("document 01's graph");
+    assert_eq!((job.words_differing(&wider), wider.words_differing(&job)), (4, 4));
 }

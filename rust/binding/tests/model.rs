@@ -2,10 +2,12 @@
 
 use engine_model::draw::Draw;
 use engine_model::engine;
-use engine_model::memory::{Memory, Outcome, Step, ACCEPTED, ENTRIES, HELD, PHASE, ROW_WORDS};
+use engine_model::memory::{
+    List, Memory, Outcome, Step, ACCEPTED, CURSOR, ENTRIES, HELD, PHASE, POINTER, READ, ROW_WORDS, WRITE,
+};
 use engine_model::model::{self, Graph, Lookup, Table};
 use engine_model::runs::graphs;
-use yolluvek::{Job, Refusal, Released, Side, Tables, TaskId, WorkerId};
+use yolluvek::{Job, NextRelease, Refusal, Released, Side, Tables, TaskId, WorkerId};
 
 /// A job, and the model's memory for the same graph, P and K.
 struct Pair {
@@ -27,6 +29,41 @@ fn tables_of(graph: &Graph) -> Tables {
         weights: graph.weights.clone(),
         pred_starts: graph.preds.starts.clone(),
         preds: graph.preds.words.iter().copied().map(TaskId::new).collect(),
+    }
+}
+
+fn binding_step(step: Step) -> yolluvek::Step {
+    match step {
+        Step::Fetch => yolluvek::Step::Fetch,
+        Step::Start => yolluvek::Step::Start,
+        Step::Complete => yolluvek::Step::Complete,
+        Step::Release => yolluvek::Step::Release,
+    }
+}
+
+fn model_outcome(outcome: yolluvek::Outcome) -> Outcome {
+    use yolluvek::Outcome::{Completed, Fetched, Released as Done, Started};
+    match outcome {
+        Fetched(task) => Outcome::Fetched { task: task.number() },
+        Started | Completed => Outcome::Moved,
+        Done(Released::DegreeLeft { degree }) => Outcome::DegreeLeft { degree },
+        Done(Released::Placed { task, owner }) => Outcome::Placed {
+            task: task.number(),
+            owner: owner.number(),
+        },
+    }
+}
+
+/// What was shown of a Release before it is what the Release then did.
+fn assert_foreseen(next: Option<NextRelease>, found: &Result<yolluvek::Outcome, Refusal>) {
+    use yolluvek::Outcome::Released as Done;
+    match found {
+        Ok(Done(Released::DegreeLeft { degree })) => assert_eq!(next.map(|next| next.degree), Some(degree + 1)),
+        Ok(Done(Released::Placed { task, .. })) | Err(Refusal::NoRoom { task }) => {
+            assert_eq!(next.map(|next| (next.successor, next.degree)), Some((*task, 1)));
+        }
+        Err(Refusal::NothingToRelease | Refusal::NoSuchWorker { .. } | Refusal::NotBegun) => assert_eq!(next, None),
+        _ => {}
     }
 }
 
@@ -57,21 +94,13 @@ impl Pair {
     fn step(&mut self, step: Step, worker: u32) -> Option<(u32, u32)> {
         let (p, k) = (self.job.workers(), self.job.slots());
         let expected = engine::step(&mut self.memory, p, k, worker, step).map_err(model_pair);
-        let job = &mut self.job;
         let worker = WorkerId::new(worker);
-        let found = match step {
-            Step::Fetch => job.fetch(worker).map(|task| Outcome::Fetched { task: task.number() }),
-            Step::Start => job.start(worker).map(|()| Outcome::Moved),
-            Step::Complete => job.complete(worker).map(|()| Outcome::Moved),
-            Step::Release => job.release(worker).map(|released| match released {
-                Released::DegreeLeft { degree } => Outcome::DegreeLeft { degree },
-                Released::Placed { task, owner } => Outcome::Placed {
-                    task: task.number(),
-                    owner: owner.number(),
-                },
-            }),
-        };
-        assert_eq!(found.map_err(pair), expected);
+        let next = self.job.next_release(worker);
+        let found = self.job.step(binding_step(step), worker);
+        if step == Step::Release {
+            assert_foreseen(next, &found);
+        }
+        assert_eq!(found.map(model_outcome).map_err(pair), expected);
         expected.err()
     }
 
@@ -106,7 +135,7 @@ impl Pair {
         let Pair { job, memory, begun } = self;
         let n = memory.n();
         assert_eq!((job.tasks(), job.edges(), job.is_begun()), (n, memory.e(), *begun));
-        assert_eq!(job.accepted(), memory.run[ACCEPTED]);
+        assert_eq!(job.accepted(), memory.run[ACCEPTED] as usize);
         let entries = memory.run[ENTRIES] as usize;
         assert_eq!(job.is_finished(), *begun && entries == n);
         let record = job
@@ -126,11 +155,74 @@ impl Pair {
             let held = Some(row[HELD]).filter(|&held| *begun && (held as usize) < n);
             assert_eq!(job.held(worker).map(TaskId::number), held);
         }
+        self.compare_rings();
+        self.compare_buffers();
+        for (task, &degree) in memory.degrees.iter().enumerate() {
+            assert_eq!(job.degree(TaskId::new(task as u32)), begun.then_some(degree));
+        }
+        assert_eq!(job.degree(TaskId::new(n as u32)), None);
         let beyond = WorkerId::new(memory.rows.len() as u32);
         assert_eq!(
             (job.load(beyond), job.phase(beyond), job.held(beyond)),
             (None, None, None)
         );
+        assert_eq!(
+            (job.pointer(beyond), job.buffer(beyond), job.next_release(beyond)),
+            (None, None, None)
+        );
+    }
+
+    /// Counters, and rings slot by slot from head to tail: "the ring of owner i filled by worker j begins at (i·P + j)·K".
+    fn compare_rings(&self) {
+        let Pair { job, memory, begun } = self;
+        let (p, k) = (memory.rows.len(), job.slots());
+        for (i, j) in (0..p).flat_map(|i| (0..=p).map(move |j| (i, j))) {
+            let [owner, filler] = [i, j].map(|number| WorkerId::new(number as u32));
+            let waiting = job.waiting(owner, filler).map(Vec::from_iter);
+            if !begun || j == p {
+                assert_eq!((waiting, job.counter(owner, filler)), (None, None));
+                assert_eq!(job.counter(filler, owner), None);
+                continue;
+            }
+            let ring = i * p + j;
+            let mut slot = memory.ends[2 * ring] as usize;
+            let mut expected = Vec::new();
+            while slot != memory.ends[2 * ring + 1] as usize {
+                expected.push(TaskId::new(memory.rings[ring * k + slot]));
+                slot = (slot + 1) % k;
+            }
+            assert_eq!(waiting, Some(expected));
+            assert_eq!(job.counter(owner, filler), Some(memory.counters[ring]));
+        }
+    }
+
+    /// Pointers, buffers, and the successor at the cursor.
+    fn compare_buffers(&self) {
+        let Pair { job, memory, begun } = self;
+        for (i, row) in memory.rows.iter().enumerate() {
+            let worker = WorkerId::new(i as u32);
+            let pointer = job.pointer(worker).map(WorkerId::number);
+            let buffer = job.buffer(worker);
+            if !begun {
+                assert_eq!((pointer, buffer, job.next_release(worker)), (None, None, None));
+                continue;
+            }
+            assert_eq!(pointer, Some(row[POINTER]));
+            let own = &memory.buffers[i * memory.n()..(i + 1) * memory.n()];
+            let numbers: Vec<u32> = buffer.into_iter().flatten().map(|task| task.number()).collect();
+            assert_eq!(numbers, own[row[READ] as usize..row[WRITE] as usize]);
+            let next = numbers.first().map(|&task| {
+                let place = memory.succ_starts[task as usize] + row[CURSOR];
+                let successor = memory.succs[place as usize] as usize;
+                NextRelease {
+                    task: TaskId::new(task),
+                    successor: TaskId::new(successor as u32),
+                    degree: memory.degrees[successor],
+                    weight: memory.weights[successor],
+                }
+            });
+            assert_eq!(job.next_release(worker), next);
+        }
     }
 }
 
@@ -218,7 +310,7 @@ fn whole_runs() {
         }
         pair.compare_views();
         let Pair { job, .. } = pair;
-        assert_eq!(job.accepted() as usize, 3 * job.tasks() + job.edges());
+        assert_eq!(job.accepted(), 3 * job.tasks() + job.edges());
         let mut done = vec![false; job.tasks()];
         for entry in job.record() {
             let preds = job.lookup(Side::Predecessors, entry.task).expect("a task");
@@ -227,4 +319,39 @@ fn whole_runs() {
         }
         assert!(done.into_iter().all(|done| done));
     }
+}
+
+/// The words of every list; those of the rows are counted through all records.
+fn lists(memory: &Memory) -> Vec<Vec<u32>> {
+    let mut memory = memory.clone();
+    let words = |list| (0..).map_while(|place| memory.replace(list, place, 0)).collect();
+    List::ALL.map(words).to_vec()
+}
+
+/// As many words differ after a call as the model has written with others: none after a refused one.
+#[test]
+fn words_that_calls_write() {
+    let mut begun = 0;
+    for seed in 0..200 {
+        let draw = &mut Draw::new(seed);
+        let mut pair = Pair::new(&graphs::any(draw, 12), draw.between(1, 4), draw.between(2, 5));
+        if pair.begin().is_err() {
+            continue;
+        }
+        begun += 1;
+        for call in 0..60 {
+            let (job, words) = (pair.job.clone(), lists(&pair.memory).concat());
+            let refused = match call {
+                50 => pair.begin().is_err(),
+                _ => pair.step(draw.pick(&Step::ALL), draw.below(5) as u32).is_some(),
+            };
+            let after = lists(&pair.memory).concat();
+            let written = words.iter().zip(&after).filter(|(word, after)| word != after).count();
+            assert!(written == 0 || !refused);
+            assert_eq!(pair.job.words(), after.len());
+            assert_eq!(pair.job.words_differing(&job), written);
+            assert_eq!(job.words_differing(&pair.job), written);
+        }
+    }
+    assert!(begun >= 100, "{begun} of 200 jobs are begun");
 }

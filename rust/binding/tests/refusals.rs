@@ -2,7 +2,8 @@
 //! and that the job is as it was. 12 can't be met: `Complete` finds N entries only where N tasks are completed, and
 //! then no worker runs one.
 
-use yolluvek::{Job, Phase, Refusal, Side, Tables, TaskId, WorkerId};
+use yolluvek::limits::Limit;
+use yolluvek::{Job, Phase, Refusal, Side, Step, Tables, TaskId, WorkerId};
 
 const DIAMOND: &[u8] = b"2\n0 0 0\n1 5 1 0\n2 3 1 0\n3 0 2 1 2\n";
 
@@ -72,9 +73,11 @@ fn number_1() {
     }
 }
 
-const LIMITS: &str =
-    "a size, a weight or the text is beyond its limit: at most 1024 tasks, 8192 edges, a weight of 65535, a text of \
-                      65536 bytes, 1 to 16 workers, 2 to 64 slots";
+/// 2 by a call, with the limit and its words.
+fn assert_beyond(refusal: Refusal, limit: Limit, words: &str) {
+    assert_eq!(refusal, Refusal::BeyondLimit { limit });
+    assert_says(refusal, 2, 0, words);
+}
 
 #[test]
 fn number_2_by_workers_and_slots() {
@@ -82,47 +85,88 @@ fn number_2_by_workers_and_slots() {
     let workers = [0, 17, 65_536, far / 2, far].map(|workers| (workers, 4));
     let slots = [0, 1, 65, 65_536, far / 2, far].map(|slots| (2, slots));
     for (workers, slots) in workers.into_iter().chain(slots).chain([(0, 0), (far, far)]) {
-        assert_says(refused_begin(tables(&[&[], &[0]]), workers, slots), 2, 0, LIMITS);
+        let (limit, words) = match workers {
+            2 => (
+                Limit::Slots { slots },
+                format!("the number of slots, {slots}, is beyond its limit: 2 to 64"),
+            ),
+            _ => (
+                Limit::Workers { workers },
+                format!("the number of workers, {workers}, is beyond its limit: 1 to 16"),
+            ),
+        };
+        assert_beyond(refused_begin(tables(&[&[], &[0]]), workers, slots), limit, &words);
         let mut job = Job::from_tables(tables(&[&[], &[0]]), workers, slots);
-        let worker = WorkerId::new(0);
-        assert_eq!(refused(&mut job, |job| job.fetch(worker)), Refusal::BeyondLimit);
-        assert_eq!(refused(&mut job, |job| job.start(worker)), Refusal::BeyondLimit);
-        assert_eq!(refused(&mut job, |job| job.complete(worker)), Refusal::BeyondLimit);
-        assert_eq!(refused(&mut job, |job| job.release(worker)), Refusal::BeyondLimit);
+        for step in Step::ALL {
+            let refusal = refused(&mut job, |job| job.step(step, WorkerId::new(0)));
+            assert_beyond(refusal, limit, &words);
+        }
         // a lookup has no workers and slots
         let task = [TaskId::new(0)];
         assert_eq!(job.lookup(Side::Predecessors, TaskId::new(1)), Ok(&task[..]));
     }
 }
 
-/// N, E and a weight, each just beyond and far beyond; the limits themselves are accepted.
-#[test]
-fn number_2_by_tables() {
-    let of = |tasks: usize, edges: usize, weight: u32| Tables {
+/// Tables of these sizes, every weight the same.
+fn sized(tasks: usize, edges: usize, weight: u32) -> Tables {
+    Tables {
         weights: vec![weight; tasks],
         pred_starts: vec![0; tasks + 1],
         preds: vec![TaskId::new(0); edges],
-    };
-    for tables in [of(1_025, 0, 0), of(300_000, 0, 0), of(2, 8_193, 0), of(2, 300_000, 0)] {
-        assert_eq!(tables.check(), Err(Refusal::BeyondLimit));
-        let mut job = Job::from_tables(tables.clone(), 16, 64);
-        let lookup = job.lookup(Side::Predecessors, TaskId::new(0));
-        assert_eq!(lookup, Err(Refusal::BeyondLimit));
-        let worker = WorkerId::new(0);
-        assert_eq!(refused(&mut job, |job| job.release(worker)), Refusal::BeyondLimit);
-        assert_says(refused_begin(tables, 16, 64), 2, 0, LIMITS);
     }
-    assert_says(refused_begin(of(2, 0, 65_536), 1, 4), 2, 0, LIMITS);
-    assert_says(refused_begin(of(2, 0, u32::MAX), 1, 4), 2, 0, LIMITS);
-    assert_eq!(begun(of(1_008, 0, 65_535), 16, 64).tasks(), 1_008);
-    assert_eq!(of(1_024, 0, 65_535).check(), Ok(()));
+}
+
+/// N and E, each just beyond and far beyond.
+#[test]
+fn number_2_by_sizes() {
+    for (tasks, edges) in [(1_025, 0), (300_000, 0), (2, 8_193), (2, 300_000), (1_025, 8_193)] {
+        let (limit, words) = match tasks {
+            2 => (
+                Limit::Edges { edges },
+                format!("{edges} edges are beyond the limit: at most 8192"),
+            ),
+            _ => (
+                Limit::Tasks { tasks },
+                format!("{tasks} tasks are beyond the limit: at most 1024"),
+            ),
+        };
+        let tables = sized(tasks, edges, 0);
+        assert_beyond(tables.check().unwrap_err(), limit, &words);
+        let mut job = Job::from_tables(tables.clone(), 16, 64);
+        let lookup = job.lookup(Side::Predecessors, TaskId::new(0)).unwrap_err();
+        assert_beyond(lookup, limit, &words);
+        let worker = WorkerId::new(0);
+        assert_beyond(refused(&mut job, |job| job.release(worker)), limit, &words);
+        assert_beyond(refused_begin(tables, 16, 64), limit, &words);
+    }
+}
+
+/// The first weight beyond the limit is named, by the check and by begin; the limits themselves are accepted.
+#[test]
+fn number_2_by_a_weight() {
+    for weight in [65_536, u32::MAX] {
+        let mut heavy = sized(3, 0, weight);
+        heavy.weights[0] = 65_535;
+        let limit = Limit::Weight {
+            task: TaskId::new(1),
+            weight,
+        };
+        let words = format!("the weight of task 1, {weight}, is beyond its limit: at most 65535");
+        assert_beyond(heavy.check().unwrap_err(), limit, &words);
+        assert_beyond(refused_begin(heavy, 1, 4), limit, &words);
+    }
+    assert_eq!(begun(sized(1_008, 0, 65_535), 16, 64).tasks(), 1_008);
+    assert_eq!(sized(1_024, 0, 65_535).check(), Ok(()));
 }
 
 #[test]
 fn number_2_by_a_text() {
     let long = [DIAMOND, &vec![b' '; 65_537]].concat();
-    assert_eq!(Tables::from_text(&long), Err(Refusal::BeyondLimit));
-    assert_eq!(Tables::from_text(b"1023\n"), Err(Refusal::BeyondLimit));
+    let bytes = long.len();
+    let words = format!("a text of {bytes} bytes is beyond the limit: at most 65536");
+    assert_beyond(Tables::from_text(&long).unwrap_err(), Limit::Text { bytes }, &words);
+    let words = "the text asks for more than 1024 tasks, its two dummies among them, or 8192 edges";
+    assert_beyond(Tables::from_text(b"1023\n").unwrap_err(), Limit::Contents, words);
 }
 
 /// "N 2, predecessor 2"; a wrong first or last start names N; a lookup names the task.
@@ -136,9 +180,11 @@ fn number_3() {
     assert_says(job.lookup(Side::Predecessors, TaskId::new(1)).unwrap_err(), 3, 1, words);
     let missing = job.lookup(Side::Predecessors, TaskId::new(2)).unwrap_err();
     assert_says(missing, 3, 2, "task 2 doesn't exist: there are 2 tasks");
-    // before begin there are no successors
-    let successors = job.lookup(Side::Successors, TaskId::new(0)).unwrap_err();
-    assert_eq!(successors, Refusal::BadPart { task: TaskId::new(0) });
+    let successors = job.lookup(Side::Successors, TaskId::new(1)).unwrap_err();
+    let words = "the successors of task 1 aren't known before begin: begin first";
+    assert_says(successors, 3, 1, words);
+    let missing = job.lookup(Side::Successors, TaskId::new(2)).unwrap_err();
+    assert_says(missing, 3, 2, "task 2 doesn't exist: there are 2 tasks");
 
     let ends = Tables {
         pred_starts: vec![0, 0, 0],
@@ -163,12 +209,10 @@ fn number_4() {
 #[test]
 fn number_5() {
     let cycle = tables(&[&[], &[2], &[1]]);
-    assert_says(
-        refused_begin(cycle, 1, 4),
-        5,
-        1,
-        "the tasks form a cycle, and task 1 is on it",
-    );
+    let words = "the tasks form a cycle: 1 after 2 after 1";
+    assert_says(refused_begin(cycle, 1, 4), 5, 1, words);
+    let itself = tables(&[&[], &[], &[0, 2]]);
+    assert_says(refused_begin(itself, 1, 4), 5, 2, "the tasks form a cycle: 2 after 2");
 }
 
 /// "P 2, K 2, three roots"; two are accepted.
@@ -201,7 +245,7 @@ fn number_7() {
 #[test]
 fn number_8() {
     let mut job = Job::from_text(DIAMOND, 2, 4).expect("a text");
-    let words = "a damaged word in the lent memory: there was no accepted begin, or something else has written it";
+    let words = "there was no accepted begin: begin first";
     for worker in [0, 1].map(WorkerId::new) {
         assert_says(refused(&mut job, |job| job.fetch(worker)), 8, 0, words);
         assert_says(refused(&mut job, |job| job.start(worker)), 8, 0, words);
@@ -233,8 +277,8 @@ fn number_9() {
     assert_says(refused(&mut job, |job| job.fetch(worker)), 9, 2, running);
     assert_says(refused(&mut job, |job| job.start(worker)), 9, 2, running);
     let refusal = refused(&mut job, |job| job.release(worker));
-    assert_says(refusal, 9, 2, running);
     assert_eq!(refusal, Refusal::WrongPhase { phase: Phase::Running });
+    assert_says(refusal, 9, 2, running);
 }
 
 /// "P 2, one root, worker 1 fetches first"
@@ -266,8 +310,11 @@ fn number_11() {
 fn number_13() {
     let refusal = Job::from_text(b"2\n0 0 0\n1 5 2 0\n2 3 1 0\n3 0 2 1 2\n", 2, 4).unwrap_err();
     assert_says(refusal, 13, 3, "the text breaks the layout in line 3");
-    let early = Tables::from_text(b"").unwrap_err();
-    assert_says(early, 13, 1, "the text breaks the layout in line 1");
+    // "a text that ends too early breaks it at its count of lines plus 1"
+    for (early, line) in [("", 1), ("2\n0 0 0\n", 3), ("2\n0 0 0", 3), ("2\r\n0 0 0\n\n", 4)] {
+        let refusal = Tables::from_text(early.as_bytes()).unwrap_err();
+        assert_says(refusal, 13, line, &format!("the text ends before line {line}"));
+    }
 }
 
 /// A refusal can be handed on as any other error.
@@ -277,5 +324,6 @@ fn a_refusal_is_an_error() {
         Job::from_text(b"0\n0 0 0\n1 0 0\n", 0, 2)?.begin()?;
         Ok(())
     }
-    assert_eq!(begin().unwrap_err().to_string(), LIMITS);
+    let words = "the number of workers, 0, is beyond its limit: 1 to 16";
+    assert_eq!(begin().unwrap_err().to_string(), words);
 }

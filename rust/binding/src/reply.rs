@@ -1,0 +1,180 @@
+//! What the library answers to an accepted call, read exactly: what isn't expected is an error, and never read as
+//! something else.
+
+use crate::ffi::{Part, ReadReply, StepReply};
+use crate::ids::{TaskId, WorkerId};
+use crate::limits::{MAX_EDGES, MAX_TASKS};
+use crate::refusal::Refusal;
+use crate::step::Released;
+
+/// The kinds of an accepted step's reply.
+const MOVED: u32 = 0;
+const FETCHED: u32 = 1;
+const DEGREE_LEFT: u32 = 2;
+const PLACED: u32 = 3;
+
+/// The reply to an accepted step of a job with so many tasks and workers.
+pub(crate) struct Reply {
+    pub words: StepReply,
+    pub tasks: usize,
+    pub workers: usize,
+}
+
+impl Reply {
+    /// Of a Fetch: the task.
+    pub fn fetched(&self) -> Result<TaskId, Refusal> {
+        match self.words.kind {
+            FETCHED => self.task().ok_or(self.unexpected()),
+            _ => Err(self.unexpected()),
+        }
+    }
+
+    /// Of a Start or a Complete: nothing.
+    pub fn moved(&self) -> Result<(), Refusal> {
+        match self.words.kind {
+            MOVED => Ok(()),
+            _ => Err(self.unexpected()),
+        }
+    }
+
+    /// Of a Release: what became of the successor.
+    pub fn released(&self) -> Result<Released, Refusal> {
+        let released = match self.words.kind {
+            DEGREE_LEFT => self.degree().map(|degree| Released::DegreeLeft { degree }),
+            PLACED => {
+                let placed = self.task().zip(self.owner());
+                placed.map(|(task, owner)| Released::Placed { task, owner })
+            }
+            _ => None,
+        };
+        released.ok_or(self.unexpected())
+    }
+
+    /// A task that there is.
+    fn task(&self) -> Option<TaskId> {
+        let number = self.words.first;
+        ((number as usize) < self.tasks).then_some(TaskId::new(number))
+    }
+
+    /// A worker that there is.
+    fn owner(&self) -> Option<WorkerId> {
+        let number = self.words.second;
+        ((number as usize) < self.workers).then_some(WorkerId::new(number))
+    }
+
+    /// A degree that is left: at 0 the task would be placed.
+    fn degree(&self) -> Option<u32> {
+        Some(self.words.first).filter(|&degree| degree > 0)
+    }
+
+    fn unexpected(&self) -> Refusal {
+        let StepReply {
+            kind, first, second, ..
+        } = self.words;
+        Refusal::UnexpectedReply {
+            words: [kind, first, second],
+        }
+    }
+}
+
+/// The part of a table that an accepted lookup names.
+pub(crate) fn part_of(table: &[TaskId], part: Part) -> Result<&[TaskId], Refusal> {
+    let Part { place, count } = part;
+    let from = table.get(place as usize..);
+    let found = from.and_then(|from| from.get(..count as usize));
+    found.ok_or(Refusal::UnexpectedReply {
+        words: [place, count, 0],
+    })
+}
+
+/// N and E of a text that is read.
+pub(crate) fn sizes(reply: ReadReply) -> Result<(usize, usize), Refusal> {
+    let ReadReply { tasks, edges, .. } = reply;
+    let sizes = (tasks as usize, edges as usize);
+    if sizes.0 > MAX_TASKS || sizes.1 > MAX_EDGES {
+        return Err(Refusal::UnexpectedReply {
+            words: [tasks, edges, 0],
+        });
+    }
+    Ok(sizes)
+}
+
+#[cfg(test)]
+mod tests {
+    use super::*;
+
+    fn reply(words: [u32; 3]) -> Reply {
+        let [kind, first, second] = words;
+        Reply {
+            words: StepReply {
+                number: 0,
+                detail: 0,
+                kind,
+                first,
+                second,
+            },
+            tasks: 4,
+            workers: 2,
+        }
+    }
+
+    fn unexpected<T>(words: [u32; 3]) -> Result<T, Refusal> {
+        Err(Refusal::UnexpectedReply { words })
+    }
+
+    /// Every kind, by each step, with numbers that fit and that don't.
+    #[test]
+    fn each_kind_is_read_by_its_steps_alone() {
+        for kind in (0..9).chain([u32::MAX]) {
+            let words = [kind, 3, 1];
+            let task = TaskId::new(3);
+            let owner = WorkerId::new(1);
+            let fetched = if kind == 1 { Ok(task) } else { unexpected(words) };
+            let moved = if kind == 0 { Ok(()) } else { unexpected(words) };
+            let released = match kind {
+                2 => Ok(Released::DegreeLeft { degree: 3 }),
+                3 => Ok(Released::Placed { task, owner }),
+                _ => unexpected(words),
+            };
+            assert_eq!(reply(words).fetched(), fetched);
+            assert_eq!(reply(words).moved(), moved);
+            assert_eq!(reply(words).released(), released);
+        }
+    }
+
+    #[test]
+    fn numbers_that_do_not_fit() {
+        for words in [[1, 4, 0], [1, u32::MAX, 0]] {
+            assert_eq!(reply(words).fetched(), unexpected(words));
+        }
+        for words in [[2, 0, 0], [3, 4, 0], [3, 0, 2], [3, u32::MAX, u32::MAX]] {
+            assert_eq!(reply(words).released(), unexpected(words));
+        }
+    }
+
+    #[test]
+    fn parts_that_do_not_fit() {
+        let table = [5, 6, 7].map(TaskId::new);
+        let part = |place, count| part_of(&table, Part { place, count });
+        assert_eq!(part(1, 2), Ok(&table[1..]));
+        assert_eq!(part(3, 0), Ok(&[][..]));
+        for (place, count) in [(1, 3), (3, 1), (4, 0), (0, u32::MAX), (u32::MAX, u32::MAX)] {
+            assert_eq!(part(place, count), unexpected([place, count, 0]));
+        }
+    }
+
+    #[test]
+    fn sizes_that_do_not_fit() {
+        let read = |tasks, edges| {
+            sizes(ReadReply {
+                number: 0,
+                detail: 0,
+                tasks,
+                edges,
+            })
+        };
+        assert_eq!(read(1_024, 8_192), Ok((1_024, 8_192)));
+        assert_eq!(read(1_025, 0), unexpected([1_025, 0, 0]));
+        assert_eq!(read(2, 8_193), unexpected([2, 8_193, 0]));
+    }
+}
