@@ -1,0 +1,85 @@
+//! `yolluvek-board FILE P K`: the lesson board for the job in a text of the Standard Task Graph Set.
+
+#![forbid(unsafe_code)]
+
+use std::fs::{self, File};
+use std::io::{self, Read, Write};
+use std::path::Path;
+use std::process::ExitCode;
+use yolluvek::limits::MAX_TEXT;
+use yolluvek::{Job, Refusal};
+use yolluvek_board::board::Board;
+use yolluvek_board::{page, script, terminal};
+
+const USAGE: &str = "usage: yolluvek-board FILE P K [--keys FILE | --html FILE]";
+
+/// What the lesson is for.
+enum Way {
+    Terminal,
+    Keys(String),
+    Html(String),
+}
+
+fn main() -> ExitCode {
+    let arguments: Option<Vec<String>> = std::env::args_os()
+        .skip(1)
+        .map(|word| word.into_string().ok())
+        .collect();
+    match arguments.ok_or(USAGE.to_owned()).and_then(|words| run(&words)) {
+        Ok(()) => ExitCode::SUCCESS,
+        Err(line) => {
+            // there is nobody to tell where this fails
+            let _ = writeln!(io::stderr(), "{line}");
+            ExitCode::FAILURE
+        }
+    }
+}
+
+fn run(arguments: &[String]) -> Result<(), String> {
+    let words: Vec<&str> = arguments.iter().map(String::as_str).collect();
+    let (file, workers, slots, way) = match *words.as_slice() {
+        [file, workers, slots] => (file, workers, slots, Way::Terminal),
+        [file, workers, slots, "--keys", keys] => (file, workers, slots, Way::Keys(keys.to_owned())),
+        [file, workers, slots, "--html", page] => (file, workers, slots, Way::Html(page.to_owned())),
+        _ => return Err(USAGE.to_owned()),
+    };
+    let text = text_of(file)?;
+    let job =
+        Job::from_text(&text, number("P", workers)?, number("K", slots)?).map_err(|refusal| told(file, &refusal))?;
+    let name = Path::new(file).file_name().unwrap_or_default().to_string_lossy();
+    let board = Board::begin(&name, job).map_err(|refusal| told(file, &refusal))?;
+    play(board, way)
+}
+
+fn play(mut board: Board, way: Way) -> Result<(), String> {
+    match way {
+        Way::Terminal => terminal::play(&mut board).map_err(|trouble| trouble.to_string()),
+        Way::Keys(file) => {
+            let keys = fs::read_to_string(&file).map_err(|reason| format!("{file}: {reason}"))?;
+            let told = script::transcript(&mut board, &keys).map_err(|bad| format!("{file}, {bad}"))?;
+            let written = io::stdout().lock().write_all(told.as_bytes());
+            written.map_err(|reason| format!("the transcript can't be written: {reason}"))
+        }
+        Way::Html(file) => {
+            let page = page::page(&board).map_err(|many| format!("{}: {many}", board.name()))?;
+            fs::write(&file, page).map_err(|reason| format!("{file}: {reason}"))
+        }
+    }
+}
+
+fn number(name: &str, word: &str) -> Result<usize, String> {
+    word.parse()
+        .map_err(|_| format!("{name} has to be a number, and is \"{word}\""))
+}
+
+/// The text, read no further than one byte beyond its limit, where the library refuses it.
+fn text_of(file: &str) -> Result<Vec<u8>, String> {
+    let mut text = Vec::new();
+    let read = File::open(file).and_then(|opened| opened.take(MAX_TEXT as u64 + 1).read_to_end(&mut text));
+    read.map(|_| text).map_err(|reason| format!("{file}: {reason}"))
+}
+
+fn told(file: &str, refusal: &Refusal) -> String {
+    let (number, detail, advice) = (refusal.number(), refusal.detail(), refusal.advice());
+    format!("{file}: refused {number}, detail {detail}: {refusal}. To do: {advice}")
+}
