@@ -8,9 +8,11 @@
  * worker take steps, by yolluvek_fetch, _start, _complete and _release, until run[0] is the number of tasks. Then
  * `executed` is the record: task and worker, in the order of completion. examples/diamond.c is a whole program.
  * docs/RULE.md says which worker a released task goes to, docs/REFUSALS.md what to do about each refusal.
+ * yolluvek_job.h has the same calls on a job in one block of memory, with a few arguments instead of all the lists.
  *
- * Link libgraph_export.a, libstg_export.a and libengine_export.a, which `rt staticlib` writes to target/staticlib
- * (x86-64 Linux). Of these the last has begin and the steps, the second the reader, the first the other calls.
+ * Link libyolluvek.a, which `make install` installs (x86-64 Linux), or the archives that it is merged from:
+ * libgraph_export.a, libstg_export.a and libengine_export.a, which `rt staticlib` writes to target/staticlib. Of these
+ * the last has begin and the steps, the second the reader, the first the other calls.
  *
  * What is assumed of the pointers:
  *   - each is aligned and good for as many elements as the length after it says; an empty list may have any pointer

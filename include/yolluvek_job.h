@@ -1,0 +1,329 @@
+/*
+ * Yolluvek: a job in one block of memory. Helpers above the calls of yolluvek.h, all of them in this header.
+ *
+ * The lists of a run stand in one block of 32-bit words that the host allocates, yolluvek_words(n, e, p, k) of them.
+ * So a job is saved by one fwrite, copied by one memcpy, and "a refused call leaves every word" is one memcmp. The
+ * block's first words, its head, say the sizes; the lists follow in the order of yolluvek_begin.
+ *
+ *     // 2 tasks, 1 edge, 2 workers, 4 slots in a ring
+ *     static uint32_t block[YOLLUVEK_WORDS(2, 1, 2, 4)];
+ *     yolluvek_job job;
+ *     yolluvek_job_make(&job, block, sizeof block / sizeof *block, 2, 1, 2, 4);
+ *
+ *     // the weights; task 0 has no predecessors, and task 1 comes after task 0
+ *     job.weights[0] = 5;
+ *     job.weights[1] = 3;
+ *     job.pred_starts[1] = 0;
+ *     job.preds[0] = 0;
+ *     job.pred_starts[2] = 1;
+ *
+ *     yolluvek_job_begin(&job);
+ *     yolluvek_step_reply fetched = yolluvek_job_fetch(&job, 0);
+ *
+ * Every call answers a number, 0 where it is accepted, and a refused one leaves the block, and the yolluvek_job, as
+ * they were. yolluvek_means says what a number means, yolluvek_advice what to do about it. An empty list is no trap:
+ * its pointer is into the block, and never NULL.
+ *
+ * A job isn't locked: threads that share one make their calls one after the other (examples/threads.c). A saved block
+ * goes on in any process (examples/resume.c). What a host owes the memory is what yolluvek.h says: between the calls of
+ * a run nobody else writes the block, and it comes back from a file as it went there.
+ */
+#ifndef YOLLUVEK_JOB_H
+#define YOLLUVEK_JOB_H
+
+#include "yolluvek.h"
+
+#include <string.h>
+
+#define YOLLUVEK_VERSION_MAJOR 0
+#define YOLLUVEK_VERSION_MINOR 1
+#define YOLLUVEK_VERSION_PATCH 0
+#define YOLLUVEK_VERSION "0.1.0"
+
+/* The head of a block: the mark, the layout's number, N, E, P, K. */
+#define YOLLUVEK_HEAD 6
+#define YOLLUVEK_MARK 0x4B564C59u /* "YLVK" in a file; other bytes where their order is another */
+#define YOLLUVEK_LAYOUT 1u
+
+/* The words of a block whose sizes are within their limits, as a constant expression. */
+#define YOLLUVEK_WORDS(n, e, p, k)                                             \
+    (YOLLUVEK_HEAD + (n) + 2 * ((n) + 1) + 2 * (e) + (n)                       \
+     + (p) * (p) * (k) + 3 * (p) * (p) + (p) * (n) + 2 * (n) + 2 + 6 * (p))
+
+/* A job: its sizes, and where its lists stand in the block. A host reads the lists, and before begin writes the
+   weights and the predecessor table. */
+typedef struct {
+    uint32_t *block;
+    size_t words;
+    size_t n, e, p, k;
+    uint32_t *weights;     /* N */
+    uint32_t *pred_starts; /* N + 1 */
+    uint32_t *preds;       /* E */
+    uint32_t *succ_starts; /* N + 1 */
+    uint32_t *succs;       /* E */
+    uint32_t *degrees;     /* N */
+    uint32_t *rings;       /* P * P * K */
+    uint32_t *ends;        /* 2 * P * P */
+    int32_t *counters;     /* P * P */
+    uint32_t *buffers;     /* P * N */
+    uint32_t *executed;    /* 2 * N */
+    uint32_t *run;         /* 2 */
+    yolluvek_row *rows;    /* P */
+} yolluvek_job;
+
+/* Room for the tables that any text spells, about 41 KB. */
+typedef struct {
+    uint32_t tasks;
+    uint32_t edges;
+    uint32_t weights[YOLLUVEK_MAX_TASKS];
+    uint32_t pred_starts[YOLLUVEK_MAX_TASKS + 1];
+    uint32_t preds[YOLLUVEK_MAX_EDGES];
+} yolluvek_tables;
+
+/* The words of a block for n tasks, e edges, p workers and k slots; 0 where one of them is beyond its limit. */
+static inline size_t yolluvek_words(size_t n, size_t e, size_t p, size_t k)
+{
+    if (n > YOLLUVEK_MAX_TASKS || e > YOLLUVEK_MAX_EDGES || p < 1 || p > YOLLUVEK_MAX_WORKERS ||
+        k < YOLLUVEK_MIN_SLOTS || k > YOLLUVEK_MAX_SLOTS) {
+        return 0;
+    }
+    return YOLLUVEK_WORDS(n, e, p, k);
+}
+
+/* The words of the block that begins with these YOLLUVEK_HEAD words; 0 where no block does. */
+static inline size_t yolluvek_words_of(const uint32_t *head)
+{
+    if (head[0] != YOLLUVEK_MARK || head[1] != YOLLUVEK_LAYOUT) {
+        return 0;
+    }
+    return yolluvek_words(head[2], head[3], head[4], head[5]);
+}
+
+/* A reply without a detail. */
+static inline yolluvek_reply yolluvek_replied(uint32_t number)
+{
+    yolluvek_reply reply;
+    reply.number = number;
+    reply.detail = 0;
+    return reply;
+}
+
+/* The next `words` words from `*place` on, which moves behind them. */
+static inline uint32_t *yolluvek_next(uint32_t **place, size_t words)
+{
+    uint32_t *list = *place;
+    *place += words;
+    return list;
+}
+
+/* Finds the lists in a block of the right size. */
+static inline void yolluvek_job_find(yolluvek_job *job, uint32_t *block, size_t n, size_t e, size_t p, size_t k)
+{
+    uint32_t *place = block + YOLLUVEK_HEAD;
+    job->block = block;
+    job->words = YOLLUVEK_WORDS(n, e, p, k);
+    job->n = n;
+    job->e = e;
+    job->p = p;
+    job->k = k;
+    job->weights = yolluvek_next(&place, n);
+    job->pred_starts = yolluvek_next(&place, n + 1);
+    job->preds = yolluvek_next(&place, e);
+    job->succ_starts = yolluvek_next(&place, n + 1);
+    job->succs = yolluvek_next(&place, e);
+    job->degrees = yolluvek_next(&place, n);
+    job->rings = yolluvek_next(&place, p * p * k);
+    job->ends = yolluvek_next(&place, 2 * p * p);
+    job->counters = (int32_t *)yolluvek_next(&place, p * p);
+    job->buffers = yolluvek_next(&place, p * n);
+    job->executed = yolluvek_next(&place, 2 * n);
+    job->run = yolluvek_next(&place, 2);
+    job->rows = (yolluvek_row *)(void *)place;
+}
+
+/*
+ * Makes a job in a block of `words` words, whatever they hold. Fill the weights, the starts but the first, which is 0,
+ * and the predecessors, then begin. Before that every other word is one that no run has: a step is refused with 8.
+ *
+ * Refused: 2 where a size is beyond its limit, 1 where `words` isn't yolluvek_words(n, e, p, k) or `block` is NULL.
+ */
+static inline yolluvek_reply yolluvek_job_make(
+    yolluvek_job *job, uint32_t *block, size_t words, size_t n, size_t e, size_t p, size_t k)
+{
+    size_t needed = yolluvek_words(n, e, p, k);
+    if (needed == 0) {
+        return yolluvek_replied(YOLLUVEK_BEYOND_LIMIT);
+    }
+    if (block == NULL || words != needed) {
+        return yolluvek_replied(YOLLUVEK_WRONG_LENGTH);
+    }
+    memset(block, 0xFF, words * sizeof *block);
+    block[0] = YOLLUVEK_MARK;
+    block[1] = YOLLUVEK_LAYOUT;
+    block[2] = (uint32_t)n;
+    block[3] = (uint32_t)e;
+    block[4] = (uint32_t)p;
+    block[5] = (uint32_t)k;
+    yolluvek_job_find(job, block, n, e, p, k);
+    job->pred_starts[0] = 0;
+    return yolluvek_replied(YOLLUVEK_ACCEPTED);
+}
+
+/* Reads a text; refused as by yolluvek_read_text, it leaves the tables as they were. An empty text may be NULL. */
+static inline yolluvek_read_reply yolluvek_tables_read(yolluvek_tables *tables, const void *text, size_t length)
+{
+    const void *bytes = length == 0 ? "" : text;
+    yolluvek_read_reply reply = yolluvek_read_text(
+        (const uint8_t *)bytes, length,
+        tables->weights, YOLLUVEK_MAX_TASKS, tables->pred_starts, YOLLUVEK_MAX_TASKS + 1,
+        tables->preds, YOLLUVEK_MAX_EDGES);
+    if (reply.number == YOLLUVEK_ACCEPTED) {
+        tables->tasks = reply.tasks;
+        tables->edges = reply.edges;
+    }
+    return reply;
+}
+
+/* Makes a job, and fills its weights and predecessor table. Refused as yolluvek_job_make is. */
+static inline yolluvek_reply yolluvek_job_from_tables(
+    yolluvek_job *job, uint32_t *block, size_t words, const yolluvek_tables *tables, size_t p, size_t k)
+{
+    size_t n = tables->tasks, e = tables->edges;
+    yolluvek_reply reply = yolluvek_job_make(job, block, words, n, e, p, k);
+    if (reply.number == YOLLUVEK_ACCEPTED) {
+        memcpy(job->weights, tables->weights, n * sizeof *block);
+        memcpy(job->pred_starts, tables->pred_starts, (n + 1) * sizeof *block);
+        memcpy(job->preds, tables->preds, e * sizeof *block);
+    }
+    return reply;
+}
+
+/*
+ * Opens a block that was made by yolluvek_job_make and then saved or copied, at any address; the run goes on where it
+ * was. The head is judged; of the other words, each step judges those that it reads.
+ *
+ * Refused: 1 where the block is NULL or too short for a head, 8 for another mark or layout, 2 where a size is beyond
+ * its limit, 1 where `words` isn't what the head says.
+ */
+static inline yolluvek_reply yolluvek_job_open(yolluvek_job *job, uint32_t *block, size_t words)
+{
+    size_t needed;
+    if (block == NULL || words < YOLLUVEK_HEAD) {
+        return yolluvek_replied(YOLLUVEK_WRONG_LENGTH);
+    }
+    if (block[0] != YOLLUVEK_MARK || block[1] != YOLLUVEK_LAYOUT) {
+        return yolluvek_replied(YOLLUVEK_DAMAGED_WORD);
+    }
+    needed = yolluvek_words_of(block);
+    if (needed == 0) {
+        return yolluvek_replied(YOLLUVEK_BEYOND_LIMIT);
+    }
+    if (words != needed) {
+        return yolluvek_replied(YOLLUVEK_WRONG_LENGTH);
+    }
+    yolluvek_job_find(job, block, block[2], block[3], block[4], block[5]);
+    return yolluvek_replied(YOLLUVEK_ACCEPTED);
+}
+
+/* The lists of a run, each with its length, then P and K. */
+#define YOLLUVEK_LENT(job)                                                                     \
+    (job)->weights, (job)->n, (job)->pred_starts, (job)->n + 1, (job)->preds, (job)->e,        \
+    (job)->succ_starts, (job)->n + 1, (job)->succs, (job)->e, (job)->degrees, (job)->n,        \
+    (job)->rings, (job)->p * (job)->p * (job)->k, (job)->ends, 2 * (job)->p * (job)->p,        \
+    (job)->counters, (job)->p * (job)->p, (job)->buffers, (job)->p * (job)->n,                 \
+    (job)->executed, 2 * (job)->n, (job)->run, 2, (job)->rows, (job)->p, (job)->p, (job)->k
+
+/* The calls of yolluvek.h with the same names, on the lists of a job. */
+static inline yolluvek_reply yolluvek_job_begin(yolluvek_job *job)
+{
+    return yolluvek_begin(YOLLUVEK_LENT(job));
+}
+
+static inline yolluvek_step_reply yolluvek_job_fetch(yolluvek_job *job, uint32_t worker)
+{
+    return yolluvek_fetch(YOLLUVEK_LENT(job), worker);
+}
+
+static inline yolluvek_step_reply yolluvek_job_start(yolluvek_job *job, uint32_t worker)
+{
+    return yolluvek_start(YOLLUVEK_LENT(job), worker);
+}
+
+static inline yolluvek_step_reply yolluvek_job_complete(yolluvek_job *job, uint32_t worker)
+{
+    return yolluvek_complete(YOLLUVEK_LENT(job), worker);
+}
+
+static inline yolluvek_step_reply yolluvek_job_release(yolluvek_job *job, uint32_t worker)
+{
+    return yolluvek_release(YOLLUVEK_LENT(job), worker);
+}
+
+#undef YOLLUVEK_LENT
+
+/* 1 where the job is begun and every task is recorded, else 0. */
+static inline int yolluvek_job_finished(const yolluvek_job *job)
+{
+    return job->run[0] == job->n;
+}
+
+/* What a reply's number means, in the words of docs/REFUSALS.md. */
+static inline const char *yolluvek_means(uint32_t number)
+{
+    switch (number) {
+    case YOLLUVEK_ACCEPTED: return "accepted";
+    case YOLLUVEK_WRONG_LENGTH: return "a lent list has the wrong length";
+    case YOLLUVEK_BEYOND_LIMIT: return "a size, a weight or the text is beyond its limit";
+    case YOLLUVEK_BAD_TABLE: return "a bad start or task number in a table";
+    case YOLLUVEK_PREDECESSOR_TWICE: return "a predecessor stands twice in one task";
+    case YOLLUVEK_CYCLE: return "the tasks form a cycle";
+    case YOLLUVEK_TOO_MANY_ROOTS: return "too many roots for the rings";
+    case YOLLUVEK_NO_SUCH_WORKER: return "no such worker";
+    case YOLLUVEK_DAMAGED_WORD: return "a damaged word in the lent memory";
+    case YOLLUVEK_WRONG_PHASE: return "the step doesn't suit the worker's phase";
+    case YOLLUVEK_NOTHING_THERE: return "nothing there to fetch or to release";
+    case YOLLUVEK_NO_ROOM: return "no room for the released task";
+    case YOLLUVEK_RECORD_FULL: return "the record is full";
+    case YOLLUVEK_BAD_LAYOUT: return "the text breaks the layout";
+    default: return "a number that this header doesn't know";
+    }
+}
+
+/* What an operator does about it, in the words of docs/REFUSALS.md; "" of an accepted call. */
+static inline const char *yolluvek_advice(uint32_t number)
+{
+    switch (number) {
+    case YOLLUVEK_ACCEPTED:
+        return "";
+    case YOLLUVEK_BEYOND_LIMIT:
+        return "choose another number of workers or slots; else the job is too large, and has to be split.";
+    case YOLLUVEK_BAD_TABLE:
+        return "look at the predecessors of that task in the text. The reader takes any number there; begin judges it.";
+    case YOLLUVEK_PREDECESSOR_TWICE:
+        return "remove one of the two from that task; in a text, lower the count before them too.";
+    case YOLLUVEK_CYCLE:
+        return "find the way from that task through predecessors back to it. One of these edges is wrong.";
+    case YOLLUVEK_TOO_MANY_ROOTS:
+        return "use more workers or more slots, or give some of the roots a common predecessor.";
+    case YOLLUVEK_NO_SUCH_WORKER:
+        return "choose another worker.";
+    case YOLLUVEK_WRONG_PHASE:
+        return "take a step that suits, or choose another worker.";
+    case YOLLUVEK_NOTHING_THERE:
+        return "after a refused Fetch try Release, after a refused Release try Fetch; if both are refused, go on "
+               "with another worker.";
+    case YOLLUVEK_NO_ROOM:
+        return "let a worker fetch, then release again. The refused worker can fetch itself, since a ring that it "
+               "owns is full. After at most P accepted Fetches of any one worker there is room. If it happens often, "
+               "use a larger K.";
+    case YOLLUVEK_BAD_LAYOUT:
+        return "look in that line for a wrong number of fields, a task number out of turn, a number of more than five "
+               "digits or over 65,535, a mark other than digits, spaces and tabs, a time at the first or last task, "
+               "a predecessor at task 0, or a line after the last task.";
+    /* 1, 8 and 12 are faults of the host, as are numbers that the page doesn't have */
+    default:
+        return "report it.";
+    }
+}
+
+#endif
