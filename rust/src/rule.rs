@@ -8,23 +8,50 @@ use crate::model::{word, Refusal, Table};
 use crate::pages::{table, Block};
 use crate::texts::DIAMOND;
 
-/// What an operator sees before a Release: the counters of each worker, by filler, and of the rings that the releasing
-/// worker fills, by owner, which ones are full.
+/// What an operator sees before a Release: of each worker, by filler, the counters and what waits in the rings.
 #[derive(Clone, Debug)]
 pub struct View {
+    /// The releasing worker.
+    worker: usize,
     counters: Vec<Vec<i32>>,
-    full: Vec<bool>,
+    rings: Vec<Vec<Ring>>,
+}
+
+#[derive(Clone, Debug)]
+struct Ring {
+    /// The next one to take first.
+    tasks: Vec<u32>,
+    full: bool,
 }
 
 impl View {
     /// The lists that a begin with this P and K was lent, and a worker below P.
     pub fn of(memory: &Memory, p: usize, k: usize, worker: u32) -> View {
         let counters = memory.counters.chunks(p).map(<[i32]>::to_vec);
-        let full = (0..p).map(|owner| is_full(ends(memory, owner * p + worker as usize), k));
+        let ring = |ring: usize| Ring {
+            tasks: waiting(memory, ring, k),
+            full: is_full(ends(memory, ring), k),
+        };
+        let rings = (0..p).map(|owner| (owner * p..(owner + 1) * p).map(ring).collect());
         View {
+            worker: worker as usize,
             counters: counters.collect(),
-            full: full.collect(),
+            rings: rings.collect(),
         }
+    }
+
+    /// Of a worker's rings that aren't empty: the filler and the tasks, the next one to take first.
+    pub fn waiting(&self, owner: u32) -> Vec<(u32, &[u32])> {
+        let rings = self.rings[owner as usize].iter().enumerate();
+        rings
+            .filter(|(_, ring)| !ring.tasks.is_empty())
+            .map(|(filler, ring)| (word(filler), ring.tasks.as_slice()))
+            .collect()
+    }
+
+    /// Whether this owner's ring that the releasing worker fills is full.
+    fn is_full(&self, owner: u32) -> bool {
+        self.rings[owner as usize][self.worker].full
     }
 
     /// "sum of its P counters", of each worker.
@@ -48,18 +75,18 @@ impl View {
 
     /// "owners taken j, j+1, … modulo P"
     fn owners(&self) -> impl Iterator<Item = u32> + '_ {
-        let (target, p) = (self.target() as usize, self.full.len());
+        let (target, p) = (self.target() as usize, self.rings.len());
         (0..p).map(move |passed| word((target + passed) % p))
     }
 
     /// The owners that are passed because the ring is full.
     pub fn passed(&self) -> Vec<u32> {
-        self.owners().take_while(|&owner| self.full[owner as usize]).collect()
+        self.owners().take_while(|&owner| self.is_full(owner)).collect()
     }
 
     /// The owner of "the first ring filled by i that isn't full"; none if all are.
     pub fn foreseen(&self) -> Option<u32> {
-        self.owners().find(|&owner| !self.full[owner as usize])
+        self.owners().find(|&owner| !self.is_full(owner))
     }
 }
 
@@ -92,6 +119,7 @@ pub struct Example {
     k: usize,
     begun: Memory,
     memory: Memory,
+    steps: Vec<(u32, Step)>,
     fetched: Vec<(u32, u32)>,
     pub placements: Vec<Placement>,
 }
@@ -104,6 +132,7 @@ impl Example {
             k,
             memory: begun.clone(),
             begun,
+            steps: Vec::new(),
             fetched: Vec::new(),
             placements: Vec::new(),
         }
@@ -119,9 +148,15 @@ impl Example {
         Example::of(name, memory, p, k)
     }
 
+    /// What is seen after all steps, by a worker who would release next.
+    pub fn after(&self, worker: u32) -> View {
+        View::of(&self.memory, self.p, self.k, worker)
+    }
+
     /// Takes the step and keeps what the page shows of it; whether it is accepted.
     fn step(&mut self, worker: u32, each: Step) -> bool {
-        let view = View::of(&self.memory, self.p, self.k, worker);
+        self.steps.push((worker, each));
+        let view = self.after(worker);
         let answer = step(&mut self.memory, self.p, self.k, worker, each);
         match answer {
             Ok(Outcome::Fetched { task }) => self.fetched.push((task, worker)),
@@ -195,19 +230,107 @@ pub fn tie() -> Example {
     example
 }
 
-/// What stands in docs/RULE.md.
+/// Worker 0 runs a long task, which doesn't count; the releasing worker 1 counts like any other.
+pub fn running() -> Example {
+    let after: &[u32] = &[1];
+    let roots = [(60, &[][..]), (2, &[]), (5, &[])];
+    let successors = [(4, after), (4, after), (1, after)];
+    let mut example = Example::begin("answer 1", &[&roots[..], &successors].concat(), 3, 4);
+    example.step(0, Step::Fetch);
+    example.step(0, Step::Start);
+    example.execute(1);
+    example.release(1, 3);
+    example
+}
+
+/// Worker 2 stays the target, since the weights join the workers whose rings are used; the search goes on from worker 3 to 0.
+pub fn past_the_last() -> Example {
+    let after: &[u32] = &[2];
+    let roots = [(8, &[][..]), (5, &[]), (1, &[]), (6, &[])];
+    let successors = [(2, after), (4, after), (1, after)];
+    let mut example = Example::begin("answer 2", &[&roots[..], &successors].concat(), 4, 2);
+    example.execute(2);
+    example.release(2, 3);
+    example
+}
+
+/// A Fetch that makes no room, since it takes from a ring that another worker fills, and one that does.
+pub fn room() -> Example {
+    let after: &[u32] = &[1];
+    let roots = [(6, &[][..]), (2, &[])];
+    let successors = [(3, after), (1, after), (2, after)];
+    let mut example = Example::begin("answer 3", &[&roots[..], &successors].concat(), 2, 2);
+    example.execute(1);
+    example.release(1, 3);
+    example.step(0, Step::Fetch);
+    example.release(1, 1);
+    example.step(0, Step::Start);
+    example.step(0, Step::Complete);
+    example.step(0, Step::Fetch);
+    example.release(1, 1);
+    example
+}
+
+/// What stands in docs/RULE.md: the examples, then each exercise with its answer.
 pub fn blocks() -> Vec<Block> {
-    [diamond(), fallback(), tie()].iter().map(Example::block).collect()
+    let examples = [diamond(), fallback(), tie()].map(|each| each.worked());
+    let exercises = [
+        ("exercise 1", running()),
+        ("exercise 2", past_the_last()),
+        ("exercise 3", room()),
+    ];
+    let asked = exercises
+        .iter()
+        .flat_map(|(name, each)| [each.asked(name), each.answered()]);
+    examples.into_iter().chain(asked).collect()
 }
 
 impl Example {
-    fn block(&self) -> Block {
-        let Example { name, p, k, .. } = self;
-        let sizes = format!("P {p}, K {k}: a ring holds {}.", counted(k - 1, "task"));
+    /// The whole example.
+    fn worked(&self) -> Block {
+        Block {
+            name: self.name,
+            text: format!("{}\n{}", self.job(), self.answer()),
+        }
+    }
+
+    /// The job and the steps, without what comes of them.
+    fn asked(&self, name: &'static str) -> Block {
         Block {
             name,
-            text: format!("{sizes}\n\n{}\n{}", self.tasks(), self.releases()),
+            text: format!("{}\nThe steps:\n\n{}", self.job(), self.taken()),
         }
+    }
+
+    /// What comes of the steps.
+    fn answered(&self) -> Block {
+        Block {
+            name: self.name,
+            text: self.answer(),
+        }
+    }
+
+    fn job(&self) -> String {
+        let Example { p, k, .. } = self;
+        format!(
+            "P {p}, K {k}: a ring holds {}.\n\n{}",
+            counted(k - 1, "task"),
+            self.tasks()
+        )
+    }
+
+    fn answer(&self) -> String {
+        format!("{}\n{}", self.waits(), self.releases())
+    }
+
+    /// The steps in their order, a line for those that a worker takes one after the other.
+    fn taken(&self) -> String {
+        let turns = self.steps.chunk_by(|(worker, _), (next, _)| worker == next);
+        let turn = |steps: &[(u32, Step)]| {
+            let names: Vec<String> = steps.iter().map(|(_, each)| format!("{each:?}")).collect();
+            format!("- worker {}: {}\n", steps[0].0, names.join(", "))
+        };
+        turns.map(turn).collect()
     }
 
     /// Weight, predecessors and, of the roots, the worker at begin; a column for each task.
@@ -232,39 +355,70 @@ impl Example {
         rings.map(|ring| word(ring / p)).collect()
     }
 
-    fn releases(&self) -> String {
-        let loads = (0..self.p).map(|worker| format!("load of {worker}"));
-        let head: Vec<String> = ["fetched before", "Release by", "task"]
+    /// What waits in which ring before each Release.
+    fn waits(&self) -> String {
+        let owners = (0..self.p).map(|owner| format!("rings of {owner}"));
+        let head: Vec<String> = ["row", "fetched before"]
             .map(String::from)
             .into_iter()
-            .chain(loads)
-            .chain(["target", "full, passed", "ring used"].map(String::from))
+            .chain(owners)
             .collect();
-        let rows: Vec<Vec<String>> = self.placements.iter().map(|each| self.release_row(each)).collect();
+        let rows: Vec<Vec<String>> = self.numbered(|each| {
+            let fetched = each.fetched.iter().map(|(task, by)| format!("{task} by {by}"));
+            let rings = each.view.rings.iter().map(|rings| rings_cell(rings));
+            std::iter::once(joined(&fetched.collect::<Vec<_>>()))
+                .chain(rings)
+                .collect()
+        });
         table(&head, &rows)
     }
 
-    fn release_row(&self, each: &Placement) -> Vec<String> {
-        let fetched: Vec<String> = each
-            .fetched
-            .iter()
-            .map(|(task, by)| format!("{task} by {by}"))
+    fn releases(&self) -> String {
+        let loads = (0..self.p).map(|worker| format!("load of {worker}"));
+        let head: Vec<String> = ["row", "by", "task"]
+            .map(String::from)
+            .into_iter()
+            .chain(loads)
+            .chain(["target", "passed", "ring used"].map(String::from))
             .collect();
-        let weight = self.begun.weights[each.task as usize];
-        let used = match each.owner {
-            Some(owner) => format!("of {owner}, filled by {}", each.worker),
-            None => format!("none: refused 11, detail {}", each.task),
-        };
-        let first = [
-            joined(&fetched),
-            each.worker.to_string(),
-            format!("{} (weight {weight})", each.task),
-        ];
-        let sums = each.view.counters.iter().zip(each.view.loads());
-        let loads = sums.map(|(counters, load)| format!("{} = {load}", added(counters)));
-        let last = [target_cell(&each.view), listed(&each.view.passed()), used];
-        first.into_iter().chain(loads).chain(last).collect()
+        table(&head, &self.numbered(release_cells))
     }
+
+    /// A row for each Release, its number first.
+    fn numbered(&self, cells: impl Fn(&Placement) -> Vec<String>) -> Vec<Vec<String>> {
+        let rows = self.placements.iter().zip(1..);
+        rows.map(|(each, number): (_, u32)| [vec![number.to_string()], cells(each)].concat())
+            .collect()
+    }
+}
+
+fn release_cells(each: &Placement) -> Vec<String> {
+    let used = match each.owner {
+        Some(owner) => format!("of {owner}, filled by {}", each.worker),
+        None => format!("refused 11, detail {}", each.task),
+    };
+    let sums = each.view.counters.iter().zip(each.view.loads());
+    let loads = sums.map(|(counters, load)| load_cell(counters, load));
+    let last = [target_cell(&each.view), listed(&each.view.passed()), used];
+    [each.worker.to_string(), each.task.to_string()]
+        .into_iter()
+        .chain(loads)
+        .chain(last)
+        .collect()
+}
+
+/// A worker's rings that aren't empty, as the lesson board shows them: the filler, then the tasks, the next one to take first.
+fn rings_cell(rings: &[Ring]) -> String {
+    let shown = rings.iter().enumerate().filter(|(_, ring)| !ring.tasks.is_empty());
+    let cells = shown.map(|(filler, ring)| {
+        let full = if ring.full { " full" } else { "" };
+        format!("{filler}: {}{full}", listed(&ring.tasks))
+    });
+    let cells: Vec<String> = cells.collect();
+    if cells.is_empty() {
+        return String::from("none");
+    }
+    cells.join("; ")
 }
 
 fn predecessors(memory: &Memory, task: usize) -> &[u32] {
@@ -287,19 +441,26 @@ fn target_cell(view: &View) -> String {
     }
 }
 
-/// Counters as they are added: `3 − 3`.
-fn added(counters: &[i32]) -> String {
-    let mut shown = String::new();
-    for &counter in counters {
-        shown += match (shown.is_empty(), counter < 0) {
-            (true, true) => "−",
-            (true, false) => "",
-            (false, true) => " − ",
-            (false, false) => " + ",
-        };
-        shown += &counter.unsigned_abs().to_string();
+/// A load as its counters are added, without those that are 0: `3 − 3 = 0`.
+fn load_cell(counters: &[i32], load: i64) -> String {
+    let counted: Vec<i32> = counters.iter().copied().filter(|&counter| counter != 0).collect();
+    match counted.len() {
+        0 | 1 => signed(load),
+        _ => format!("{} = {}", added(&counted), signed(load)),
     }
-    shown
+}
+
+fn added(counters: &[i32]) -> String {
+    let rest = counters[1..].iter().map(|&counter| {
+        let sign = if counter < 0 { "−" } else { "+" };
+        format!(" {sign} {}", counter.unsigned_abs())
+    });
+    std::iter::once(signed(i64::from(counters[0]))).chain(rest).collect()
+}
+
+fn signed(number: i64) -> String {
+    let sign = if number < 0 { "−" } else { "" };
+    format!("{sign}{}", number.unsigned_abs())
 }
 
 fn counted(count: usize, thing: &str) -> String {

@@ -6,6 +6,7 @@ use engine_model::draw::Draw;
 use engine_model::memory::Memory;
 use engine_model::model::Table;
 use engine_model::runs::graphs::shaped_up_to;
+use std::ffi::{OsStr, OsString};
 use std::fs;
 use std::path::Path;
 
@@ -42,6 +43,14 @@ fn a_star() {
     assert_prints(example("star.stg"), &["refused 6 8"]);
 }
 
+/// The star's images behind task 0: 9 tasks and 14 edges are 41 steps. Worker 0 releases seven images, by turns to 0, 1, 1, 0, 1,
+/// 0, 1, while worker 1 has fetched 2 and then 3 from the ring that worker 0 fills; after that each takes its own.
+#[test]
+fn a_star_behind_one_task() {
+    let lines = ["9 41", "0 0", "2 1", "3 1", "1 0", "5 1", "4 0", "7 1", "6 0", "8 0"];
+    assert_prints(example("star_behind_one.stg"), &lines);
+}
+
 /// 16 tasks and 24 edges are 72 steps; the turns were worked out with queues of tasks and the workers' sums.
 #[test]
 fn a_map_sheet() {
@@ -52,16 +61,24 @@ fn a_map_sheet() {
     assert_prints(example("tiles.stg"), &lines);
 }
 
-/// Every text of the folder is one of these; the other file is the diamond's C program.
+/// Every text of the folder is one of these; the other files are programs in C.
 #[test]
 fn no_other_example() {
     let folder = Path::new(env!("CARGO_MANIFEST_DIR")).join("../examples");
     let entries = fs::read_dir(folder).expect("the folder is there");
-    let mut names: Vec<_> = entries.map(|entry| entry.expect("an entry").file_name()).collect();
-    names.sort();
+    let names = entries.map(|entry| entry.expect("an entry").file_name());
+    let is_text = |name: &OsString| Path::new(name).extension() != Some(OsStr::new("c"));
+    let mut texts: Vec<_> = names.filter(is_text).collect();
+    texts.sort();
     assert_eq!(
-        names,
-        ["chain.stg", "diamond.c", "diamond.stg", "star.stg", "tiles.stg"]
+        texts,
+        [
+            "chain.stg",
+            "diamond.stg",
+            "star.stg",
+            "star_behind_one.stg",
+            "tiles.stg"
+        ]
     );
 }
 

@@ -6,7 +6,7 @@ use engine_model::engines;
 use engine_model::memory::{Memory, Outcome, Step};
 use engine_model::model::{Refusal, Table};
 use engine_model::pages;
-use engine_model::rule::{diamond, fallback, tie, Example, View};
+use engine_model::rule::{diamond, fallback, past_the_last, room, running, tie, Example, View};
 use engine_model::runs::{next_case, Call, Case, Reply};
 
 #[test]
@@ -65,6 +65,77 @@ fn the_placements_with_ties() {
     assert_places(&example, &expected);
     let least: Vec<Vec<u32>> = example.placements.iter().map(|each| each.view.least()).collect();
     assert_eq!(least, [vec![1, 2], vec![2], vec![1], vec![0, 1, 2]]);
+}
+
+/// Worker 0 has fetched its root of weight 60, and worker 1 has completed the one that it releases from; the root of weight 5
+/// waits for worker 2.
+#[test]
+fn exercise_1() {
+    let expected: [Expected; 3] = [
+        (&[0, 0, 5], 0, 3, Some(0)),
+        (&[4, 0, 5], 1, 4, Some(1)),
+        (&[4, 4, 5], 0, 5, Some(0)),
+    ];
+    let example = running();
+    assert_places(&example, &expected);
+    assert_told("Tasks 3, 4 and 5 go to workers 0, 1 and 0.");
+    assert_eq!(example.after(1).waiting(0), [(1, &[3, 5][..])]);
+}
+
+/// Each ring holds one task. Worker 2 has the least load, and keeps it: the weight 4 joins worker 3.
+#[test]
+fn exercise_2() {
+    let expected: [Expected; 3] = [
+        (&[8, 5, 0, 6], 2, 4, Some(2)),
+        (&[8, 5, 2, 6], 2, 5, Some(3)),
+        (&[8, 5, 2, 10], 2, 6, Some(0)),
+    ];
+    let example = past_the_last();
+    assert_places(&example, &expected);
+    assert_told("Tasks 4, 5 and 6 go to workers 2, 3 and 0.");
+    assert_eq!(example.after(2).loads(), [9, 5, 2, 10]);
+    assert_told("After that the loads are 9, 5, 2 and 10.");
+}
+
+/// Each ring holds one task, and those that worker 1 fills have tasks 2 and 3. Worker 0 looks at filler 0 first.
+#[test]
+fn exercise_3() {
+    let expected: [Expected; 5] = [
+        (&[6, 0], 1, 2, Some(1)),
+        (&[6, 3], 1, 3, Some(0)),
+        (&[7, 3], 1, 4, None),
+        (&[1, 3], 0, 4, None),
+        (&[0, 3], 0, 4, Some(0)),
+    ];
+    let example = room();
+    assert_places(&example, &expected);
+    let fetched: Vec<&[(u32, u32)]> = example.placements.iter().map(|each| each.fetched.as_slice()).collect();
+    assert_eq!(fetched, [&[(1, 1)][..], &[], &[], &[(0, 0)], &[(3, 0)]]);
+    let before_the_refusal = &example.placements[2].view;
+    assert_eq!(before_the_refusal.waiting(0), [(0, &[0][..]), (1, &[3])]);
+    assert_eq!(before_the_refusal.waiting(1), [(1, &[2][..])]);
+    assert_told("The third and the fourth Release are refused, both with 11 and task 4.");
+}
+
+/// The page says so, wherever its lines break.
+fn assert_told(sentence: &str) {
+    let page = pages::rule().stored().unwrap_or_else(|wrong| panic!("{wrong}"));
+    let words: Vec<&str> = page.split_whitespace().collect();
+    assert!(words.join(" ").contains(sentence), "{sentence}");
+}
+
+/// What waits in which ring, in the example of full rings: before the refused Release, and after worker 2 has fetched task 5 from
+/// the ring that worker 0 fills.
+#[test]
+fn what_waits_past_full_rings() {
+    let example = fallback();
+    let [.., refused, last] = example.placements.as_slice() else {
+        panic!("a refused Release and one after it");
+    };
+    assert_eq!(refused.view.waiting(0), [(0, &[3][..])]);
+    assert_eq!(refused.view.waiting(1), [(0, &[4][..]), (1, &[1])]);
+    assert_eq!(refused.view.waiting(2), [(0, &[5][..]), (2, &[2])]);
+    assert_eq!(last.view.waiting(2), [(2, &[2][..])]);
 }
 
 /// How often the drawn runs try each part of the rule.
