@@ -1,9 +1,9 @@
-"""The walks of crate `engine_ref`: the four steps, one text over the table of the lists that each lends, and begin."""
+"""The walks of the calls that `engine_ref` has, a crate for each: the four steps, one text over the table of the lists that each lends, and begin."""
 
 from core import Callee, Script, define, finishes, listed, nest, operands
 from short import PARAMS, RULES, Listed, Short
 
-# The lent lists, in the order of the parameters, by their names in proofs/Lists.antt; the local that each is passed in.
+# The lent lists, in the order of the parameters, by their names in crates/ref_rules/proofs/Lists.antt; the local that each is passed in.
 LISTS = "weights predStarts preds succStarts succs degrees rings ends counters buffers executed run rows".split()
 SLOTS = {x: 2 + i for i, x in enumerate(LISTS)}
 P, K, WHO = 15, 16, 17
@@ -20,11 +20,11 @@ OWN = {
     "Rattle.admission.proofs.Rows": "row-stored",
     "Rattle.row_list.proofs.Params": PARAMS,
     "Rattle.row_list.proofs.Rules": RULES,
-    "Rattle.engine_ref.proofs.Lists": "final Loan reads:read gives:give lives-of shares-of tokens-of lists-of Slices slices-of owned-of Lending lives shares "
+    "Rattle.ref_rules.proofs.Lists": "final Loan reads:read gives:give lives-of shares-of tokens-of lists-of Slices slices-of owned-of Lending lives shares "
     "all-tokens sizes sizes-are arguments values passed lending limits number worker slice-fits length-fits LimitsT WorkerT JudgedT RowT SteppedT "
     "StepAnswerT AnswerT BegunT limits-val worker-val sizes-val answer-val begun-mir begun-tells begun-answer begun-rows limits-makes answer-makes "
     "step-answer-makes limits-typed worker-typed sizes-typed judged-typed row-typed stepped-typed step-answer-typed answer-typed begun-typed",
-    "Rattle.engine_ref.proofs.Calls": "Callees callees step-values with-values judges loads-row takes-row stores-row answers clears-rows clear-rows-triple",
+    "Rattle.ref_rules.proofs.Calls": "Callees callees step-values with-values judges loads-row takes-row stores-row answers clears-rows clear-rows-triple",
 }
 
 POST = "(walkOf 𝓤 H A fn.ended stayed (fn.clauses 𝓤 H A mem run) .post here)"
@@ -309,7 +309,7 @@ def step_lends(step):
 
 
 def write_step(step):
-    f = Listed("engine_ref", step.name, 13, params([*step.mutable, "rows"], "number", "number", "worker"), [Together(), step.core])
+    f = Listed(f"ref_{step.name}", step.name, 13, params([*step.mutable, "rows"], "number", "number", "worker"), [Together(), step.core])
     parts = [
         step.core.triple(),
         f.stayed(),
@@ -369,7 +369,7 @@ def begin_exits():
 
 
 def write_begin():
-    f = Listed("engine_ref", "begin", 13, params([*LAID, "rows"], "number", "number"), [BEGIN, Callee("row_list", "clear_rows")])
+    f = Listed("ref_begin", "begin", 13, params([*LAID, "rows"], "number", "number"), [BEGIN, Callee("row_list", "clear_rows")])
     asks, rows = "chain (tokens-of loans) ∷ ‵ (fchain (owned-of loans)) ∷ []", f"(length {now('rows')})"
     numbers = [("k", "k-is"), ("p", "p-is"), (rows, "(refl, m .rows .room .0)")]
     asked = Script("tokens", "own")

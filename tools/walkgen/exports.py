@@ -27,7 +27,7 @@ class Call:
         self.word = "step-" if by_worker else ""
         self.rule = f"{'stepOf' if by_worker else 'beginOf'} lim p k{step}"
         self.law = f"{'step' if by_worker else 'begin'}-replied lim p k {self.reply_of}{step}"
-        self.core, self.replies = Callee("engine_ref", name), Callee("replies", f"{self.word}reply_of".replace("-", "_"))
+        self.core, self.replies = Callee(f"ref_{name}", name), Callee("replies", f"{self.word}reply_of".replace("-", "_"))
 
     def values(self, *parts):
         """What comes after the lists: P, K and, of a step, the worker's part."""
@@ -53,7 +53,7 @@ OWN = {
     "Rattle.engine_export.proofs.Laws": "begin-replied step-replied",
     "Rattle.row_list.proofs.Params": PARAMS,
     "Rattle.row_list.proofs.Rules": RULES,
-    "Rattle.engine_ref.proofs.Lists": "final slice Loan reads:read gives:give owned-of Lending lives shares all-tokens arguments values lending number "
+    "Rattle.ref_rules.proofs.Lists": "final slice Loan reads:read gives:give owned-of Lending lives shares all-tokens arguments values lending number "
     "slice-fits LimitsT WorkerT RowT AnswerT StepAnswerT worker-val limits-makes worker-makes limits-typed worker-typed answer-typed step-answer-typed",
     "Rattle.ref_export.proofs.Calls": "word worker-of worker-is ReplyT StepReplyT reply-makes step-reply-makes reply-typed step-reply-typed "
     "limits-engine-triple reply-of-triple step-reply-of-triple limits-made replies step-replies",

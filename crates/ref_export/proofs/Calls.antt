@@ -21,8 +21,8 @@ use Rattle.replies.proofs.StepReply as Sr
 use Rattle.replies.proofs.StepReply.Laws as Sr′
 use Rattle.replies.proofs.reply_of as reply-of
 use Rattle.replies.proofs.step_reply_of as step-reply-of
-use Rattle.engine_ref.proofs.Lists.{LimitsT, WorkerT, AnswerT, StepAnswerT, worker-val, answer-makes, step-answer-makes}
-use Rattle.engine_ref.proofs.Calls.{asks, by-value}
+use Rattle.ref_rules.proofs.Lists.{LimitsT, WorkerT, AnswerT, StepAnswerT, worker-val, answer-makes, step-answer-makes}
+use Rattle.ref_rules.proofs.Calls.{asks, by-value}
 
 -- the worker's number, and the worker of that number
 abbrev pub word : {n : ℕ} → Param n

@@ -19,16 +19,16 @@ use Rattle.replies.specs.declared.Reply.{Reply}
 use Rattle.engine_export.proofs.Laws.{begin-replied}
 use Rattle.row_list.proofs.Params.{Param, reads, gives, stays, spells, told, go}
 use Rattle.row_list.proofs.Rules.{chain, splits, joins, opens-owns, free, at, part, target}
-use Rattle.engine_ref.proofs.Lists.{final, slice, Loan, reads as read, gives as give, owned-of, Lending, lives, shares, all-tokens, arguments, values}
-use Rattle.engine_ref.proofs.Lists.{lending, number, slice-fits, LimitsT, RowT, AnswerT, limits-makes, limits-typed, answer-typed}
+use Rattle.ref_rules.proofs.Lists.{final, slice, Loan, reads as read, gives as give, owned-of, Lending, lives, shares, all-tokens, arguments, values}
+use Rattle.ref_rules.proofs.Lists.{lending, number, slice-fits, LimitsT, RowT, AnswerT, limits-makes, limits-typed, answer-typed}
 use Rattle.ref_export.proofs.Calls.{ReplyT, reply-makes, reply-typed, limits-engine-triple, reply-of-triple, limits-made, replies}
 use Rattle.task.proofs.Limits.engine.Symbol as limits-engine-def
 use Rattle.task.proofs.Limits.engine.Symbol.{name as #task·Limits·engine}
 use Rattle.task.proofs.Limits.engine.Met as limits-engine-thm
-use Rattle.engine_ref.proofs.begin as begin
-use Rattle.engine_ref.proofs.begin.Symbol as begin-def
-use Rattle.engine_ref.proofs.begin.Symbol.{name as #engine-ref·begin}
-use Rattle.engine_ref.proofs.begin.Met as begin-thm
+use Rattle.ref_begin.proofs.begin as begin
+use Rattle.ref_begin.proofs.begin.Symbol as begin-def
+use Rattle.ref_begin.proofs.begin.Symbol.{name as #ref-begin·begin}
+use Rattle.ref_begin.proofs.begin.Met as begin-thm
 use Rattle.replies.proofs.reply_of.Symbol as reply-of-def
 use Rattle.replies.proofs.reply_of.Symbol.{name as #replies·reply-of}
 use Rattle.replies.proofs.reply_of.Met as reply-of-thm
@@ -116,7 +116,7 @@ module _ {M : Type 1} (𝓤 : URA M) (H : Heap 𝓤) (A : Atoms 𝓤) (W : Given
       nothing ! $ fjoin ! $ frame ! $ owned ! ReplyT (Is ReplyT) (reply-makes 𝓤 H A) y _ y-is $ done !
 
   module _ (C : Calls 𝓤 H) (Λ : Loops 𝓤 H) (fm : FmC 𝓤 H (W .laws) C) (known-limits-engine : Triple 𝓤 (C #task·Limits·engine)
-      (limits-engine-triple 𝓤 H A mem run)) (known-begin : Triple 𝓤 (C #engine-ref·begin) (begin-triple 𝓤 H A mem run))
+      (limits-engine-triple 𝓤 H A mem run)) (known-begin : Triple 𝓤 (C #ref-begin·begin) (begin-triple 𝓤 H A mem run))
       (known-reply-of : Triple 𝓤 (C #replies·reply-of) (reply-of-triple 𝓤 H A mem run)) where
     walk : ent 𝓤 (onEntry 𝓤 H A fn.signature (lives m) (shares m) (here .0 .3) (here .0 .4))
         (WpFn 𝓤 H C Λ code.function (slice (m .weights) ∷ slice (m .predStarts) ∷ slice (m .preds) ∷ slice (m .succStarts) ∷ slice (m .succs) ∷ slice
@@ -210,7 +210,7 @@ module _ {M : Type 1} (𝓤 : URA M) (H : Heap 𝓤) (A : Atoms 𝓤) (W : Given
 
 module _ {M : Type 1} (𝓤 : URA M) (H : Heap 𝓤) (A : Atoms 𝓤) (W : Given 𝓤 H A) (mem : Memory → SProp 𝓤) (run : Routine → Fun 𝓤) where
   walks : (C : Calls 𝓤 H) (Λ : Loops 𝓤 H) → FmC 𝓤 H (W .laws) C → Triple 𝓤 (C #task·Limits·engine) (limits-engine-triple 𝓤 H A mem run)
-      → Triple 𝓤 (C #engine-ref·begin) (begin-triple 𝓤 H A mem run) → Triple 𝓤 (C #replies·reply-of) (reply-of-triple 𝓤 H A mem run)
+      → Triple 𝓤 (C #ref-begin·begin) (begin-triple 𝓤 H A mem run) → Triple 𝓤 (C #replies·reply-of) (reply-of-triple 𝓤 H A mem run)
       → Walks 𝓤 H A fn.ended stayed (WpFn 𝓤 H C Λ code.function) (fn.clauses 𝓤 H A mem run)
   walks C Λ fm known-limits-engine known-begin known-reply-of =
       walked 𝓤 H A fn.ended stayed (fn.clauses 𝓤 H A mem run) (WpFn 𝓤 H C Λ code.function)
@@ -225,7 +225,7 @@ module _ {M : Type 1} (𝓤 : URA M) (H : Heap 𝓤) (A : Atoms 𝓤) (W : Given
       (are .1 .1 .1 .1 .1 .1 .1 .1 .1 .1 .1 .1 .1 .1 .0) C Λ fm known-limits-engine known-begin known-reply-of))
 
 meets : {M : Type 1} (𝓤 : URA M) (H : Heap 𝓤) (A : Atoms 𝓤) (W : Given 𝓤 H A) (mem : Memory → SProp 𝓤) (run : Routine → Fun 𝓤) (𝓣 : Tables 𝓤 H)
-    → Triple 𝓤 (𝓣 .C #task·Limits·engine) (limits-engine-triple 𝓤 H A mem run) → Triple 𝓤 (𝓣 .C #engine-ref·begin) (begin-triple 𝓤 H A mem run)
+    → Triple 𝓤 (𝓣 .C #task·Limits·engine) (limits-engine-triple 𝓤 H A mem run) → Triple 𝓤 (𝓣 .C #ref-begin·begin) (begin-triple 𝓤 H A mem run)
     → Triple 𝓤 (𝓣 .C #replies·reply-of) (reply-of-triple 𝓤 H A mem run) → Meets 𝓤 H A fn.signature (WpFn 𝓤 H (𝓣 .C) (𝓣 .Λ) code.function)
     (fn.spec 𝓤 H A mem run)
 meets 𝓤 H A W mem run 𝓣 known-limits-engine known-begin known-reply-of =
@@ -242,7 +242,7 @@ yolluvek-ref-begin-spec 𝓤 H 𝓜 𝓖 𝓡 =
     (cited 𝓤 H
     (limits-engine-triple 𝓤 H (𝓖 .A) (𝓜 .mem) (𝓡 .run)) 𝓜 𝓡 code.env #task·Limits·engine limits-engine-def.routine code.calls-task·Limits·engine
     (limits-engine-thm.met 𝓤 H 𝓜 𝓖 𝓡))
-    (cited 𝓤 H (begin-triple 𝓤 H (𝓖 .A) (𝓜 .mem) (𝓡 .run)) 𝓜 𝓡 code.env #engine-ref·begin begin-def.routine code.calls-engine-ref·begin
+    (cited 𝓤 H (begin-triple 𝓤 H (𝓖 .A) (𝓜 .mem) (𝓡 .run)) 𝓜 𝓡 code.env #ref-begin·begin begin-def.routine code.calls-ref-begin·begin
     (begin-thm.met 𝓤 H 𝓜 𝓖 𝓡))
     (cited 𝓤 H (reply-of-triple 𝓤 H (𝓖 .A) (𝓜 .mem) (𝓡 .run)) 𝓜 𝓡 code.env #replies·reply-of reply-of-def.routine code.calls-replies·reply-of
     (reply-of-thm.met 𝓤 H 𝓜 𝓖 𝓡)))

@@ -41,7 +41,7 @@ use Rattle.row_list.proofs.store_row.Met as store-row-thm
 use Rattle.row_list.proofs.clear_rows as clear-rows
 use Rattle.rows.specs.Rows.{clearedRows}
 use Rattle.ring.proofs.Shared.{LentShared, lends-shared, shared-back}
-use Rattle.engine_ref.proofs.Lists.{Lent, list, slice, token, mutable, final, LimitsT, WorkerT, SizesT, JudgedT, RowT, SteppedT, StepAnswerT, limits-val, worker-val, sizes-val, limits-makes, worker-makes, sizes-makes, judged-makes, row-makes, stepped-makes}
+use Rattle.ref_rules.proofs.Lists.{Lent, list, slice, token, mutable, final, LimitsT, WorkerT, SizesT, JudgedT, RowT, SteppedT, StepAnswerT, limits-val, worker-val, sizes-val, limits-makes, worker-makes, sizes-makes, judged-makes, row-makes, stepped-makes}
 
 -- the rows under another name
 abbrev lent-rows : Lent RowT → GName → RefT (List Row)

@@ -11,11 +11,11 @@ use Rattle.task.specs.declared.Limits.{Limits}
 use Rattle.task.specs.declared.Row.{Row}
 use Rattle.row_list.proofs.Params.{Param, value, reads, gives, stays, spells, told, go}
 use Rattle.row_list.proofs.Rules.{chain, fchain, splits, joins, fjoins, opens-owns, free, at, part, target}
-use Rattle.engine_ref.proofs.Lists.{final, Loan, reads as read, gives as give, lives-of, shares-of, tokens-of, lists-of, Slices, slices-of}
-use Rattle.engine_ref.proofs.Lists.{owned-of, Lending, lives, shares, all-tokens, arguments, values, passed, lending, limits, number}
-use Rattle.engine_ref.proofs.Lists.{slice-fits, length-fits, LimitsT, RowT, AnswerT, BegunT, limits-val, answer-val, begun-mir, begun-tells}
-use Rattle.engine_ref.proofs.Lists.{begun-answer, begun-rows, limits-makes, answer-makes, limits-typed, answer-typed, begun-typed}
-use Rattle.engine_ref.proofs.Calls.{clears-rows, clear-rows-triple}
+use Rattle.ref_rules.proofs.Lists.{final, Loan, reads as read, gives as give, lives-of, shares-of, tokens-of, lists-of, Slices, slices-of, owned-of}
+use Rattle.ref_rules.proofs.Lists.{Lending, lives, shares, all-tokens, arguments, values, passed, lending, limits, number, slice-fits, length-fits}
+use Rattle.ref_rules.proofs.Lists.{LimitsT, RowT, AnswerT, BegunT, limits-val, answer-val, begun-mir, begun-tells, begun-answer, begun-rows}
+use Rattle.ref_rules.proofs.Lists.{limits-makes, answer-makes, limits-typed, answer-typed, begun-typed}
+use Rattle.ref_rules.proofs.Calls.{clears-rows, clear-rows-triple}
 use Rattle.rules.specs.Memory.{memOf as memory}
 use Rattle.rows.specs.Rows.{clearedRows}
 use Rattle.begin.specs.Begin.{Begins}
@@ -28,10 +28,10 @@ use Rattle.begin.proofs.begin_lists.Met as begin-lists-thm
 use Rattle.row_list.proofs.clear_rows.Symbol as clear-rows-def
 use Rattle.row_list.proofs.clear_rows.Symbol.{name as #row-list·clear-rows}
 use Rattle.row_list.proofs.clear_rows.Met as clear-rows-thm
-use Rattle.engine_ref.proofs.begin.Key.{name as #engine-ref·begin}
-use Rattle.engine_ref.proofs.begin as fn
-use Rattle.engine_ref.proofs.begin.Statement as stated
-use Rattle.engine_ref.proofs.begin.Code as code
+use Rattle.ref_begin.proofs.begin.Key.{name as #ref-begin·begin}
+use Rattle.ref_begin.proofs.begin as fn
+use Rattle.ref_begin.proofs.begin.Statement as stated
+use Rattle.ref_begin.proofs.begin.Code as code
 
 abbrev begin-lists-triple : {M : Type 1} (𝓤 : URA M) (H : Heap 𝓤) (A : Atoms 𝓤) (mem : Memory → SProp 𝓤) (run : Routine → Fun 𝓤) → Contract 𝓤
 begin-lists-triple 𝓤 H A mem run = tripleOf 𝓤 H A begin-lists.signature (begin-lists.spec 𝓤 H A mem run)
@@ -227,7 +227,7 @@ pub begin-spec : {M : Type 1} → stated.statement M
 unfolding code.routine tablesOf
 begin-spec 𝓤 H 𝓜 𝓖 𝓡 =
     entered 𝓤 H (tripleOf 𝓤 H (𝓖 .A) fn.signature (fn.spec 𝓤 H (𝓖 .A) (𝓜 .mem) (𝓡 .run)))
-    (tables 𝓤 H 𝓜 𝓡 code.env .C) (tables 𝓤 H 𝓜 𝓡 code.env .Λ) #engine-ref·begin code.function (code.unfolded 𝓤 H 𝓜 𝓡)
+    (tables 𝓤 H 𝓜 𝓡 code.env .C) (tables 𝓤 H 𝓜 𝓡 code.env .Λ) #ref-begin·begin code.function (code.unfolded 𝓤 H 𝓜 𝓡)
     (meets 𝓤 H (𝓖 .A) (givenOf 𝓤 H 𝓜 𝓖) (𝓜 .mem) (𝓡 .run) (tablesOf 𝓤 H 𝓜 (tables 𝓤 H 𝓜 𝓡 code.env))
     (cited 𝓤 H (begin-lists-triple 𝓤 H (𝓖 .A) (𝓜 .mem) (𝓡 .run)) 𝓜 𝓡 code.env #begin·begin-lists begin-lists-def.routine code.calls-begin·begin-lists
     (begin-lists-thm.met 𝓤 H 𝓜 𝓖 𝓡))
