@@ -23,7 +23,7 @@ MORE = {
     "denote.Slice": "ShrSlice",
 }
 
-RULES = "chain spread fchain splits joins fjoins opens-owns free at part target"
+RULES = "chain spread fchain splits joins fjoins opens-owns turns free free-room at part target"
 PARAMS = "Param value reads gives stays spells told go"
 
 
@@ -45,14 +45,12 @@ class Short(Walk):
         return self.move("true", *reversed(parts)).step(f"{rule} ! {formulas}", 1 + len(parts), whole)
 
     def leave(self, returns="returns !"):
-        self.step(f"{returns} (look ! {self.at('_0')} refl)")
+        """The same. The context is turned first, so that the local that is freed next stands at its head: what is left need not be written anew."""
+        self.step(f"{returns} (look ! {self.at('_0')} refl)").move(*self.context[self.at("d_0") + 1 :]).step("turns !")
+        self.context.reverse()
         for i in range(self.locals):
-            n = self.at(f"_{i}")
-            if i in self.held:
-                self.step(f"free ! {n} refl refl")
-                del self.context[n : n + 2]
-            else:
-                self.move(f"_{i}", f"d_{i}").step("free1 !", 2)
+            assert self.context[:2] == [f"d_{i}", f"_{i}"], self.context
+            self.step("free !" if i in self.held else "free-room !", 2)
         return self.step("free0 !")
 
 

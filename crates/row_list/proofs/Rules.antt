@@ -1,5 +1,5 @@
--- Rules that shorten a walk: an operand in one word, a local freed, chains taken apart and put together at once.
-use mathlib.Core.Path.{_≡_, subst, sym}
+-- Rules that shorten a walk: an operand in one word, a local freed, chains taken apart and put together, a context turned at once.
+use mathlib.Core.Path.{_≡_, refl, subst, sym}
 use Prim.Native.Nat.{ℕ, zero, _+_}
 use mathlib.Core.List.{List, [], _∷_}
 use mathlib.Core.Option.{some}
@@ -10,12 +10,12 @@ use mir.Syntax.{Sym, Ty, Tys, place, field, copy, addrOf, deref, tyStruct}
 use mir.Val.{Val, Vals, vstruct, vptr}
 use mir.Fields.{getV, setV}
 use prog.Memory.{fieldOf, fieldAt}
-use base.Logic.{ent, sep, via, monoL, monoR, assoc′}
-use base.Fml.{Share, Fml, ftrue, fsep, fat, fdies}
+use base.Logic.{ent, sep, emp, via, emp∗, snd∗, comm∗, assoc∗, monoL, monoR}
+use base.Fml.{Share, Fml, ftrue, fsep, fat, froom, fdies}
 use prog.Wp.{Heap, Env, spotOf}
 use ghost.Atoms.{Atoms}
-use types.Kit.{Given, Item, ‵, _⊛_, _$_, Step, step, mean, ⋆, pull, nth, del, put, Goal, frees, move, split, join, fsplit, fjoin}
-use types.Run.{Reads, Opd, Rv, look, stop, fld, from, hop, load, addr}
+use types.Kit.{Given, Item, ‵, _⊛_, _$_, Step, step, mean, ⋆, push, pop, nth, Goal, frees, move, split, join, fsplit, fjoin}
+use types.Run.{Reads, Opd, Rv, look, stop, fld, from, hop, load, addr, forget, free1}
 use types.Part.{Part, whole, sub, look-in}
 use denote.RattleType.{RattleType, Denots, Valss, owns}
 
@@ -32,9 +32,23 @@ abbrev pub fchain : List Fml → Fml
 fchain [] = ftrue
 fchain (f ∷ fs) = fsep f (fchain fs)
 
+-- a context in the other order, before other entries
+abbrev pub turned : {M : Type 1} {𝓤 : URA M} → List (Item 𝓤) → List (Item 𝓤) → List (Item 𝓤)
+turned [] Δ = Δ
+turned (i ∷ Γ) Δ = turned Γ (i ∷ Δ)
+
 abbrev pub spread-owns : {M : Type 1} {𝓤 : URA M} (Ts : List RattleType) → Denots Ts → Valss Ts → List (Item 𝓤) → List (Item 𝓤)
 spread-owns [] a vss Γ = ‵ ftrue ∷ Γ
 spread-owns (T ∷ Ts) a vss Γ = spread-owns Ts (a .1) (vss .1) (‵ (T .own (a .0) (vss .0)) ∷ Γ)
+
+module _ {M : Type 1} (𝓤 : URA M) (H : Heap 𝓤) (A : Atoms 𝓤) where
+  turned⊢ : (Γ Δ : List (Item 𝓤)) → ent 𝓤 (sep 𝓤 (⋆ 𝓤 H A Γ) (⋆ 𝓤 H A Δ)) (⋆ 𝓤 H A (turned Γ Δ))
+  turned⊢ [] Δ = snd∗ 𝓤 (emp 𝓤) (⋆ 𝓤 H A Δ)
+  turned⊢ (i ∷ Γ) Δ =
+      via 𝓤 (sep 𝓤 (sep 𝓤 (mean 𝓤 H A i) (⋆ 𝓤 H A Γ)) (⋆ 𝓤 H A Δ)) (monoL 𝓤 (⋆ 𝓤 H A Δ) (pop 𝓤 H A i Γ))
+      (via 𝓤 (sep 𝓤 (sep 𝓤 (⋆ 𝓤 H A Γ) (mean 𝓤 H A i)) (⋆ 𝓤 H A Δ)) (monoL 𝓤 (⋆ 𝓤 H A Δ) (comm∗ 𝓤 (mean 𝓤 H A i) (⋆ 𝓤 H A Γ)))
+      (via 𝓤 (sep 𝓤 (⋆ 𝓤 H A Γ) (sep 𝓤 (mean 𝓤 H A i) (⋆ 𝓤 H A Δ))) (assoc∗ 𝓤 (⋆ 𝓤 H A Γ) (mean 𝓤 H A i) (⋆ 𝓤 H A Δ))
+      (via 𝓤 (sep 𝓤 (⋆ 𝓤 H A Γ) (⋆ 𝓤 H A (i ∷ Δ))) (monoR 𝓤 (⋆ 𝓤 H A Γ) (push 𝓤 H A i Δ)) (turned⊢ Γ (i ∷ Δ)))))
 
 module _ {M : Type 1} {𝓤 : URA M} {H : Heap 𝓤} {A : Atoms 𝓤} {K : Type 0} {W : Given 𝓤 H A} where
   pub splits : K → (fs : List Fml) {Γ : List (Item 𝓤)} {G : Goal 𝓤 H} → Step K W (spread fs Γ) G (chain fs ∷ Γ) G
@@ -54,24 +68,23 @@ module _ {M : Type 1} {𝓤 : URA M} {H : Heap 𝓤} {A : Atoms 𝓤} {K : Type 
   opens-owns t [] a vss = step (λ s. s)
   opens-owns t (T ∷ Ts) a vss = step (λ s. fsplit t $ move t (1 ∷ []) $ opens-owns t Ts (a .1) (vss .1) $ s)
 
+  pub turns : K → {Γ : List (Item 𝓤)} {G : Goal 𝓤 H} → Step K W (turned Γ []) G Γ G
+  turns t {Γ} = step (λ s. record {
+    prf =
+        via 𝓤 (sep 𝓤 (emp 𝓤) (⋆ 𝓤 H A Γ)) (emp∗ 𝓤 (⋆ 𝓤 H A Γ))
+        (via 𝓤 (sep 𝓤 (⋆ 𝓤 H A Γ) (emp 𝓤)) (comm∗ 𝓤 (emp 𝓤) (⋆ 𝓤 H A Γ))
+        (via 𝓤 (⋆ 𝓤 H A (turned Γ [])) (turned⊢ 𝓤 H A Γ []) (s .prf)));
+  })
+
   module _ {Γ : List (Item 𝓤)} where
-    -- a local that holds a value is freed
-    pub free : K → (n : ℕ) {τ : Ty} {b : ℕ} {v : Val} {E : Env 𝓤 H} {g : Goal 𝓤 H} → nth 𝓤 H A n Γ ≡ ‵ (fat fullShare τ b 0 v)
-        → nth 𝓤 H A n (del 𝓤 H A n Γ) ≡ ‵ (fdies τ b) → Step K W (del 𝓤 H A n (del 𝓤 H A n Γ)) (frees E g) Γ (frees ((τ, b) ∷ E) g)
-    free t n {τ} {b} {v} e e′ = step (λ s. record {
-      prf =
-          via 𝓤 (sep 𝓤 (H .at fullShare τ b 0 v) (⋆ 𝓤 H A (del 𝓤 H A n Γ)))
-          (subst (λ (j : Item 𝓤). ent 𝓤 (⋆ 𝓤 H A Γ) (sep 𝓤 (mean 𝓤 H A j) (⋆ 𝓤 H A (del 𝓤 H A n Γ)))) e (pull 𝓤 H A n Γ))
-          (via 𝓤 (sep 𝓤 (H .at fullShare τ b 0 v) (sep 𝓤 (H .dies τ b) (⋆ 𝓤 H A (del 𝓤 H A n (del 𝓤 H A n Γ)))))
-          (monoR 𝓤 (H .at fullShare τ b 0 v)
-          (subst (λ (j : Item 𝓤). ent 𝓤 (⋆ 𝓤 H A (del 𝓤 H A n Γ)) (sep 𝓤 (mean 𝓤 H A j) (⋆ 𝓤 H A (del 𝓤 H A n (del 𝓤 H A n Γ))))) e′
-          (pull 𝓤 H A n (del 𝓤 H A n Γ))))
-          (via 𝓤 (sep 𝓤 (H .room τ b 0) (sep 𝓤 (H .dies τ b) (⋆ 𝓤 H A (del 𝓤 H A n (del 𝓤 H A n Γ)))))
-          (monoL 𝓤 (sep 𝓤 (H .dies τ b) (⋆ 𝓤 H A (del 𝓤 H A n (del 𝓤 H A n Γ)))) (W .laws .at-room τ b 0 v))
-          (via 𝓤 (sep 𝓤 (sep 𝓤 (H .room τ b 0) (H .dies τ b)) (⋆ 𝓤 H A (del 𝓤 H A n (del 𝓤 H A n Γ))))
-          (assoc′ 𝓤 (H .room τ b 0) (H .dies τ b) (⋆ 𝓤 H A (del 𝓤 H A n (del 𝓤 H A n Γ))))
-          (monoR 𝓤 (sep 𝓤 (H .room τ b 0) (H .dies τ b)) (s .prf)))));
-    })
+    -- a local, life and cell at the head, is freed: one that holds a value, and one that is room
+    pub free : K → {τ : Ty} {b : ℕ} {v : Val} {E : Env 𝓤 H} {g : Goal 𝓤 H}
+        → Step K W Γ (frees E g) (‵ (fdies τ b) ∷ ‵ (fat fullShare τ b 0 v) ∷ Γ) (frees ((τ, b) ∷ E) g)
+    free t = step (λ s. move t (1 ∷ []) $ forget t 0 refl $ free1 t $ s)
+
+    pub free-room : K → {τ : Ty} {b : ℕ} {E : Env 𝓤 H} {g : Goal 𝓤 H}
+        → Step K W Γ (frees E g) (‵ (fdies τ b) ∷ ‵ (froom τ b 0) ∷ Γ) (frees ((τ, b) ∷ E) g)
+    free-room t = step (λ s. move t (1 ∷ []) $ free1 t $ s)
 
     -- the k-th part of the struct at entry n
     held : K → (n k : ℕ) {q : Share} {ν : Sym} {τs : Tys} {b o : ℕ} {vs : Vals} {τ : Ty} {d : ℕ} → nth 𝓤 H A n Γ ≡ ‵ (fat q (tyStruct ν τs) b o (vstruct vs))

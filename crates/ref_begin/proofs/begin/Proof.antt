@@ -10,7 +10,7 @@ use Rattle.row_list.proofs.Words.{Lasts, entered, cited, says, Stays, walkOf, W
 use Rattle.task.specs.declared.Limits.{Limits}
 use Rattle.task.specs.declared.Row.{Row}
 use Rattle.row_list.proofs.Params.{Param, value, reads, gives, stays, spells, told, go}
-use Rattle.row_list.proofs.Rules.{chain, fchain, splits, joins, fjoins, opens-owns, free, at, part, target}
+use Rattle.row_list.proofs.Rules.{chain, fchain, splits, joins, fjoins, opens-owns, turns, free, at, part, target}
 use Rattle.ref_rules.proofs.Lists.{final, Loan, reads as read, gives as give, lives-of, shares-of, tokens-of, lists-of, Slices, slices-of, owned-of}
 use Rattle.ref_rules.proofs.Lists.{Lending, lives, shares, all-tokens, arguments, values, passed, lending, limits, number, slice-fits, length-fits}
 use Rattle.ref_rules.proofs.Lists.{LimitsT, RowT, AnswerT, BegunT, limits-val, answer-val, begun-mir, begun-tells, begun-answer, begun-rows}
@@ -184,15 +184,12 @@ module _ {M : Type 1} (𝓤 : URA M) (H : Heap 𝓤) (A : Atoms 𝓤) (W : Given
         (and-then ! (at ! 36 refl) (and-then ! (part ! 80 refl refl refl) (no-more !))) (λ t z12 cleared l12 typed.
         land ! (from ! (stop !)) (init ! 41 refl (typed .0)) $
         assigns ! (of-opd ! (part ! 81 refl refl refl)) (from ! (stop !)) (init ! 115 refl
-        (answer-typed 𝓤 H A W (a .answer) _ (begun-answer a _ a-is) .0)) $ returns ! (look ! 115 refl) $ free ! 115 refl refl $ free ! 113 refl refl $
-        free ! 111 refl refl $ free ! 109 refl refl $ free ! 107 refl refl $ free ! 105 refl refl $ free ! 103 refl refl $ free ! 101 refl refl $
-        free ! 99 refl refl $ free ! 97 refl refl $ free ! 95 refl refl $ free ! 93 refl refl $ free ! 91 refl refl $ free ! 89 refl refl $
-        free ! 87 refl refl $ free ! 85 refl refl $ free ! 83 refl refl $ free ! 81 refl refl $ free ! 79 refl refl $ free ! 77 refl refl $
-        free ! 75 refl refl $ free ! 73 refl refl $ free ! 71 refl refl $ free ! 69 refl refl $ free ! 67 refl refl $ free ! 65 refl refl $
-        free ! 63 refl refl $ free ! 61 refl refl $ free ! 59 refl refl $ free ! 57 refl refl $ free ! 55 refl refl $ free ! 53 refl refl $
-        free ! 51 refl refl $ free ! 49 refl refl $ free ! 47 refl refl $ free ! 45 refl refl $ free ! 43 refl refl $ free ! 41 refl refl $
-        free ! 39 refl refl $ free ! 37 refl refl $ free0 ! $ move ! (2 ∷ 1 ∷ 3 ∷ 4 ∷ 5 ∷ 6 ∷ 7 ∷ 8 ∷ 9 ∷ 10 ∷ 11 ∷ 12 ∷ 13 ∷ 14 ∷ []) $
-        joins ! (all-tokens m) $ keep ! (0 ∷ 12 ∷ 11 ∷ 10 ∷ 9 ∷ 8 ∷ 7 ∷ 6 ∷ 5 ∷ 3 ∷ 1 ∷ []) $
+        (answer-typed 𝓤 H A W (a .answer) _ (begun-answer a _ a-is) .0)) $ returns ! (look ! 115 refl) $ turns ! $ free ! $ free ! $ free ! $ free ! $
+        free ! $ free ! $ free ! $ free ! $ free ! $ free ! $ free ! $ free ! $ free ! $ free ! $ free ! $ free ! $ free ! $ free ! $ free ! $
+        free ! $ free ! $ free ! $ free ! $ free ! $ free ! $ free ! $ free ! $ free ! $ free ! $ free ! $ free ! $ free ! $ free ! $ free ! $
+        free ! $ free ! $ free ! $ free ! $ free ! $ free ! $ free0 ! $
+        move ! (34 ∷ 35 ∷ 33 ∷ 32 ∷ 31 ∷ 30 ∷ 29 ∷ 28 ∷ 27 ∷ 26 ∷ 25 ∷ 24 ∷ 23 ∷ 22 ∷ []) $ joins ! (all-tokens m) $
+        keep ! (0 ∷ 12 ∷ 13 ∷ 14 ∷ 15 ∷ 16 ∷ 17 ∷ 18 ∷ 19 ∷ 21 ∷ 23 ∷ []) $
         by ! (exits (zs .1 .1 .1 .1 .1 .1 .1 .0) (zs .1 .1 .1 .1 .1 .1 .1 .1 .0) (zs .1 .1 .1 .1 .1 .1 .1 .1 .1 .0)
         (zs .1 .1 .1 .1 .1 .1 .1 .1 .1 .1 .0) (zs .1 .1 .1 .1 .1 .1 .1 .1 .1 .1 .1 .0) (zs .1 .1 .1 .1 .1 .1 .1 .1 .1 .1 .1 .1 .0)
         (zs .1 .1 .1 .1 .1 .1 .1 .1 .1 .1 .1 .1 .1 .0) (zs .1 .1 .1 .1 .1 .1 .1 .1 .1 .1 .1 .1 .1 .1 .0)

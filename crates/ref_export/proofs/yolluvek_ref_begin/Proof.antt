@@ -18,7 +18,7 @@ use Rattle.replies.specs.Replies.{replyOf}
 use Rattle.replies.specs.declared.Reply.{Reply}
 use Rattle.engine_export.proofs.Laws.{begin-replied}
 use Rattle.row_list.proofs.Params.{Param, reads, gives, stays, spells, told, go}
-use Rattle.row_list.proofs.Rules.{chain, splits, joins, opens-owns, free, at, part, target}
+use Rattle.row_list.proofs.Rules.{chain, splits, joins, opens-owns, turns, free, at, part, target}
 use Rattle.ref_rules.proofs.Lists.{final, slice, Loan, reads as read, gives as give, owned-of, Lending, lives, shares, all-tokens, arguments, values}
 use Rattle.ref_rules.proofs.Lists.{lending, number, slice-fits, LimitsT, RowT, AnswerT, limits-makes, limits-typed, answer-typed}
 use Rattle.ref_export.proofs.Calls.{ReplyT, reply-makes, reply-typed, limits-engine-triple, reply-of-triple, limits-made, replies}
@@ -194,14 +194,10 @@ module _ {M : Type 1} (𝓤 : URA M) (H : Heap 𝓤) (A : Atoms 𝓤) (W : Given
         land ! (from ! (stop !)) (init ! 61 refl (answer-typed 𝓤 H A W a _ a-is .0)) $
         -- the reply
         replies mem run ! fm known-reply-of a u a-is (and-then ! (at ! 62 refl) (no-more !)) (λ x y replied y-is.
-        land ! (from ! (stop !)) (init ! 93 refl (reply-typed 𝓤 H A W y _ y-is .0)) $ returns ! (look ! 93 refl) $ free ! 93 refl refl $
-        free ! 91 refl refl $ free ! 89 refl refl $ free ! 87 refl refl $ free ! 85 refl refl $ free ! 83 refl refl $ free ! 81 refl refl $
-        free ! 79 refl refl $ free ! 77 refl refl $ free ! 75 refl refl $ free ! 73 refl refl $ free ! 71 refl refl $ free ! 69 refl refl $
-        free ! 67 refl refl $ free ! 65 refl refl $ free ! 63 refl refl $ free ! 61 refl refl $ free ! 59 refl refl $ free ! 57 refl refl $
-        free ! 55 refl refl $ free ! 53 refl refl $ free ! 51 refl refl $ free ! 49 refl refl $ free ! 47 refl refl $ free ! 45 refl refl $
-        free ! 43 refl refl $ free ! 41 refl refl $ free ! 39 refl refl $ free ! 37 refl refl $ free ! 35 refl refl $ free ! 33 refl refl $
-        free ! 31 refl refl $ free ! 29 refl refl $ free ! 27 refl refl $ free ! 25 refl refl $ free ! 23 refl refl $ free ! 21 refl refl $
-        free ! 19 refl refl $ free0 ! $ keep ! (1 ∷ 12 ∷ 11 ∷ 10 ∷ 9 ∷ 8 ∷ 7 ∷ 6 ∷ 5 ∷ 4 ∷ 2 ∷ []) $
+        land ! (from ! (stop !)) (init ! 93 refl (reply-typed 𝓤 H A W y _ y-is .0)) $ returns ! (look ! 93 refl) $ turns ! $ free ! $ free ! $
+        free ! $ free ! $ free ! $ free ! $ free ! $ free ! $ free ! $ free ! $ free ! $ free ! $ free ! $ free ! $ free ! $ free ! $ free ! $
+        free ! $ free ! $ free ! $ free ! $ free ! $ free ! $ free ! $ free ! $ free ! $ free ! $ free ! $ free ! $ free ! $ free ! $ free ! $
+        free ! $ free ! $ free ! $ free ! $ free ! $ free ! $ free0 ! $ keep ! (17 ∷ 6 ∷ 7 ∷ 8 ∷ 9 ∷ 10 ∷ 11 ∷ 12 ∷ 13 ∷ 14 ∷ 16 ∷ []) $
         by ! (exits (zs .1 .1 .1 .1 .0) (zs .1 .1 .1 .1 .1 .0) (zs .1 .1 .1 .1 .1 .1 .0) (zs .1 .1 .1 .1 .1 .1 .1 .0) (zs .1 .1 .1 .1 .1 .1 .1 .1 .0)
         (zs .1 .1 .1 .1 .1 .1 .1 .1 .1 .0) (zs .1 .1 .1 .1 .1 .1 .1 .1 .1 .1 .0) (zs .1 .1 .1 .1 .1 .1 .1 .1 .1 .1 .1 .0)
         (zs .1 .1 .1 .1 .1 .1 .1 .1 .1 .1 .1 .1 .0)

@@ -5,7 +5,7 @@ use Rattle.row_list.proofs.Words.{Val, vint, vptr, vunit, SProp, ent, i
 use Rattle.row_list.proofs.Words.{Heap, WpFn, Tables, Env, Atoms, sem, Fun, fact, givenOf, tables, Given, Item, ‵, raw, some, later, _⊛_, ⋆}
 use Rattle.row_list.proofs.Words.{_$_, _∵_, !, qed, by, move, keep, drop, use1, split, join, pick, rewrite, fsplit, fjoin, feqI, suffices}
 use Rattle.row_list.proofs.Words.{frame, await, done, runs, look, init, store-raw, forget, stop, hop, from, of-opd, no-more, assigns, land}
-use Rattle.row_list.proofs.Words.{returns, enter, alloc1, alloc0, params1, pass1, pass0, free1, free0, FmC, fmOf, WpFn-mono, owns, Is, shows}
+use Rattle.row_list.proofs.Words.{returns, enter, alloc1, alloc0, params1, pass1, pass0, free0, FmC, fmOf, WpFn-mono, owns, Is, shows}
 use Rattle.row_list.proofs.Words.{uint-vals, uint-tells, usize, RefT, sliceVal, Room, slice-vals, mut-slice-tells, plain, typesAt, owned}
 use Rattle.row_list.proofs.Words.{peeks, heard, nothing, onEntry, Meets, tripleOf, Triple, calls-at, ensured, entered, cited, says, needs}
 use Rattle.row_list.proofs.Words.{Stays, walkOf, Walks, finishes, walked, walk-meets, yes}
@@ -39,7 +39,7 @@ use Rattle.task.proofs.Row.Laws as T′
 use Rattle.rows.specs.Rows.{clearedRows}
 use Rattle.rows.proofs.Laws.{cleared-none, cleared-next}
 use Rattle.row_list.proofs.Laws.{R, vals, scaled, length-cleared, row-idle-triple, to-row-idle, said-row-idle}
-use Rattle.row_list.proofs.Rules.{free, at, part}
+use Rattle.row_list.proofs.Rules.{turns, free, free-room, at, part}
 use Rattle.task.proofs.Row.idle as row-idle
 use Rattle.task.proofs.Row.idle.Symbol as row-idle-def
 use Rattle.task.proofs.Row.idle.Symbol.{name as #task·Row·idle}
@@ -150,10 +150,9 @@ module _ {M : Type 1} (𝓤 : URA M) (H : Heap 𝓤) (A : Atoms 𝓤) (W : Given
           learn ! (λ e. assigns ! (bin ! (at ! 10 refl) (at ! 14 refl) tt) (from ! (stop !)) (init ! 8 refl (tt, tt)) $
           rewrite ! 8 (λ (z : Bool). ‵ (fat fullShare bool-ty l₅ 0 (vbool z))) (le-ltb i n (omega (arith, e))) refl $ leaves-loop ! (at ! 8 refl) $
           exec ! (𝓣 .C) (𝓣 .Λ) En pieces.t-4 (atRet En Exit) $ closes-slice ! tt R ys (clearedRows i ys) (same-length i 0 e) b o $
-          assigns ! (of-opd ! (unit-lit !)) (from ! (stop !)) (init ! 17 refl (tt, tt)) $ returns ! (look ! 17 refl) $ free ! 17 refl refl $
-          free ! 15 refl refl $ free ! 13 refl refl $ free ! 11 refl refl $ free ! 9 refl refl $ free ! 7 refl refl $ move ! (5 ∷ 6 ∷ []) $ free1 ! $
-          move ! (3 ∷ 4 ∷ []) $ free1 ! $ free0 ! $ keep ! (0 ∷ 1 ∷ 2 ∷ []) $ by ! (exits (clearedRows i ys) (ap (λ (m : ℕ).
-          clearedRows m ys) (sym (add-zero i) ∙ e)) (same-length i 0 e)))
+          assigns ! (of-opd ! (unit-lit !)) (from ! (stop !)) (init ! 17 refl (tt, tt)) $ returns ! (look ! 17 refl) $ turns ! $ free ! $ free ! $
+          free ! $ free ! $ free ! $ free ! $ free-room ! $ free-room ! $ free0 ! $ keep ! (2 ∷ 1 ∷ 0 ∷ []) $
+          by ! (exits (clearedRows i ys) (ap (λ (m : ℕ). clearedRows m ys) (sym (add-zero i) ∙ e)) (same-length i 0 e)))
       turned i (suc t) =
           learn ! (λ e. assigns ! (bin ! (at ! 10 refl) (at ! 14 refl) tt) (from ! (stop !)) (init ! 8 refl (tt, tt)) $
           rewrite ! 8 (λ (z : Bool). ‵ (fat fullShare bool-ty l₅ 0 (vbool z))) (lt-ltb i n (below i t e)) refl $ stays ! (at ! 8 refl) $

@@ -5,9 +5,9 @@ use Rattle.row_list.proofs.Words.{vptr, SProp, ent, emp, via, id⊢, fs
 use Rattle.row_list.proofs.Words.{Loops, WpFn, Tables, Env, Atoms, Fun, fact, givenOf, tables, Given, Item, ‵, raw, some, later, _⊛_, ⋆, _$_}
 use Rattle.row_list.proofs.Words.{_∵_, !, qed, by, move, keep, drop, use1, split, join, pick, rewrite, fsplit, fjoin, suffices, frame, await}
 use Rattle.row_list.proofs.Words.{done, runs, look, look-raw, init, stop, hop, from, load, of-opd, no-more, assigns, land, returns, enter}
-use Rattle.row_list.proofs.Words.{alloc1, alloc0, params1, pass1, pass0, free1, free0, FmC, fmOf, WpFn-mono, owns, Is, shows, RefT, sliceVal}
-use Rattle.row_list.proofs.Words.{Room, slice-vals, shr-slice-tells, plain, typesAt, owned, peeks, heard, nothing, onEntry, Meets, tripleOf}
-use Rattle.row_list.proofs.Words.{Triple, calls-at, ensured, entered, cited, says, Stays, walkOf, Walks, finishes, walked, walk-meets, yes}
+use Rattle.row_list.proofs.Words.{alloc1, alloc0, params1, pass1, pass0, free0, FmC, fmOf, WpFn-mono, owns, Is, shows, RefT, sliceVal, Room}
+use Rattle.row_list.proofs.Words.{slice-vals, shr-slice-tells, plain, typesAt, owned, peeks, heard, nothing, onEntry, Meets, tripleOf, Triple}
+use Rattle.row_list.proofs.Words.{calls-at, ensured, entered, cited, says, Stays, walkOf, Walks, finishes, walked, walk-meets, yes}
 use mir.Syntax.{imm, tyPtr, tyInt, tyBool, tyRef}
 use mir.Val.{vbool}
 use package.mir.Table.{spell}
@@ -32,7 +32,7 @@ use Rattle.task.proofs.Row.Laws as T′
 use Rattle.task.proofs.WorkerId as Wk
 use Rattle.task.proofs.WorkerId.Laws as Wk′
 use Rattle.row_list.proofs.Laws.{R, vals, worker-val, scaled, row-idle-triple, to-row-idle, said-row-idle}
-use Rattle.row_list.proofs.Rules.{free, at, part}
+use Rattle.row_list.proofs.Rules.{turns, free, free-room, at, part}
 use Rattle.task.proofs.Row.idle as row-idle
 use Rattle.task.proofs.Row.idle.Symbol as row-idle-def
 use Rattle.task.proofs.Row.idle.Symbol.{name as #task·Row·idle}
@@ -124,9 +124,8 @@ module _ {M : Type 1} (𝓤 : URA M) (H : Heap 𝓤) (A : Atoms 𝓤) (W : Given
           move ! (1 ∷ []) $ use1 W (raw (fact 𝓤 (r ≡ idle))) (said-row-idle 𝓤 H A mem run r) $ heard ! (r ≡ idle) (λ er. split ! $ drop ! $
           peeks ! R (Is R) (shows 𝓤 H A R) r (v ∷ []) (λ ir. drop ! $
           land ! (from ! (stop !)) (init ! 16 refl (LL.lawful T.the-type T′.the-laws 𝓤 H A W .typed r _ ir .0)) $
-          returns-within ! Exit refl (look ! 16 refl) $ free ! 16 refl refl $ free ! 14 refl refl $ free ! 12 refl refl $ free ! 10 refl refl $
-          free ! 8 refl refl $ free ! 6 refl refl $ move ! (4 ∷ 5 ∷ []) $ free1 ! $ move ! (2 ∷ 3 ∷ []) $ free1 ! $ free0 ! $ keep ! (1 ∷ []) $
-          by ! (exits r v (er ∙ sym (List·getD-eq-default ys idle (leb→le (length ys) i out))) ir))))))
+          returns-within ! Exit refl (look ! 16 refl) $ turns ! $ free ! $ free ! $ free ! $ free ! $ free ! $ free ! $ free-room ! $ free-room ! $
+          free0 ! $ keep ! (0 ∷ []) $ by ! (exits r v (er ∙ sym (List·getD-eq-default ys idle (leb→le (length ys) i out))) ir))))))
           (λ within. skips ! $ exec ! C Λ En pieces.t-5 (atRet En Exit) $
           assigns ! (bin ! (at ! 10 refl) (lit ! tt) (record { fits = scaled (length ys) i room (nleb→lt (length ys) i within) })) (from ! (stop !))
           (store ! 8 refl (tt, record { fits = scaled (length ys) i room (nleb→lt (length ys) i within) })) $
@@ -138,9 +137,8 @@ module _ {M : Type 1} (𝓤 : URA M) (H : Heap 𝓤) (A : Atoms 𝓤) (W : Given
           (init ! 5 refl (LL.lawful T.the-type T′.the-laws 𝓤 H A W .typed (getD ys i idle) _ is .0)) $
           assigns ! (of-opd ! (at ! 5 refl)) (from ! (stop !)) (init ! 19 refl (LL.lawful T.the-type T′.the-laws 𝓤 H A W .typed
           (getD ys i idle) _ is .0)) $ elem-back ! R q′ ys i idle (vals (getD ys i idle)) b o (nleb→lt (length ys) i within) $
-          shuts-slice ! tt R q′ ys b o $ returns ! (look ! 16 refl) $ free ! 16 refl refl $ free ! 14 refl refl $ free ! 12 refl refl $
-          free ! 10 refl refl $ free ! 8 refl refl $ free ! 6 refl refl $ free ! 4 refl refl $ free ! 2 refl refl $ free0 ! $ keep ! (0 ∷ []) $
-          by ! (exits (getD ys i idle) (LL.val T.the-type T′.the-laws (getD ys i idle)) refl is))))
+          shuts-slice ! tt R q′ ys b o $ returns ! (look ! 16 refl) $ turns ! $ free ! $ free ! $ free ! $ free ! $ free ! $ free ! $ free ! $
+          free ! $ free0 ! $ keep ! (1 ∷ []) $ by ! (exits (getD ys i idle) (LL.val T.the-type T′.the-laws (getD ys i idle)) refl is))))
 
     walk : ent 𝓤 (onEntry 𝓤 H A fn.signature (κ, tt) (q, tt) (here .0 .3) (here .0 .4)) (WpFn 𝓤 H C Λ code.function (s ∷ worker-val i ∷ []) Exit)
     walk =

@@ -5,9 +5,9 @@ use Rattle.row_list.proofs.Words.{vint, vptr, vunit, SProp, ent, emp, v
 use Rattle.row_list.proofs.Words.{Routine, Heap, Calls, Loops, WpFn, Tables, Env, Atoms, Fun, givenOf, tables, Given, Item, ‵, _⊛_, ⋆, _$_}
 use Rattle.row_list.proofs.Words.{_∵_, !, qed, by, move, keep, drop, split, join, rewrite, fsplit, fjoin, feqI, suffices, frame, done, runs}
 use Rattle.row_list.proofs.Words.{look, init, store-raw, stop, hop, from, of-opd, assigns, returns, enter, alloc1, alloc0, params1, pass1}
-use Rattle.row_list.proofs.Words.{pass0, free1, free0, FmC, fmOf, WpFn-mono, owns, Is, shows, RefT, sliceVal, Room, slice-vals}
-use Rattle.row_list.proofs.Words.{mut-slice-tells, plain, typesAt, owned, nothing, onEntry, Meets, tripleOf, entered, says, Stays, walkOf}
-use Rattle.row_list.proofs.Words.{Walks, finishes, walked, walk-meets, yes}
+use Rattle.row_list.proofs.Words.{pass0, free0, FmC, fmOf, WpFn-mono, owns, Is, shows, RefT, sliceVal, Room, slice-vals, mut-slice-tells}
+use Rattle.row_list.proofs.Words.{plain, typesAt, owned, nothing, onEntry, Meets, tripleOf, entered, says, Stays, walkOf, Walks, finishes}
+use Rattle.row_list.proofs.Words.{walked, walk-meets, yes}
 use mir.Syntax.{mut, tyPtr, tyInt, tyBool, tyUnit, tyRef}
 use mir.Val.{vbool}
 use package.mir.Table.{spell}
@@ -32,7 +32,7 @@ use Rattle.task.proofs.Row.Laws as T′
 use Rattle.task.proofs.WorkerId as Wk
 use Rattle.task.proofs.WorkerId.Laws as Wk′
 use Rattle.row_list.proofs.Laws.{R, vals, worker-val, scaled}
-use Rattle.row_list.proofs.Rules.{free, at, part}
+use Rattle.row_list.proofs.Rules.{turns, free, free-room, at, part}
 use Rattle.row_list.proofs.store_row.Key.{name as #row-list·store-row}
 use Rattle.row_list.proofs.store_row as fn
 use Rattle.row_list.proofs.store_row.Statement as stated
@@ -118,8 +118,7 @@ module _ {M : Type 1} (𝓤 : URA M) (H : Heap 𝓤) (A : Atoms 𝓤) (W : Given
       chosen =
           branches ! (at ! 5 refl)
           (λ out. assigns ! (of-opd ! (unit-lit !)) (from ! (stop !)) (init ! 17 refl (tt, tt)) $ returns-within ! Exit refl (look ! 17 refl) $
-          free ! 17 refl refl $ free ! 15 refl refl $ free ! 13 refl refl $ free ! 11 refl refl $ free ! 9 refl refl $ free ! 7 refl refl $
-          free ! 5 refl refl $ move ! (3 ∷ 4 ∷ []) $ free1 ! $ free0 ! $ keep ! (0 ∷ 1 ∷ 2 ∷ []) $
+          turns ! $ free ! $ free ! $ free ! $ free ! $ free ! $ free ! $ free ! $ free-room ! $ free0 ! $ keep ! (2 ∷ 1 ∷ 0 ∷ []) $
           by ! (exits ys (sym (set-out ys i r (leb→le (length ys) i out))) refl))
           (λ within. skips ! $ exec ! C Λ En pieces.t-5 (atRet En Exit) $
           assigns ! (bin ! (at ! 9 refl) (lit ! tt) (record { fits = scaled (length ys) i room (nleb→lt (length ys) i within) })) (from ! (stop !))
@@ -131,9 +130,9 @@ module _ {M : Type 1} (𝓤 : URA M) (H : Heap 𝓤) (A : Atoms 𝓤) (W : Given
           (store-raw ! 0 refl (LL.lawful T.the-type T′.the-laws 𝓤 H A W .typed r _ is .0)) $ move ! (1 ∷ []) $ drop ! $
           owned ! R (Is R) (LL.makes T.the-type T′.the-plain 𝓤 H A) r (vals r) is $ move ! (1 ∷ 0 ∷ 2 ∷ []) $
           elem-put ! R fullShare ys i r (vals r) b o (nleb→lt (length ys) i within) $ closes-slice ! tt R ys (set ys i r) (length-set ys i r) b o $
-          assigns ! (of-opd ! (unit-lit !)) (from ! (stop !)) (init ! 17 refl (tt, tt)) $ returns ! (look ! 17 refl) $ free ! 17 refl refl $
-          free ! 15 refl refl $ free ! 13 refl refl $ free ! 11 refl refl $ free ! 9 refl refl $ free ! 7 refl refl $ free ! 5 refl refl $
-          free ! 3 refl refl $ free0 ! $ keep ! (0 ∷ 1 ∷ 2 ∷ []) $ by ! (exits (set ys i r) refl (length-set ys i r))))
+          assigns ! (of-opd ! (unit-lit !)) (from ! (stop !)) (init ! 17 refl (tt, tt)) $ returns ! (look ! 17 refl) $ turns ! $ free ! $ free ! $
+          free ! $ free ! $ free ! $ free ! $ free ! $ free ! $ free0 ! $ keep ! (2 ∷ 1 ∷ 0 ∷ []) $
+          by ! (exits (set ys i r) refl (length-set ys i r))))
 
     walk : ent 𝓤 (onEntry 𝓤 H A fn.signature (κ, tt) (q, tt) (here .0 .3) (here .0 .4))
         (WpFn 𝓤 H C Λ code.function (s ∷ worker-val i ∷ LL.val T.the-type T′.the-laws r ∷ []) Exit)
