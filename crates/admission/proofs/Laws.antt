@@ -7,7 +7,7 @@ use native.Mathlib.Omega.{arith}
 use lib.ListN.{replicate, length-replicate}
 use lib.Dec.{leb, eqb}
 use lib.IntN.{pos}
-use borrow.Author.Tests.{leb-true, lt-ltb, le-ltb, le-leb, lt-leb, eqb-true, not-true, not-false}
+use borrow.Author.Tests.{leb-true, le-ltb, le-leb, lt-leb, eqb-true, not-true, not-false}
 use Rattle.lists.proofs.Apart.{unequal}
 use Rattle.lists.proofs.Told.{and-true}
 use Rattle.task.specs.Types.{idle, engine, capped}

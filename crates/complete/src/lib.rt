@@ -1,7 +1,7 @@
 // Complete: the held task joins the record, and the completed buffer if it has successors.
 ghost use mathlib.Core.Path.{_≡_};
 ghost use Prim.Native.Nat.{_+_, _*_, _≤_, _<_};
-ghost use lib.ListN.{length, getD, set};
+ghost use lib.ListN.{length, set};
 ghost use Rattle.task.specs.Types.{nil, engine};
 ghost use Rattle.task.specs.declared.StepOutcome.{StepOutcome};
 ghost use Rattle.rules.specs.Memory.{withHand, withPlaces};

@@ -3,65 +3,46 @@ use Rattle.replies.specs.Replies.{replyOf}
 use borrow.Author.Needs.{needs}
 use Rattle.engine_export.proofs.yolluvek_begin.Statement.{statement}
 use Rattle.engine_export.proofs.yolluvek_begin.Tie as tie
-use Rattle.engine_export.proofs.yolluvek_begin.Reads as reads
-use Rattle.engine_export.proofs.yolluvek_begin.Lts as lts
-use Rattle.engine.proofs.begin.Reads as begin-reads
-use Rattle.replies.proofs.reply_of.Reads as reply-of-reads
-use Rattle.task.proofs.Limits.engine.Reads as engine-reads
 
--- src/lib.rt:38:9
 engine-requires : tie.Need-engine-requires
 engine-requires c κs = search needs
 
--- src/lib.rt:37:9
 begin-requires : tie.Need-begin-requires
 begin-requires c κs = search needs
 
--- src/lib.rt:55:5
 reply-of-requires : tie.Need-reply-of-requires
 reply-of-requires c κs = search needs
 
--- src/lib.rt:17:1
 same-length : tie.Need-same-length
 same-length c = search needs
 
--- src/lib.rt:17:1
 same-length-2 : tie.Need-same-length-2
 same-length-2 c = search needs
 
--- src/lib.rt:17:1
 same-length-3 : tie.Need-same-length-3
 same-length-3 c = search needs
 
--- src/lib.rt:17:1
 same-length-4 : tie.Need-same-length-4
 same-length-4 c = search needs
 
--- src/lib.rt:17:1
 same-length-5 : tie.Need-same-length-5
 same-length-5 c = search needs
 
--- src/lib.rt:17:1
 same-length-6 : tie.Need-same-length-6
 same-length-6 c = search needs
 
--- src/lib.rt:17:1
 same-length-7 : tie.Need-same-length-7
 same-length-7 c = search needs
 
--- src/lib.rt:17:1
 same-length-8 : tie.Need-same-length-8
 same-length-8 c = search needs
 
--- src/lib.rt:17:1
 same-length-9 : tie.Need-same-length-9
 same-length-9 c = search needs
 
--- src/lib.rt:17:1
 same-length-10 : tie.Need-same-length-10
 same-length-10 c = search needs
 
--- src/lib.rt:17:1
 returns : tie.Need-returns
 returns c =
     begin-replied _ _ _ replyOf _ _ _ _

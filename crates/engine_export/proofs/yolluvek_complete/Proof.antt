@@ -3,41 +3,28 @@ use Rattle.replies.specs.Replies.{stepReplyOf}
 use borrow.Author.Needs.{needs}
 use Rattle.engine_export.proofs.yolluvek_complete.Statement.{statement}
 use Rattle.engine_export.proofs.yolluvek_complete.Tie as tie
-use Rattle.engine_export.proofs.yolluvek_complete.Reads as reads
-use Rattle.engine_export.proofs.yolluvek_complete.Lts as lts
-use Rattle.engine.proofs.complete.Reads as complete-reads
-use Rattle.replies.proofs.step_reply_of.Reads as step-reply-of-reads
-use Rattle.task.proofs.Limits.engine.Reads as engine-reads
 
--- src/lib.rt:166:9
 engine-requires : tie.Need-engine-requires
 engine-requires c κs = search needs
 
--- src/lib.rt:165:9
 complete-requires : tie.Need-complete-requires
 complete-requires c κs = search needs
 
--- src/lib.rt:184:5
 step-reply-of-requires : tie.Need-step-reply-of-requires
 step-reply-of-requires c κs = search needs
 
--- src/lib.rt:144:1
 same-length : tie.Need-same-length
 same-length c = search needs
 
--- src/lib.rt:144:1
 same-length-2 : tie.Need-same-length-2
 same-length-2 c = search needs
 
--- src/lib.rt:144:1
 same-length-3 : tie.Need-same-length-3
 same-length-3 c = search needs
 
--- src/lib.rt:144:1
 same-length-4 : tie.Need-same-length-4
 same-length-4 c = search needs
 
--- src/lib.rt:144:1
 returns : tie.Need-returns
 returns c =
     step-replied _ _ _ stepReplyOf _ _ _ _ _ _

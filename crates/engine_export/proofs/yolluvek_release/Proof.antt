@@ -3,49 +3,34 @@ use Rattle.replies.specs.Replies.{stepReplyOf}
 use borrow.Author.Needs.{needs}
 use Rattle.engine_export.proofs.yolluvek_release.Statement.{statement}
 use Rattle.engine_export.proofs.yolluvek_release.Tie as tie
-use Rattle.engine_export.proofs.yolluvek_release.Reads as reads
-use Rattle.engine_export.proofs.yolluvek_release.Lts as lts
-use Rattle.engine.proofs.release.Reads as release-reads
-use Rattle.replies.proofs.step_reply_of.Reads as step-reply-of-reads
-use Rattle.task.proofs.Limits.engine.Reads as engine-reads
 
--- src/lib.rt:209:9
 engine-requires : tie.Need-engine-requires
 engine-requires c κs = search needs
 
--- src/lib.rt:208:9
 release-requires : tie.Need-release-requires
 release-requires c κs = search needs
 
--- src/lib.rt:227:5
 step-reply-of-requires : tie.Need-step-reply-of-requires
 step-reply-of-requires c κs = search needs
 
--- src/lib.rt:187:1
 same-length : tie.Need-same-length
 same-length c = search needs
 
--- src/lib.rt:187:1
 same-length-2 : tie.Need-same-length-2
 same-length-2 c = search needs
 
--- src/lib.rt:187:1
 same-length-3 : tie.Need-same-length-3
 same-length-3 c = search needs
 
--- src/lib.rt:187:1
 same-length-4 : tie.Need-same-length-4
 same-length-4 c = search needs
 
--- src/lib.rt:187:1
 same-length-5 : tie.Need-same-length-5
 same-length-5 c = search needs
 
--- src/lib.rt:187:1
 same-length-6 : tie.Need-same-length-6
 same-length-6 c = search needs
 
--- src/lib.rt:187:1
 returns : tie.Need-returns
 returns c =
     step-replied _ _ _ stepReplyOf _ _ _ _ _ _

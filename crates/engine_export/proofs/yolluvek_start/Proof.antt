@@ -3,33 +3,22 @@ use Rattle.replies.specs.Replies.{stepReplyOf}
 use borrow.Author.Needs.{needs}
 use Rattle.engine_export.proofs.yolluvek_start.Statement.{statement}
 use Rattle.engine_export.proofs.yolluvek_start.Tie as tie
-use Rattle.engine_export.proofs.yolluvek_start.Reads as reads
-use Rattle.engine_export.proofs.yolluvek_start.Lts as lts
-use Rattle.engine.proofs.start.Reads as start-reads
-use Rattle.replies.proofs.step_reply_of.Reads as step-reply-of-reads
-use Rattle.task.proofs.Limits.engine.Reads as engine-reads
 
--- src/lib.rt:123:9
 engine-requires : tie.Need-engine-requires
 engine-requires c κs = search needs
 
--- src/lib.rt:122:9
 start-requires : tie.Need-start-requires
 start-requires c κs = search needs
 
--- src/lib.rt:141:5
 step-reply-of-requires : tie.Need-step-reply-of-requires
 step-reply-of-requires c κs = search needs
 
--- src/lib.rt:101:1
 same-length : tie.Need-same-length
 same-length c = search needs
 
--- src/lib.rt:101:1
 same-length-2 : tie.Need-same-length-2
 same-length-2 c = search needs
 
--- src/lib.rt:101:1
 returns : tie.Need-returns
 returns c =
     step-replied _ _ _ stepReplyOf _ _ _ _ _ _
