@@ -9,7 +9,6 @@ use borrow.Author.Tests.{lt-ltb, le-ltb, le-leb, lt-leb, not-true, not-false}
 use lib.ListN.{length, getD, set}
 use lib.IntN.{ℤ, pos, _-ℤ_}
 use Rattle.lists.specs.Circles.{after}
-use Rattle.lists.proofs.Apart.{unequal}
 use Rattle.lists.proofs.Places.{place-end}
 use Rattle.task.specs.Types.{engine}
 use Rattle.task.specs.declared.Ends.{Ends}
@@ -31,15 +30,14 @@ use Rattle.rules.proofs.Searches.{Looked, search-looked}
 use Rattle.searches.specs.Searches.{foundOf, Reads}
 use Rattle.searches.specs.declared.Found.{Found}
 use Rattle.searches.specs.declared.Found.the-variants as found
-use Rattle.admission.specs.Admission.{Measured, Knows, entered, Allows, Admits, Enters}
+use Rattle.admission.specs.Admission.{Measured, Knows, Admits, Enters}
 use Rattle.admission.specs.declared.Admitted.{Admitted}
 use Rattle.admission.specs.declared.Admitted.the-variants as admitted
 use Rattle.admission.specs.declared.Sizes.{Sizes}
 use Rattle.admission.specs.declared.Judged.{Judged}
-use Rattle.admission.specs.declared.Judged.the-variants as judged-as
 use Rattle.admission.specs.declared.Stepped.{Stepped}
 use Rattle.admission.specs.declared.Stepped.the-variants as stepped
-use Rattle.admission.proofs.Rows.{admission-measured, admission-refused, admission-enters, few-steps, refused-result, rule-refused, rule-accepted}
+use Rattle.admission.proofs.Rows.{admission-measured, admission-refused, admission-entered, admission-enters, few-steps, refused-result, rule-refused, rule-accepted}
 use Rattle.fetch.specs.Fetch.{lent, stepsWith, FetchesAdmitted, Fetches, HandAndPointer}
 use Rattle.fetch.specs.Plan.{Ready, Sized, scanOf, lowered, PlansTask, Takes, PlansFetch}
 use Rattle.fetch.specs.declared.Head.{Head}
@@ -309,14 +307,10 @@ module _ (p k i : ℕ) (sizes : Sizes) (judged : Judged) (row : Row) (weights ri
       (admission-refused p k i sizes row Fetch limits (old weights rings ends counters run m) e h judged judges x told n d v)
 
   module _ (row′ : Row) (v : x ≡ admitted.To row′) where
-    leads : (j : Judged) → Admits row Fetch j x → row′ ≡ entered Fetch row
-    leads (judged-as.Refused n d) t = unequal cc
-    leads judged-as.Fit t = subst (Allows row Fetch) v t .1 .1
-
     -- what the rule keeps of the row in its new phase, it keeps of the worker's row
     kept : (r : Stepped) → HandAndPointer row′ r → HandAndPointer row r
     kept (stepped.Refused n d) h = h
-    kept (stepped.Taken o after) h = h ∙ rw (leads judged told) refl
+    kept (stepped.Taken o after) h = h ∙ rw (admission-entered row Fetch judged x told row′ v .1) refl
 
     pub row-fetches : (new-ends : List ℕ) (new-counters : List ℤ) (new-run : List ℕ) (r : Stepped)
         → FetchesAdmitted (3 * sizes .weights + sizes .preds) p k i row′ weights rings ends new-ends counters new-counters run new-run r
