@@ -130,8 +130,8 @@ def listed(parts):
 
 
 def imports(text, modules):
-    """The `use` lines for the names of these modules, pairs of a module and its names, that the text uses."""
-    words = set(re.split(r"[\s(){};,.]+", text))
+    """The `use` lines for the names of these modules, pairs of a module and its names, that the text uses outside its comments."""
+    words = set(re.split(r"[\s(){};,.]+", re.sub(r"--.*", "", text)))
     lines = []
     for module, names in modules:
         if names.startswith("as "):

@@ -9,7 +9,7 @@ use Rattle.row_list.proofs.Words.{typesAt, owned, peeks, heard, nothing, onEntr
 use Rattle.row_list.proofs.Words.{Lasts, entered, cited, says, Stays, walkOf, Walks, finishes, walked, walk-meets}
 use Rattle.task.specs.declared.Limits.{Limits}
 use Rattle.task.specs.declared.Row.{Row}
-use Rattle.row_list.proofs.Params.{Param, value, reads, gives, stays, spells, told, go}
+use Rattle.row_list.proofs.Params.{Param, reads, gives, stays, spells, told, go}
 use Rattle.row_list.proofs.Rules.{chain, fchain, splits, joins, fjoins, opens-owns, turns, free, at, part, target}
 use Rattle.ref_rules.proofs.Lists.{final, Loan, reads as read, gives as give, lives-of, shares-of, tokens-of, lists-of, Slices, slices-of, owned-of}
 use Rattle.ref_rules.proofs.Lists.{Lending, lives, shares, all-tokens, arguments, values, passed, lending, limits, number, slice-fits, length-fits}

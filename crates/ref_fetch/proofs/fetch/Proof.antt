@@ -3,10 +3,10 @@ use contract.Running.{tablesOf}
 use Rattle.row_list.proofs.Words.{_≡_, refl, ap, _∙_, ℕ, [], _∷_, List, length, set, getD, ℤ, URA, w64, Val, vint, SProp, ent, emp, via, id⊢, fst∗}
 use Rattle.row_list.proofs.Words.{Memory, Routine, Heap, Calls, Loops, WpFn, Tables, Atoms, Fun, fact, givenOf, tables, Given, ‵, raw, some, later}
 use Rattle.row_list.proofs.Words.{_⊛_, ⋆, _$_, _∵_, !, qed, by, move, keep, use1, use2, split, pick, fsplit, fjoin, feqL, suffices, frame, await}
-use Rattle.row_list.proofs.Words.{done, step, look, init, stop, from, of-opd, and-then, no-more, assigns, land, returns, enter, alloc1, alloc0}
-use Rattle.row_list.proofs.Words.{params1, pass1, pass0, free0, agg, FmC, fmOf, WpFn-mono, owns, Is, shows, usize, u32, i32, typesAt, owned, peeks}
-use Rattle.row_list.proofs.Words.{heard, nothing, onEntry, Args, Meets, tripleOf, Contract, Triple, calls-at, ensured, lasts, Lasts, entered, cited}
-use Rattle.row_list.proofs.Words.{says, needs, Stays, walkOf, Walks, finishes, walked, walk-meets}
+use Rattle.row_list.proofs.Words.{done, look, init, stop, from, of-opd, and-then, no-more, assigns, land, returns, enter, alloc1, alloc0, params1}
+use Rattle.row_list.proofs.Words.{pass1, pass0, free0, agg, FmC, fmOf, WpFn-mono, owns, Is, shows, usize, u32, i32, typesAt, owned, peeks, heard}
+use Rattle.row_list.proofs.Words.{nothing, onEntry, Args, Meets, tripleOf, Contract, Triple, calls-at, ensured, lasts, Lasts, entered, cited, says}
+use Rattle.row_list.proofs.Words.{Stays, walkOf, Walks, finishes, walked, walk-meets}
 use Rattle.task.specs.Types.{idle}
 use Rattle.task.specs.declared.Limits.{Limits}
 use Rattle.task.specs.declared.Row.{Row}
@@ -16,7 +16,7 @@ use Rattle.admission.specs.Admission.{Judges, Knows, answerOf, rowAfter}
 use Rattle.admission.specs.declared.Judged.{Judged}
 use Rattle.admission.specs.declared.Stepped.{Stepped}
 use Rattle.admission.proofs.Rows.{row-stored}
-use Rattle.row_list.proofs.Params.{Param, value, reads, gives, stays, spells, told, go}
+use Rattle.row_list.proofs.Params.{Param, reads, gives, stays, spells, told, go}
 use Rattle.row_list.proofs.Rules.{chain, fchain, splits, joins, fjoins, opens-owns, turns, free, at, part, target}
 use Rattle.ref_rules.proofs.Lists.{final, Loan, reads as read, gives as give, lives-of, shares-of, tokens-of, lists-of, slices-of, owned-of, Lending}
 use Rattle.ref_rules.proofs.Lists.{lives, shares, all-tokens, sizes, sizes-are, arguments, values, passed, lending, limits, number, worker}
