@@ -124,10 +124,9 @@ pub fn complete_row(
     run: &mut [u32],
 ) -> Stepped
     requires { ⌜
-        Knows p k (worker .0) sizes judged × ((length (now «succ_starts»)
-        ≡ sizes .«succ_starts») × ((length (now buffers) ≡ sizes .buffers)
-        × ((length (now executed) ≡ sizes .executed) × (length (now run)
-        ≡ sizes .run))))
+        Knows p k (worker .0) sizes judged × ((length (now «succ_starts») ≡ sizes .«succ_starts»)
+        × ((length (now buffers) ≡ sizes .buffers) × ((length (now executed) ≡ sizes .executed)
+        × (length (now run) ≡ sizes .run))))
         ⌝ }
     ensures { λ r. ⌜
         Completes p k (worker .0) sizes judged row (now («succ_starts» .entry)) (now (buffers .entry)) (now (buffers .exit))

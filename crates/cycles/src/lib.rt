@@ -95,8 +95,8 @@ fn on_cycle(n: usize, starts: &[u32], preds: &[u32], t: usize) -> bool
 // The smallest task on a cycle among those left.
 fn search(n: usize, starts: &[u32], preds: &[u32], left: &[u32]) -> usize
     requires { ⌜
-        Sound (graphOf n (now starts) (now preds)) × ((length (now left)
-        ≡ 1024) × ((t : ℕ) → t < n → (0 < getD (now left) t 0) ↔ ToCycle (graphOf n (now starts) (now preds)) t))
+        Sound (graphOf n (now starts) (now preds)) × ((length (now left) ≡ 1024)
+        × ((t : ℕ) → t < n → (0 < getD (now left) t 0) ↔ ToCycle (graphOf n (now starts) (now preds)) t))
         ⌝ }
     ensures { λ r. ⌜ r ≡ firstOnCycle (graphOf n (now (starts .entry)) (now (preds .entry))) ⌝ }
 {

@@ -126,8 +126,8 @@ fn take_head(
         × Sound k (head .ends)))
         ⌝ }
     requires { ⌜
-        (counterFits (getD (now counters) (ringNumber p (worker .0) (worker .0)) (pos 0))
-        ≡ true) × ((head .weight ≤ 65535) × (head .accepted ≤ 65535))
+        (counterFits (getD (now counters) (ringNumber p (worker .0) (worker .0)) (pos 0)) ≡ true)
+        × ((head .weight ≤ 65535) × (head .accepted ≤ 65535))
         ⌝ }
     ensures { λ r. ⌜ now (ends .exit) ≡ storeEnds (now (ends .entry)) (ringNumber p (worker .0) (head .filler .0)) (headOn k (head .ends)) ⌝ }
     ensures { λ r. ⌜ now (counters .exit) ≡ lowered (now (counters .entry)) (ringNumber p (worker .0) (worker .0)) (head .weight) ⌝ }
@@ -215,8 +215,7 @@ pub fn fetch_row(
     requires { ⌜
         Knows p k (worker .0) sizes judged × ((length (now weights) ≡ sizes .weights)
         × ((length (now rings) ≡ sizes .rings) × ((length (now ends) ≡ sizes .ends)
-        × ((length (now counters) ≡ sizes .counters) × (length (now run)
-        ≡ sizes .run)))))
+        × ((length (now counters) ≡ sizes .counters) × (length (now run) ≡ sizes .run)))))
         ⌝ }
     ensures { λ r. ⌜
         Fetches p k (worker .0) sizes judged row (now (weights .entry)) (now (rings .entry)) (now (ends .entry))

@@ -95,8 +95,8 @@ fn part_at<'a>(starts: &[u32], words: &'a [u32], t: usize) -> &'a [u32]
         × (getD (now starts) (t + 1) 0 ≤ length (now words)))
         ⌝ }
     ensures { λ r. ⌜
-        (now r ≡ part (now (starts .entry)) (now (words .entry)) t) × (ptr r
-        ≡ wordPtr (ptr (words .entry)) (getD (now (starts .entry)) t 0))
+        (now r ≡ part (now (starts .entry)) (now (words .entry)) t)
+        × (ptr r ≡ wordPtr (ptr (words .entry)) (getD (now (starts .entry)) t 0))
         ⌝ }
 {
     let a = starts[t] as usize;

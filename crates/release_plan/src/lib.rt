@@ -96,8 +96,7 @@ pub fn find_owner(
 ) -> Owner
     requires { ⌜
         (worker .0 < p) × ((p ≤ engine .workers) × ((k ≤ engine .slots)
-        × ((length (now ends) ≡ p * p * endWords) × (length (now counters)
-        ≡ p * p))))
+        × ((length (now ends) ≡ p * p * endWords) × (length (now counters) ≡ p * p))))
         ⌝ }
     ensures { λ r. ⌜ Owned p k (worker .0) (task .0) (now (ends .entry)) (now (counters .entry)) r ⌝ }
 {

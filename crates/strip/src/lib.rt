@@ -68,9 +68,8 @@ fn lower_all(words: &[u32], left: &mut [u32], queue: &mut [u32], from: usize) ->
 // From the numbers of successors in `left`: a task is left with some exactly if it is on a cycle or has a path to one.
 pub fn strip(n: usize, starts: &[u32], preds: &[u32], left: &mut [u32], queue: &mut [u32])
     requires { ⌜
-        Sound (graphOf n (now starts) (now preds)) × ((length (now left)
-        ≡ 1024) × ((length (now queue) ≡ 1024) × ((u : ℕ) → getD (now left) u 0
-        ≡ occ u (now preds))))
+        Sound (graphOf n (now starts) (now preds)) × ((length (now left) ≡ 1024) × ((length (now queue) ≡ 1024)
+        × ((u : ℕ) → getD (now left) u 0 ≡ occ u (now preds))))
         ⌝ }
     ensures { λ r. ⌜ ((t : ℕ) → t < n → (0 < getD (now (left .exit)) t 0) ↔ ToCycle (graphOf n (now (starts .entry)) (now (preds .entry))) t) ⌝ }
 {

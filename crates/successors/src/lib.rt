@@ -90,9 +90,8 @@ pub fn fill(
     degrees: &mut [u32],
 )
     requires { ⌜
-        Sound (graphOf n (now starts) (now preds)) × ((length (now «succ_starts»)
-        ≡ n + 1) × ((length (now succs) ≡ length (now preds)) × (length (now degrees)
-        ≡ n)))
+        Sound (graphOf n (now starts) (now preds)) × ((length (now «succ_starts») ≡ n + 1)
+        × ((length (now succs) ≡ length (now preds)) × (length (now degrees) ≡ n)))
         ⌝ }
     ensures { λ r. ⌜
         (now («succ_starts» .exit) ≡ succStarts (graphOf n (now (starts .entry)) (now (preds .entry))))

@@ -124,9 +124,8 @@ pub fn task_line(
     preds: &mut [u32],
 ) -> TaskLine
     requires { ⌜
-        (at ≤ length (now text)) × ((t < 1024) × ((e ≤ 8192) × ((length (now weights)
-        ≡ 1024) × ((length (now starts) ≡ 1025) × (length (now preds)
-        ≡ 8193)))))
+        (at ≤ length (now text)) × ((t < 1024) × ((e ≤ 8192) × ((length (now weights) ≡ 1024)
+        × ((length (now starts) ≡ 1025) × (length (now preds) ≡ 8193)))))
         ⌝ }
     ensures { λ r. ⌜
         TaskFound (now (text .entry)) at t last e r (now (weights .entry)) (now (starts .entry)) (now (preds .entry))
