@@ -19,7 +19,7 @@ use Rattle.graph.specs.Lookup.{Lent, startsOn, wordsOn}
 abbrev pub Beyond : Limits → ℕ → ℕ → Type 0
 Beyond l n e = (capped l .tasks < n) ⊎ (capped l .edges < e)
 
--- "(begin) a weight beyond its limit"
+-- "(begin) a weight beyond its limit"; the writer too "checks as begin does"
 abbrev pub Heavy : List ℕ → Type 0
 Heavy weights = (t : ℕ) × ((t < length weights) × (65535 < getD weights t 0))
 

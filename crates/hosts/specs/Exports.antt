@@ -26,9 +26,10 @@ pub data Export : Type 0 where
   beginMade : (p k : ℕ) → Reply → Export
   -- `yolluvek_judge_lookup`
   lookupMade : Side → (task : ℕ) → Reply → Export
-  -- A call that is lent lists of the run shared and no others: `yolluvek_lookup`, which hands out a part's place and count, or `yolluvek_check_graph`.
-  -- It leaves all words, and its answer is no part of the run's events. Calls that write such lists otherwise, as `yolluvek_link_graph` and the reader
-  -- do, are none of a run's: "meanwhile no other call, the reader included, changes a word of them".
+  -- A call that is lent the run's lists shared: `yolluvek_lookup`, which hands out a part's place and count, `yolluvek_check_graph`, or
+  -- `yolluvek_write_text`, whose buffer is none of them. It leaves all words, and its answer is no part of the run's events. Calls that write such
+  -- lists otherwise, as `yolluvek_link_graph` and the reader do, are none of a run's: "meanwhile no other call, the reader included, changes a word of
+  -- them".
   readingMade : Export
 
 -- the call, and the words of the run's lists after it

@@ -5,7 +5,7 @@ use mathlib.Core.Path.{_≡_, refl, ap}
 use mathlib.Core.Logic.{_↔_}
 use mathlib.Core.List.{List}
 use native.Mathlib.Omega.{arith}
-use Rattle.task.specs.Refusals.{Said, refused, accepted, graphRead, taskFetched, degreeLeft, taskPlaced, numberOf, detailOf}
+use Rattle.task.specs.Refusals.{Said, refused, answered, numberOf, detailOf}
 use Rattle.task.specs.Rows.{Refusal, Given, Follows}
 use Rattle.task.specs.declared.Answer.the-variants as answer
 use Rattle.task.specs.declared.StepAnswer.the-variants.{Refused, Accepted}
@@ -17,11 +17,7 @@ use Rattle.replies.specs.Replies.{replyOf, stepReplyOf}
 
 refused-said : (said : Said) (n d : ℕ) → 1 ≤ n → (numberOf said ≡ n) × (detailOf said ≡ d) → said ≡ refused n d
 refused-said (refused m e) n d h p = rw (p .0, p .1) refl
-refused-said accepted n d h p = absurd (omega (arith, p .0, h))
-refused-said (graphRead t e) n d h p = absurd (omega (arith, p .0, h))
-refused-said (taskFetched t) n d h p = absurd (omega (arith, p .0, h))
-refused-said (degreeLeft l) n d h p = absurd (omega (arith, p .0, h))
-refused-said (taskPlaced t w) n d h p = absurd (omega (arith, p .0, h))
+refused-said (answered k vs) n d h p = absurd (omega (arith, p .0, h))
 
 -- of an answer that follows the rows
 pub tells-refusal : (rows : List Refusal) (said : Said) → Follows rows said → (n d : ℕ) → 1 ≤ n

@@ -16,7 +16,7 @@ use Rattle.lists.proofs.Told.{and-false, cond-either}
 use Rattle.task.specs.Types.{idle}
 use Rattle.task.specs.Entries.{Entry, entryOf}
 use Rattle.task.specs.Phases.{suits}
-use Rattle.task.specs.Refusals.{Said, refused, accepted, graphRead, taskFetched, degreeLeft, taskPlaced, answerSays, stepSays}
+use Rattle.task.specs.Refusals.{Said, refused, answered, accepted, answerSays, stepSays}
 use Rattle.task.specs.Rows.{Acceptance}
 use Rattle.task.specs.declared.Limits.{Limits}
 use Rattle.task.specs.declared.Row.{Row}
@@ -108,11 +108,7 @@ still-recounts p m past c said q h =
 
 said-accepted : (said : Said) → Acceptance said → acceptedSaid said ≡ true
 said-accepted (refused n d) a = absurd a
-said-accepted accepted a = refl
-said-accepted (graphRead n e) a = refl
-said-accepted (taskFetched t) a = refl
-said-accepted (degreeLeft d) a = refl
-said-accepted (taskPlaced t w) a = refl
+said-accepted (answered k vs) a = refl
 
 -- Complete alone adds an entry, to the word and to the record
 completes-next : (s : Step) (n : ℕ) → cond (isCompletion s && true) (suc n) n ≡ entriesNext s n

@@ -5,7 +5,7 @@ use mathlib.Core.Path.{_≡_}
 use mathlib.Core.Bool.{Bool, true, false, cond}
 use mathlib.Core.List.{List, [], _∷_, _++_}
 use lib.Dec.{eqb}
-use Rattle.task.specs.Refusals.{Said, refused, accepted, graphRead, taskFetched, degreeLeft, taskPlaced, answerSays, stepSays}
+use Rattle.task.specs.Refusals.{Said, refused, answered, accepted, answerSays, stepSays}
 use Rattle.task.specs.declared.Limits.{Limits}
 use Rattle.task.specs.declared.Side.{Side}
 use Rattle.task.specs.declared.Step.{Step}
@@ -76,11 +76,7 @@ eventOf limits c m = record { call = c; said = says limits c m }
 
 abbrev pub acceptedSaid : Said → Bool
 acceptedSaid (refused n d) = false
-acceptedSaid accepted = true
-acceptedSaid (graphRead n e) = true
-acceptedSaid (taskFetched t) = true
-acceptedSaid (degreeLeft d) = true
-acceptedSaid (taskPlaced t w) = true
+acceptedSaid (answered k vs) = true
 
 -- the event is an accepted begin
 abbrev pub beganBy : Call → Bool → Bool

@@ -3,22 +3,19 @@ use Prim.Native.Nat.{ℕ, _*_}
 use mathlib.Core.Path.{_≡_}
 use mathlib.Core.Bool.{cond, _&&_}
 use mathlib.Core.List.{List, [], _∷_, _++_}
-use lib.ListN.{length}
+use lib.ListN.{length, getD}
+use lib.Dec.{eqb}
 use Rattle.task.specs.Types.{nil}
 use Rattle.task.specs.Entries.{Entry, entryOf}
-use Rattle.task.specs.Refusals.{Said, refused, accepted, graphRead, taskFetched, degreeLeft, taskPlaced}
+use Rattle.task.specs.Refusals.{Said, refused, answered}
 use Rattle.rules.specs.Memory.{tasks}
 use Rattle.runs.specs.Calls.{isComplete, fetchBy, workerOf, Event, acceptedSaid, Run, memoryOf, eventsOf}
 use Rattle.runs.specs.Demand.{acceptedSteps, acceptedCompletes}
 
--- the task that an accepted Fetch answers, or else the one given
+-- the task that an accepted Fetch answers (kind 1, `taskFetched`), or else the one given
 abbrev pub taskIn : Said → ℕ → ℕ
 taskIn (refused n d) t = t
-taskIn accepted t = t
-taskIn (graphRead n e) t = t
-taskIn (taskFetched x) t = x
-taskIn (degreeLeft d) t = t
-taskIn (taskPlaced x w) t = t
+taskIn (answered k vs) t = cond (eqb k 1) (getD vs 0 0) t
 
 -- the task that the worker's last accepted Fetch answered
 unfoldable pub lastFetched : ℕ → List Event → ℕ

@@ -10,7 +10,7 @@ use borrow.Author.Tests.{ltb-true, ltb-false}
 use Rattle.lists.specs.Decided.{firstBelow, Smallest}
 use Rattle.lists.proofs.Decided.{first-smallest, first-least, smallest-unique}
 use Rattle.lists.proofs.Told.{Told, told-true, told-false, told}
-use Rattle.task.specs.Refusals.{Said, refused, answerSays, refusedIf, andThen}
+use Rattle.task.specs.Refusals.{Said, refused, answered, accepted, answerSays, refusedIf, andThen}
 use Rattle.task.specs.Rows.{Refusal, row, only, Passed, Given, Clear, Acceptance, Follows}
 use Rattle.task.specs.declared.Answer.{Answer}
 use Rattle.task.specs.declared.Answer.the-variants.{Refused, Accepted}
@@ -106,6 +106,14 @@ follows-then rows rest Accepted b f g =
     back : (n d : ℕ) → Given rows n d ⊎ (Clear rows × Given rest n d) → answerSays b ≡ refused n d
     back n d (inl h) = absurd (subst Acceptance (f .refuses n d .1 h) tt)
     back n d (inr h) = g refl .refuses n d .1 (h .1)
+
+-- whatever values an accepted call answers, it follows the rows
+pub follows-values : (rows : List Refusal) (k : ℕ) (vs : List ℕ) → Follows rows accepted → Follows rows (answered k vs)
+follows-values rows k vs f =
+    record {
+      refuses = λ n d. (λ e. absurd (subst Acceptance e tt), λ g. absurd (subst Acceptance (f .refuses n d .1 g) tt));
+      accepts = (λ a. f .accepts .0 tt, λ c. tt);
+    }
 
 -- the same rows in other words: one by one their numbers are equal and their conditions hold with the same details
 abbrev pub Same : List Refusal → List Refusal → Type 0

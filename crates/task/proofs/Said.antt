@@ -1,28 +1,28 @@
 -- What an answer says tells the answer; and its number tells whether it accepts.
 use Prim.Native.Nat.{ℕ, _≤_}
 use mathlib.Core.Path.{_≡_, refl, sym, ap, _∙_}
-use mathlib.Core.Bool.{Bool, true, _&&_}
+use mathlib.Core.Bool.{Bool, true, cond, _&&_}
 use mathlib.Core.Logic.{_↔_, inl, inr}
 use mathlib.Core.List.{List, [], _∷_}
 use native.Mathlib.Omega.{arith}
-use lib.Dec.{leb}
+use lib.ListN.{getD}
+use lib.Dec.{eqb, leb}
 use borrow.Author.Tests.{leb-true}
 use Rattle.lists.proofs.Told.{and-true}
-use Rattle.task.specs.Refusals.{Said, refused, accepted, graphRead, taskFetched, degreeLeft, taskPlaced, stepSays, numberOf}
+use Rattle.task.specs.Refusals.{Said, refused, answered, stepSays, numberOf}
 use Rattle.task.specs.Rows.{Refusal, Given, Acceptance, Follows}
 use Rattle.task.specs.declared.StepAnswer.{StepAnswer}
 use Rattle.task.specs.declared.StepAnswer.the-variants.{Refused, Accepted}
 use Rattle.task.specs.declared.StepOutcome.the-variants.{Moved, Fetched, Released}
 use Rattle.task.specs.declared.ReleaseOutcome.the-variants.{DegreeLeft, Placed}
 
--- the step answer that says this; no step says that a graph was read
+-- the step answer that says this; no step says anything else
 abbrev answerOf : Said → StepAnswer
 answerOf (refused n d) = Refused n d
-answerOf accepted = Accepted Moved
-answerOf (graphRead n e) = Accepted Moved
-answerOf (taskFetched t) = Accepted (Fetched (record { 0 = t }))
-answerOf (degreeLeft d) = Accepted (Released (DegreeLeft d))
-answerOf (taskPlaced t w) = Accepted (Released (Placed (record { 0 = t }) (record { 0 = w })))
+answerOf (answered k vs) =
+    cond (eqb k 1) (Accepted (Fetched (record { 0 = getD vs 0 0 })))
+    (cond (eqb k 2) (Accepted (Released (DegreeLeft (getD vs 0 0))))
+    (cond (eqb k 3) (Accepted (Released (Placed (record { 0 = getD vs 0 0 }) (record { 0 = getD vs 1 0 })))) (Accepted Moved)))
 
 answer-of : (a : StepAnswer) → answerOf (stepSays a) ≡ a
 answer-of (Refused n d) = refl
@@ -49,8 +49,4 @@ given-numbered (r ∷ rs) n d u (inr g) = given-numbered rs n d (and-true (leb 1
 pub zero-accepts : (rows : List Refusal) (said : Said) → Follows rows said → numbered rows ≡ true → (numberOf said ≡ 0) ↔ Acceptance said
 zero-accepts rows (refused n d) f u =
     (λ e. absurd (omega (arith, e, given-numbered rows n d u (f .refuses n d .0 refl))), λ a. absurd a)
-zero-accepts rows accepted f u = (λ e. tt, λ a. refl)
-zero-accepts rows (graphRead n e) f u = (λ e. tt, λ a. refl)
-zero-accepts rows (taskFetched t) f u = (λ e. tt, λ a. refl)
-zero-accepts rows (degreeLeft d) f u = (λ e. tt, λ a. refl)
-zero-accepts rows (taskPlaced t w) f u = (λ e. tt, λ a. refl)
+zero-accepts rows (answered k vs) f u = (λ e. tt, λ a. refl)

@@ -1,10 +1,14 @@
 -- The numbers of document 01's table of refused calls, and what each answer says in the paper's terms.
 use Prim.Native.Nat.{ℕ}
 use mathlib.Core.Bool.{Bool, cond}
+use mathlib.Core.List.{List, [], _∷_}
+use lib.ListN.{getD}
 use Rattle.task.specs.declared.Answer.{Answer}
 use Rattle.task.specs.declared.Answer.the-variants as answer
 use Rattle.task.specs.declared.ReadAnswer.{ReadAnswer}
 use Rattle.task.specs.declared.ReadAnswer.the-variants as read-answer
+use Rattle.task.specs.declared.WriteAnswer.{WriteAnswer}
+use Rattle.task.specs.declared.WriteAnswer.the-variants as write-answer
 use Rattle.task.specs.declared.ReleaseOutcome.{ReleaseOutcome}
 use Rattle.task.specs.declared.ReleaseOutcome.the-variants.{DegreeLeft, Placed}
 use Rattle.task.specs.declared.StepOutcome.{StepOutcome}
@@ -12,7 +16,7 @@ use Rattle.task.specs.declared.StepOutcome.the-variants.{Moved, Fetched,
 use Rattle.task.specs.declared.StepAnswer.{StepAnswer}
 use Rattle.task.specs.declared.StepAnswer.the-variants as step-answer
 
--- "a lent length isn't the stated one"
+-- "a lent length isn't the stated one"; of the writer "a buffer too small"
 abbrev pub wrongLength : ℕ
 wrongLength = 1
 
@@ -64,52 +68,55 @@ recordFull = 12
 abbrev pub brokenLayout : ℕ
 brokenLayout = 13
 
--- what an answer says: a refusal's number and detail, or acceptance with the values that the call answers
+-- "when N is under 2, task 0 has weight or predecessors, or the last task has weight"
+abbrev pub noDummies : ℕ
+noDummies = 14
+
+-- what an answer says: a refusal's number and detail, or acceptance with the numbers that the call answers; what they are, the kind tells
 pub data Said : Type 0 where
   refused : (number detail : ℕ) → Said
-  -- "Begin, Start and Complete answer acceptance alone"
-  accepted : Said
-  -- "the reader N and E"
-  graphRead : (tasks edges : ℕ) → Said
-  -- "An accepted Fetch answers the task"
-  taskFetched : (task : ℕ) → Said
-  -- "a Release answers either the degree left or the task with its new owner"
-  degreeLeft : (degree : ℕ) → Said
-  taskPlaced : (task owner : ℕ) → Said
+  answered : (kind : ℕ) (values : List ℕ) → Said
+
+-- "Begin, Start and Complete answer acceptance alone"
+abbrev pub accepted : Said
+accepted = answered 0 []
+
+-- "An accepted Fetch answers the task"
+abbrev pub taskFetched : (task : ℕ) → Said
+taskFetched t = answered 1 (t ∷ [])
+
+-- "a Release answers either the degree left or the task with its new owner"
+abbrev pub degreeLeft : (degree : ℕ) → Said
+degreeLeft d = answered 2 (d ∷ [])
+
+abbrev pub taskPlaced : (task owner : ℕ) → Said
+taskPlaced t w = answered 3 (t ∷ w ∷ [])
+
+-- "the reader N and E"
+abbrev pub graphRead : (tasks edges : ℕ) → Said
+graphRead n e = answered 4 (n ∷ e ∷ [])
+
+-- the writer "says how many bytes it used"
+abbrev pub bytesUsed : (used : ℕ) → Said
+bytesUsed b = answered 5 (b ∷ [])
 
 -- the number and the detail alone, 0 and 0 where accepted
 abbrev pub numberOf : Said → ℕ
 numberOf (refused n d) = n
-numberOf accepted = 0
-numberOf (graphRead n e) = 0
-numberOf (taskFetched t) = 0
-numberOf (degreeLeft d) = 0
-numberOf (taskPlaced t w) = 0
+numberOf (answered k vs) = 0
 
 abbrev pub detailOf : Said → ℕ
 detailOf (refused n d) = d
-detailOf accepted = 0
-detailOf (graphRead n e) = 0
-detailOf (taskFetched t) = 0
-detailOf (degreeLeft d) = 0
-detailOf (taskPlaced t w) = 0
+detailOf (answered k vs) = 0
 
--- N and E of a graph read, 0 and 0 elsewhere
-abbrev pub tasksRead : Said → ℕ
-tasksRead (refused n d) = 0
-tasksRead accepted = 0
-tasksRead (graphRead n e) = n
-tasksRead (taskFetched t) = 0
-tasksRead (degreeLeft d) = 0
-tasksRead (taskPlaced t w) = 0
+-- the kind, and the value at a place; 0 where refused
+abbrev pub kindOf : Said → ℕ
+kindOf (refused n d) = 0
+kindOf (answered k vs) = k
 
-abbrev pub edgesRead : Said → ℕ
-edgesRead (refused n d) = 0
-edgesRead accepted = 0
-edgesRead (graphRead n e) = e
-edgesRead (taskFetched t) = 0
-edgesRead (degreeLeft d) = 0
-edgesRead (taskPlaced t w) = 0
+abbrev pub valueAt : ℕ → Said → ℕ
+valueAt i (refused n d) = 0
+valueAt i (answered k vs) = getD vs i 0
 
 abbrev pub answerSays : Answer → Said
 answerSays (answer.Refused n d) = refused n d
@@ -118,6 +125,10 @@ answerSays answer.Accepted = accepted
 abbrev pub readSays : ReadAnswer → Said
 readSays (read-answer.Refused n d) = refused n d
 readSays (read-answer.Accepted n e) = graphRead n e
+
+abbrev pub writeSays : WriteAnswer → Said
+writeSays (write-answer.Refused n d) = refused n d
+writeSays (write-answer.Accepted b) = bytesUsed b
 
 abbrev pub releaseSays : ReleaseOutcome → Said
 releaseSays (DegreeLeft d) = degreeLeft d

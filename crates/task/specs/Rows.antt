@@ -4,7 +4,7 @@ use Prim.Native.Nat.{ℕ}
 use mathlib.Core.Path.{_≡_}
 use mathlib.Core.Logic.{_⊎_, _↔_}
 use mathlib.Core.List.{List, [], _∷_}
-use Rattle.task.specs.Refusals.{Said, refused, accepted, graphRead, taskFetched, degreeLeft, taskPlaced}
+use Rattle.task.specs.Refusals.{Said, refused, answered}
 
 -- a row: its number, and when its condition holds with which detail
 pub record Refusal : Type 1 where
@@ -34,11 +34,7 @@ Clear (r ∷ rs) = Passed r × Clear rs
 
 abbrev pub Acceptance : Said → Type 0
 Acceptance (refused n d) = ⊥
-Acceptance accepted = Unit {0}
-Acceptance (graphRead n e) = Unit {0}
-Acceptance (taskFetched t) = Unit {0}
-Acceptance (degreeLeft d) = Unit {0}
-Acceptance (taskPlaced t w) = Unit {0}
+Acceptance (answered k vs) = Unit {0}
 
 -- the answer follows the rows: n and d are given exactly if the first row that holds has them, and the call is accepted
 -- exactly if no row holds; of the values of an accepted call it says nothing

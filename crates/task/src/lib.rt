@@ -172,6 +172,12 @@ pub enum ReadAnswer {
     Accepted(u32, u32),
 }
 
+// The writer's answer: refused, or accepted with the bytes used.
+pub enum WriteAnswer {
+    Refused(u32, u32),
+    Accepted(u32),
+}
+
 // What a Release did: the degree left, or the task placed and its new owner.
 pub enum ReleaseOutcome {
     DegreeLeft(u32),

@@ -24,3 +24,5 @@ pub const RINGS_FULL: u32 = 11;
 pub const RECORD_FULL: u32 = 12;
 
 pub const BROKEN_LAYOUT: u32 = 13;
+
+pub const NO_DUMMIES: u32 = 14;
