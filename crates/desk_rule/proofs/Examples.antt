@@ -27,7 +27,8 @@ use Rattle.rules.specs.Desk.{turn, turns, deskRun}
 use Rattle.layout.specs.Tasks.{weightsOf, startsFrom, predsOf}
 use Rattle.layout.specs.Reader.{lines, trim, skipped, fields, digits, valueOf, rowOf, taskOf, contents, tasksFrom, verdict, laid, readText}
 use Rattle.layout.proofs.Examples.{diamondText}
-use Rattle.desk_rule.specs.Printed.{digitsBefore, digitsOf, pairLine}
+use Rattle.layout.specs.Digits.{digitsBefore, digitsOf}
+use Rattle.desk_rule.specs.Printed.{pairLine}
 use Rattle.desk_rule.specs.Output.{refusedLine, entryLines, runLines, graphOutput, deskMemory, deskRead, deskOutput}
 
 -- "0␊0 0 0␊1 0 0␊"

@@ -1,5 +1,4 @@
 pub mod Finishes
-pub mod Printed
 pub mod Examples
 pub mod Table
 pub mod Cut

@@ -2,7 +2,7 @@
 -- two roots with P 2, K 2 (accepted), and the diamond above.", the diamond from its input lines to its printed lines.
 use mathlib.Core.Path.{_≡_}
 use Rattle.layout.specs.Layout.{Spells}
-use Rattle.layout.proofs.Tables.{tables}
+use Rattle.layout.specs.Tasks.{tables}
 use Rattle.layout.proofs.Examples.{diamondText}
 use Rattle.layout.proofs.Examples as texts
 use Rattle.rules.proofs.Examples.{diamond}

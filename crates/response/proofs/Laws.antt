@@ -28,8 +28,8 @@ use Rattle.desk_rule.specs.Output.{refusedLine, entryLines, runLines, begunOutp
 use Rattle.desk_rule.proofs.Finishes.{desk-finishes}
 use Rattle.rows.specs.Rows.{rowsOf}
 use Rattle.engine.specs.Engine.{cellMem}
-use Rattle.printing.specs.Appending.{Appends}
-use Rattle.printing.proofs.Laws.{appends-then}
+use Rattle.text_put.specs.Appending.{Appends}
+use Rattle.text_put.proofs.Laws.{appends-then}
 
 -- what the turns require, and room in the record for the entries
 pub record Ready (w p x n : List ℕ) : Type 0 where

@@ -5,7 +5,7 @@ ghost use lib.ListN.{length};
 ghost use Rattle.task.specs.Types.{engine};
 ghost use Rattle.engine.specs.Engine.{cellMem};
 ghost use Rattle.desk_rule.specs.Output.{deskMemory, graphOutput, deskOutput};
-ghost use Rattle.printing.specs.Appending.{Appends};
+ghost use Rattle.text_put.specs.Appending.{Appends};
 use task::Answer;
 use task::Limits;
 use task::ReadAnswer;

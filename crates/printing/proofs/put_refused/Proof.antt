@@ -1,5 +1,5 @@
 use Rattle.desk_rule.specs.Output.{refusedLine}
-use Rattle.printing.proofs.Laws.{appends-then}
+use Rattle.text_put.proofs.Laws.{appends-then}
 use borrow.Author.Needs.{needs}
 use Rattle.printing.proofs.put_refused.Statement.{statement}
 use Rattle.printing.proofs.put_refused.Tie as tie

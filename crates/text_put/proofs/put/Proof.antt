@@ -2,10 +2,10 @@
 use Prim.Native.Nat.{_+_, _-_, _≤_}
 use native.Mathlib.Omega.{arith}
 use lib.ListN.{length, take}
-use Rattle.printing.specs.Appending.{Appends}
-use Rattle.printing.proofs.Laws.{no-bytes, next-byte, all-bytes}
-use Rattle.printing.proofs.put.Statement.{statement}
-use Rattle.printing.proofs.put.Tie as tie
+use Rattle.text_put.specs.Appending.{Appends}
+use Rattle.text_put.proofs.Laws.{no-bytes, next-byte, all-bytes}
+use Rattle.text_put.proofs.put.Statement.{statement}
+use Rattle.text_put.proofs.put.Tie as tie
 
 abbrev Inv-loop : tie.InvT-loop
 Inv-loop out₀ at bytes i₀ out i = (i ≤ length bytes) × Appends at (take i bytes) out₀ out (at + i)
