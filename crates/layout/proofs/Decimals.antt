@@ -22,7 +22,7 @@ digits-unique (a ∷ f) (b ∷ g) v w (h, hs) (k, ks) l e =
     (omega (arith, h, k, sums), cc)
 
 -- z digits more with the same value are zeros, and no number stands before them
-zeros-before : (f : List ℕ) → Each Digit f → (z : ℕ) (g : List ℕ) (v : ℕ) → Each Digit g → length g ≡ z + length f → decimalFrom v g ≡ decimal f
+pub zeros-before : (f : List ℕ) → Each Digit f → (z : ℕ) (g : List ℕ) (v : ℕ) → Each Digit g → length g ≡ z + length f → decimalFrom v g ≡ decimal f
     → (v ≡ 0) × (g ≡ replicate z digit0 ++ f)
 zeros-before f h zero g v k l e = digits-unique g f v 0 k h (omega (arith, l)) e
 zeros-before f h (suc z) [] v k l e = absurd (omega (arith, l))

@@ -1,7 +1,8 @@
 -- Lists whose items all have a property.
-use Prim.Native.Nat.{ℕ, zero, suc}
+use Prim.Native.Nat.{ℕ, zero, suc, _<_}
 use mathlib.Core.List.{List, [], _∷_, _++_}
-use lib.ListN.{take}
+use native.Mathlib.Omega.{arith}
+use lib.ListN.{length, getD, take}
 use Rattle.layout.specs.Marks.{Each}
 
 module _ {A : Type 0} (P : A → Type 0) where
@@ -13,6 +14,16 @@ module _ {A : Type 0} (P : A → Type 0) where
   each-take zero l h = tt
   each-take (suc n) [] h = tt
   each-take (suc n) (x ∷ l) (h, hs) = (h, each-take n l hs)
+
+  -- what holds at each place
+  pub each-at : (d : A) (l : List A) → ((i : ℕ) → i < length l → P (getD l i d)) → Each P l
+  each-at d [] f = tt
+  each-at d (x ∷ l) f = (f 0 (omega arith), each-at d l (λ i h. f (suc i) (omega (arith, h))))
+
+  pub at-each : (d : A) (l : List A) → Each P l → (i : ℕ) → i < length l → P (getD l i d)
+  at-each d [] h i l = absurd (omega (arith, l))
+  at-each d (x ∷ l) (h, hs) zero k = h
+  at-each d (x ∷ l) (h, hs) (suc i) k = at-each d l hs i (omega (arith, k))
 
   -- what holds of an item inside
   pub each-inside : (k : List A) (x : A) (l : List A) → Each P (k ++ (x ∷ l)) → P x

@@ -6,11 +6,10 @@ use mathlib.Core.List.{List, [], _∷_}
 use native.Mathlib.Omega.{arith}
 use Rattle.lists.specs.Sums.{sumOf}
 use Rattle.layout.specs.Marks.{Each}
-use Rattle.layout.specs.Tasks.{weightsOf, startsFrom, predsOf}
+use Rattle.layout.specs.Tasks.{task, weightsOf, startsFrom, predsOf, tables}
 use Rattle.layout.specs.Layout.{Spells}
 use Rattle.layout.specs.Reader.{lines, trim, skipped, fields, digits, valueOf, rowOf, taskOf, contents, tasksFrom, Verdict, spelled, broken, over, verdict}
 use Rattle.layout.specs.Tables.{Beyond}
-use Rattle.layout.proofs.Tables.{task, tables}
 use Rattle.layout.proofs.Accepted.{spells-verdict}
 
 -- "2␊0 0 0␊1 5 1 0␊2 3 1 0␊3 0 2 1 2␊"

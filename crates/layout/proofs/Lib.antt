@@ -1,7 +1,9 @@
 pub mod Each
+pub mod Digits
 pub mod Pieces
 pub mod Clauses
 pub mod Tables
+pub mod Tabled
 pub mod Lines
 pub mod Fields
 pub mod Contents
@@ -23,4 +25,10 @@ pub mod Numbers
 pub mod TaskLaws
 pub mod TableLaws
 pub mod Texts
+pub mod Plain
+pub mod Saved
 pub mod Examples
+pub mod Sizes
+pub mod Writer
+pub mod RoundTrip
+pub mod Saves

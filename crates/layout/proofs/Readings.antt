@@ -11,11 +11,11 @@ use Rattle.task.specs.Refusals.{refused, graphRead, readSays}
 use Rattle.task.specs.Rows.{Acceptance}
 use Rattle.task.specs.declared.ReadAnswer.{ReadAnswer}
 use Rattle.task.specs.declared.ReadAnswer.the-variants.{Refused, Accepted}
-use Rattle.layout.specs.Tasks.{Tables}
+use Rattle.layout.specs.Tasks.{Tables, tables}
 use Rattle.layout.specs.Layout.{Spells}
 use Rattle.layout.specs.Reader.{broken, over, verdict, Read, readAs, onto, readText}
 use Rattle.layout.specs.Tables.{LentWrong, Lent, Within, Written, Accepts, Leaves}
-use Rattle.layout.proofs.Tables.{tables, weights-length, starts-length}
+use Rattle.layout.proofs.Tables.{weights-length, starts-length}
 use Rattle.layout.proofs.Answers.{Answered, wrong-length, too-long, as-judged, answered, lent-right, lent-judged, laid-broken, laid-over}
 use Rattle.layout.proofs.Accepted.{ReadAs, read-spelled, read-accepted}
 use Rattle.layout.proofs.Refusals.{refused-same}

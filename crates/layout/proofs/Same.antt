@@ -10,11 +10,11 @@ use lib.Seq.{ext-getD}
 use Rattle.lists.proofs.Apart.{unequal, cons-not-nil}
 use Rattle.graph.specs.Graph.{part}
 use Rattle.layout.specs.Marks.{Line, Numbers}
-use Rattle.layout.specs.Tasks.{Task, emptyTask, weightsOf, Tables, tablesOf}
+use Rattle.layout.specs.Tasks.{Task, task, emptyTask, weightsOf, Tables, tablesOf}
 use Rattle.layout.specs.Layout.{Reads, Content, taskRows, Job, Spells}
 use Rattle.layout.specs.Alike.{SameFields, SameCut, SameLines, no-lines, skip-left, skip-right, both, Alike}
 use Rattle.layout.specs.Reader.{fields, valueOf, push, numbersOf, rowOf}
-use Rattle.layout.proofs.Tables.{task, weights-length, weight-at, part-at}
+use Rattle.layout.proofs.Tables.{weights-length, weight-at, part-at}
 use Rattle.layout.proofs.Fields.{cut-fields, number-yes, reads-row}
 use Rattle.layout.proofs.Decimals.{same-number}
 
@@ -103,17 +103,18 @@ same-lines (c ∷ ls) (d ∷ ms) (row ∷ rows) (inr (n, r, h)) (inr (m, q, k)) 
 
 -- Texts.
 
+-- the rows can be told from the graph
+pub same-rows : (text other : List ℕ) (g : Tables) (s : Spells text g) (r : Spells other g) → s .keeps .rows ≡ r .keeps .rows
+same-rows text other g s r = job-rows (s .keeps .rows) (r .keeps .rows) (s .tasks) (r .tasks) (s .keeps .job) (r .keeps .job) tasks
+  where
+    tasks : s .tasks ≡ r .tasks
+    tasks = tables-unique (s .tasks) (r .tasks) (sym (s .tables) ∙ r .tables)
+
 pub same-alike : (text other : List ℕ) (g : Tables) → Spells text g → Spells other g → Alike text other
 same-alike text other g s r = record {
   left = s .lines;
   right = r .lines;
   lines-left = s .parted;
   lines-right = r .parted;
-  same = same-lines (s .lines) (r .lines) (r .keeps .rows) (rw rows at (s .keeps .content)) (r .keeps .content);
+  same = same-lines (s .lines) (r .lines) (r .keeps .rows) (rw (same-rows text other g s r) at (s .keeps .content)) (r .keeps .content);
 }
-  where
-    tasks : s .tasks ≡ r .tasks
-    tasks = tables-unique (s .tasks) (r .tasks) (sym (s .tables) ∙ r .tables)
-
-    rows : s .keeps .rows ≡ r .keeps .rows
-    rows = job-rows (s .keeps .rows) (r .keeps .rows) (s .tasks) (r .tasks) (s .keeps .job) (r .keeps .job) tasks

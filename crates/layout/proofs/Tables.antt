@@ -8,13 +8,7 @@ use lib.ListN.{length, getD, take, drop, length-append}
 use lib.Seq.{take-append-seam}
 use Rattle.lists.proofs.Appends.{drop-behind}
 use Rattle.graph.specs.Graph.{part}
-use Rattle.layout.specs.Tasks.{Task, emptyTask, weightsOf, startsFrom, startsOf, predsOf, edgesOf, Tables}
-
-abbrev pub task : ℕ → List ℕ → Task
-task time preds = record { time = time; preds = preds }
-
-abbrev pub tables : List ℕ → List ℕ → List ℕ → Tables
-tables weights starts preds = record { weights = weights; starts = starts; preds = preds }
+use Rattle.layout.specs.Tasks.{Task, emptyTask, weightsOf, startsFrom, startsOf, predsOf, edgesOf}
 
 -- Lengths.
 

@@ -17,7 +17,7 @@ use Rattle.lists.proofs.Decided.{stable}
 use Rattle.lists.proofs.Told.{and-true}
 use Rattle.lists.proofs.Prefixes.{take-store}
 use Rattle.layout.specs.Marks.{Numbers}
-use Rattle.layout.specs.Tasks.{Task}
+use Rattle.layout.specs.Tasks.{Task, task}
 use Rattle.layout.specs.Layout.{taskRow}
 use Rattle.layout.specs.Reader.{lines, skippable, skipped, rowOf, dummyFits, taskOf, contents}
 use Rattle.layout.specs.Scan.{lineAt, rowAt, restAt, prepend, NoField, Trimmed, NextLine}
@@ -25,7 +25,6 @@ use Rattle.layout.specs.Scan.{NumbersAt, Found, found, missing, Closes, 
 use Rattle.layout.specs.Scan.{NextContent, content, no-content, Filling, Filled, filled, too-few, Head, HeadFound, head, no-head, FirstFound, first, not-first}
 use Rattle.layout.proofs.Pieces.{lines-nil, row-trim, skipped-is}
 use Rattle.layout.proofs.Clauses.{Fitting, task-some, task-none, contents-nil, contents-skip, contents-line}
-use Rattle.layout.proofs.Tables.{task}
 use Rattle.layout.proofs.Places.{lines-at, next-later, end-line}
 
 -- Numbers in front of a row.

@@ -13,7 +13,8 @@ use Rattle.layout.proofs.Each.{each-append, each-map}
 use Rattle.layout.proofs.Lines.{joinLines, lines-joined}
 use Rattle.layout.proofs.Begins.{HasLine, row-lines}
 
-rows-have : (t : ℕ) (xs : List Task) → t + length xs ≤ 65536 → Each (λ x. x .time ≤ 65535) xs → Each (λ x. length (x .preds) ≤ 65535) xs
+-- the rows of tasks whose numbers fields can have
+pub rows-have : (t : ℕ) (xs : List Task) → t + length xs ≤ 65536 → Each (λ x. x .time ≤ 65535) xs → Each (λ x. length (x .preds) ≤ 65535) xs
     → Each (λ x. Each (λ v. v ≤ 65535) (x .preds)) xs → Each HasLine (taskRows t xs)
 rows-have t [] h times counts preds = tt
 rows-have t (x ∷ xs) h (a, times) (b, counts) (c, preds) = ((omega arith, (a, (b, c))), rows-have (suc t) xs (omega arith) times counts preds)
@@ -96,23 +97,23 @@ spelled-writable text g sp = (j .n, sp .tasks, writable, sp .tables)
 -- Bytes.
 
 -- a tab, a space or a digit
-abbrev Plain : ℕ → Type 0
-Plain b = (b ≡ 9) ⊎ ((b ≡ 32) ⊎ ((48 ≤ b) × (b ≤ 57)))
+abbrev Readable : ℕ → Type 0
+Readable b = (b ≡ 9) ⊎ ((b ≡ 32) ⊎ ((48 ≤ b) × (b ≤ 57)))
 
-plain-blank : (b : ℕ) → Blank b → Plain b
-plain-blank b (inl e) = inr (inl e)
-plain-blank b (inr e) = inl e
+readable-blank : (b : ℕ) → Blank b → Readable b
+readable-blank b (inl e) = inr (inl e)
+readable-blank b (inr e) = inl e
 
-plain-digit : (b : ℕ) → Digit b → Plain b
-plain-digit b d = inr (inr d)
+readable-digit : (b : ℕ) → Digit b → Readable b
+readable-digit b d = inr (inr d)
 
 -- bytes other than these are in no line that is read
 pub read-bytes : (c : Line) (row : Numbers) → Reads c row → Each (λ b. (b ≡ 9) ⊎ ((b ≡ 32) ⊎ ((48 ≤ b) × (b ≤ 57)))) c
-read-bytes c [] h = each-map plain-blank c h
+read-bytes c [] h = each-map readable-blank c h
 read-bytes c (v ∷ row) (rest, f, h) =
-    subst (Each Plain) (sym (f .whole))
-    (each-append Plain (f .before) (f .field ++ rest) (each-map plain-blank (f .before) (f .blanks))
-    (each-append Plain (f .field) rest (each-map plain-digit (f .field) (f .number .digits)) (read-bytes rest row h)))
+    subst (Each Readable) (sym (f .whole))
+    (each-append Readable (f .before) (f .field ++ rest) (each-map readable-blank (f .before) (f .blanks))
+    (each-append Readable (f .field) rest (each-map readable-digit (f .field) (f .number .digits)) (read-bytes rest row h)))
 
 -- a tab or a space
 abbrev White : ℕ → Type 0

@@ -4,9 +4,8 @@ use mathlib.Core.Path.{_≡_, refl, sym, ap, _∙_}
 use mathlib.Core.List.{List, [], _∷_}
 use Rattle.lists.proofs.Apart.{cons-not-nil}
 use Rattle.layout.specs.Marks.{Line, Numbers}
-use Rattle.layout.specs.Tasks.{Task, Tables, tablesOf}
+use Rattle.layout.specs.Tasks.{Task, task, Tables, tablesOf}
 use Rattle.layout.specs.Layout.{Lines, taskRow, taskRows, Job, Keeps, Spells}
-use Rattle.layout.proofs.Tables.{task}
 use Rattle.layout.proofs.Lines.{lines-same}
 use Rattle.layout.proofs.Contents.{content-unique}
 

@@ -1,7 +1,10 @@
 pub mod Marks
 pub mod Tasks
+pub mod Digits
 pub mod Layout
+pub mod Plain
 pub mod Alike
 pub mod Reader
+pub mod Writer
 pub mod Scan
 pub mod Tables

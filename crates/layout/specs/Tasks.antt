@@ -8,9 +8,12 @@ pub record Task : Type 0 where
   pub time : ℕ
   pub preds : List ℕ
 
+abbrev pub task : ℕ → List ℕ → Task
+task time preds = record { time = time; preds = preds }
+
 -- time 0 and no predecessors
 abbrev pub emptyTask : Task
-emptyTask = record { time = 0; preds = [] }
+emptyTask = task 0 []
 
 -- "Weights N"
 unfoldable pub weightsOf : List Task → List ℕ
@@ -38,5 +41,8 @@ pub record Tables : Type 0 where
   pub starts : List ℕ
   pub preds : List ℕ
 
+abbrev pub tables : List ℕ → List ℕ → List ℕ → Tables
+tables weights starts preds = record { weights = weights; starts = starts; preds = preds }
+
 abbrev pub tablesOf : List Task → Tables
-tablesOf xs = record { weights = weightsOf xs; starts = startsOf xs; preds = predsOf xs }
+tablesOf xs = tables (weightsOf xs) (startsOf xs) (predsOf xs)
