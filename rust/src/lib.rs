@@ -1,9 +1,9 @@
-//! A model of the engine, written from document 01 and not from the proved code: its graph layer, its reader, begin and the
-//! four steps, and the desk program; and the generators of the trials.
+//! A model of the engine, written from documents 01 and 02 and not from the proved code: its graph layer, its reader and
+//! writer of texts, begin and the four steps, and the desk program; and the generators of the trials.
 //!
 //! `trials` lists the graphs from fixed seeds, `text` spells them as lines, and `model` says what each must answer.
 //! `texts` lists the task texts, `frames` frames them, and `reader` says what each must answer; `plain` is a reader as one
-//! would write it without proofs, to compare costs with.
+//! would write it without proofs, to compare costs with. `writer` says what saving a graph as a text must answer.
 //! `scripts` lists whole runs, `script` spells them as lines, and says by `engine` what each must answer.
 //! `runs` draws lists of calls over a lent `memory`, `damages` lists damaged words, `engine` says what each must answer, and
 //! `demand3` checks whole runs.
@@ -43,3 +43,4 @@ pub mod scripts;
 pub mod text;
 pub mod texts;
 pub mod trials;
+pub mod writer;
