@@ -1,8 +1,8 @@
 //! The interface of the engine's exports: the lent lists in document 01's order, each as pointer and length, then P, K and, for a
-//! step, the worker; and their replies.
+//! step, the worker; that of the writer's export; and their replies.
 
 use crate::memory::Outcome;
-use crate::model::Refusal;
+use crate::model::{Refusal, MAX_EDGES, MAX_TASKS};
 
 #[repr(C)]
 pub struct Reply {
@@ -18,6 +18,17 @@ pub struct StepReply {
     pub first: u32,
     pub second: u32,
 }
+
+#[repr(C)]
+pub struct WriteReply {
+    pub number: u32,
+    pub detail: u32,
+    pub used: u32,
+}
+
+/// The bytes that always suffice for a text, as the header has them: 5 for the first line; at most 16 for a task's number,
+/// time and count, each with the mark behind it; and 5 for a predecessor.
+pub const MAX_WRITTEN: usize = 5 + 16 * MAX_TASKS + 5 * MAX_EDGES;
 
 /// The answer of begin, of a call on a graph or of the judging call, as the model gives it.
 impl From<Reply> for Result<(), Refusal> {
@@ -56,6 +67,20 @@ impl From<StepReply> for Result<Outcome, Refusal> {
             (3, task, owner) => Outcome::Placed { task, owner },
             answer => panic!("{answer:?} is no answer of a step"),
         })
+    }
+}
+
+/// The writer's answer as the model gives it; refused, the bytes used have to be 0.
+impl From<WriteReply> for Result<u32, Refusal> {
+    #[inline]
+    fn from(reply: WriteReply) -> Self {
+        let WriteReply { number, detail, used } = reply;
+        if number != 0 {
+            assert_eq!(used, 0, "a refused save has used no bytes");
+            return Err(Refusal { number, detail });
+        }
+        assert_eq!(detail, 0, "an accepted save has detail 0");
+        Ok(used)
     }
 }
 
@@ -149,6 +174,28 @@ macro_rules! call {
     }};
 }
 
+/// Calls a writer's export on the three lists of a graph and a buffer.
+macro_rules! call_writer {
+    ($export:ident, $weights:expr, $starts:expr, $preds:expr, $text:expr) => {{
+        let (weights, starts, preds): (&[u32], &[u32], &[u32]) = ($weights, $starts, $preds);
+        let text: &mut [u8] = $text;
+        // each pointer and length is that of a list that lives through the call; the buffer is lent alone
+        unsafe {
+            $export(
+                weights.as_ptr(),
+                weights.len(),
+                starts.as_ptr(),
+                starts.len(),
+                preds.as_ptr(),
+                preds.len(),
+                text.as_mut_ptr(),
+                text.len(),
+            )
+        }
+    }};
+}
+
 pub(crate) use call;
+pub(crate) use call_writer;
 #[cfg(feature = "linked")]
 pub(crate) use declare;

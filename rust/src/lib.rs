@@ -3,13 +3,14 @@
 //!
 //! `trials` lists the graphs from fixed seeds, `text` spells them as lines, and `model` says what each must answer.
 //! `texts` lists the task texts, `frames` frames them, and `reader` says what each must answer; `plain` is a reader as one
-//! would write it without proofs, to compare costs with. `writer` says what saving a graph as a text must answer.
+//! would write it without proofs, to compare costs with. `writer` says what saving a graph as a text must answer,
+//! `saves` draws the graphs and compares, and `plain_writer` is the plain one.
 //! `scripts` lists whole runs, `script` spells them as lines, and says by `engine` what each must answer.
 //! `runs` draws lists of calls over a lent `memory`, `damages` lists damaged words, `engine` says what each must answer, and
 //! `demand3` checks whole runs.
 //! `plain_engine` is begin and the steps without proofs; `measured` has the runs that costs are compared on, and `beside`
 //! makes the calls of an engine beside the model's. `proved`, `proved_engine` and `ref_engine` call the proved
-//! code; `exports` is the interface of the engine's exports, and `plain_export` puts the plain engine behind it.
+//! code; `exports` is the interface of the exports, and `plain_export` puts the plain engine and writer behind it.
 //! `rule` and `refusals` make the tables that stand in the pages of `docs`, and `pages` puts them there.
 
 pub mod beside;
@@ -28,6 +29,7 @@ pub mod pages;
 pub mod plain;
 pub mod plain_engine;
 pub mod plain_export;
+pub mod plain_writer;
 #[cfg(feature = "linked")]
 pub mod proved;
 #[cfg(feature = "linked")]
@@ -38,6 +40,7 @@ pub mod ref_engine;
 pub mod refusals;
 pub mod rule;
 pub mod runs;
+pub mod saves;
 pub mod script;
 pub mod scripts;
 pub mod text;

@@ -1,8 +1,11 @@
-//! The runs that the engines are measured on: a random graph in layers, from a fixed seed, and the accepted steps of one run.
+//! The runs that the engines are measured on: a random graph in layers, from a fixed seed, and the accepted steps of one run;
+//! and the graphs that the writers are measured on.
 
 use crate::draw::Draw;
+use crate::frames::LENT;
 use crate::memory::{Memory, Step};
-use crate::model::{word, Table};
+use crate::model::{word, Graph, Table};
+use crate::plain;
 use crate::plain_engine::{self, Lent};
 use crate::runs::{Call, Case};
 
@@ -19,12 +22,46 @@ const MAX_WEIGHT: usize = 65_535;
 /// What the lists hold before begin, which has to write over it.
 const FILL: u32 = 0xfeed_beef;
 
+/// The graph with that many tasks, above 16.
+fn graph(tasks: usize) -> Graph {
+    let mut draw = Draw::new(SEED);
+    let preds = Table::of(&layers(&mut draw, tasks));
+    let weights = (0..tasks).map(|_| word(draw.between(0, MAX_WEIGHT))).collect();
+    Graph { weights, preds }
+}
+
 /// The lent memory of the graph with that many tasks, above 16, before begin.
 pub fn memory(tasks: usize, workers: usize) -> Memory {
-    let mut draw = Draw::new(SEED);
-    let table = Table::of(&layers(&mut draw, tasks));
-    let weights = (0..tasks).map(|_| word(draw.between(0, MAX_WEIGHT))).collect();
-    Memory::sized(weights, table.starts, table.words, workers, SLOTS, FILL)
+    let Graph { weights, preds } = graph(tasks);
+    Memory::sized(weights, preds.starts, preds.words, workers, SLOTS, FILL)
+}
+
+/// The same graph with the dummies of a text: its first task has no predecessors, and the last one may have some.
+pub fn saved(tasks: usize) -> Graph {
+    let mut graph = graph(tasks);
+    (graph.weights[0], graph.weights[tasks - 1]) = (0, 0);
+    graph
+}
+
+/// The graph of a measured text. Its predecessors are drawn and may stand twice in a task; here each stands once.
+pub fn saved_from(text: &[u8]) -> Graph {
+    let [mut weights, mut starts, mut preds] = LENT.map(|length| vec![0; length]);
+    let (tasks, _) = plain::read(text, &mut weights, &mut starts, &mut preds).expect("a measured text is valid");
+    weights.truncate(tasks as usize);
+    let once = |part: &[u32]| {
+        let mut list = Vec::new();
+        for &pred in &preds[part[0] as usize..part[1] as usize] {
+            if !list.contains(&pred) {
+                list.push(pred);
+            }
+        }
+        list
+    };
+    let lists: Vec<Vec<u32>> = starts[..=weights.len()].windows(2).map(once).collect();
+    Graph {
+        weights,
+        preds: Table::of(&lists),
+    }
 }
 
 /// Each task's predecessors: one from the layer before, the others from any layer before.

@@ -5,7 +5,7 @@
 //! Each step reads all its words before it writes one, so that a refused call writes nothing. The calls are inlined where they are
 //! made, so that one which is handed pointers and lengths need not store them as slices first.
 
-mod graph;
+pub(crate) mod graph;
 
 use crate::engine::Engine;
 use crate::memory::{

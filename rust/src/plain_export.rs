@@ -1,9 +1,10 @@
-//! The plain engine behind the interface of the proved one's exports, so that costs are compared alike.
+//! The plain engine and writer behind the interface of the proved ones' exports, so that costs are compared alike.
 
-use crate::exports::{call, Reply, StepReply};
+use crate::exports::{call, call_writer, Reply, StepReply, WriteReply};
 use crate::memory::{Outcome, Step, ROW_WORDS};
 use crate::model::Refusal;
 use crate::plain_engine::{self, Lent};
+use crate::plain_writer;
 use std::slice::{from_raw_parts, from_raw_parts_mut};
 
 impl From<Result<(), Refusal>> for Reply {
@@ -34,6 +35,17 @@ impl From<Result<Outcome, Refusal>> for StepReply {
             first,
             second,
         }
+    }
+}
+
+impl From<Result<u32, Refusal>> for WriteReply {
+    #[inline]
+    fn from(answer: Result<u32, Refusal>) -> WriteReply {
+        let (number, detail, used) = match answer {
+            Ok(used) => (0, 0, used),
+            Err(Refusal { number, detail }) => (number, detail, 0),
+        };
+        WriteReply { number, detail, used }
     }
 }
 
@@ -117,4 +129,32 @@ pub fn step(lent: &mut Lent, p: usize, k: usize, worker: u32, step: Step) -> Res
         Step::Release => call!(plain_release, lent, p, k, worker),
     };
     reply.into()
+}
+
+/// # Safety
+///
+/// Each pointer and length are those of a list that lives through the call; the text is lent alone.
+#[inline(never)]
+#[allow(clippy::too_many_arguments)]
+pub unsafe extern "C" fn plain_write_text(
+    weights: *const u32,
+    weights_len: usize,
+    starts: *const u32,
+    starts_len: usize,
+    preds: *const u32,
+    preds_len: usize,
+    text: *mut u8,
+    text_len: usize,
+) -> WriteReply {
+    let answer = plain_writer::write(
+        from_raw_parts(weights, weights_len),
+        from_raw_parts(starts, starts_len),
+        from_raw_parts(preds, preds_len),
+        from_raw_parts_mut(text, text_len),
+    );
+    answer.into()
+}
+
+pub fn write(weights: &[u32], starts: &[u32], preds: &[u32], text: &mut [u8]) -> Result<u32, Refusal> {
+    call_writer!(plain_write_text, weights, starts, preds, text).into()
 }

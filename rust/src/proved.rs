@@ -1,5 +1,6 @@
-//! The proved reader, called through its export.
+//! The proved reader and writer, called through their exports.
 
+use crate::exports::{call_writer, WriteReply};
 use crate::model::Refusal;
 
 #[repr(C)]
@@ -21,11 +22,22 @@ extern "C" {
         preds: *mut u32,
         preds_len: usize,
     ) -> ReadReply;
+
+    fn yolluvek_write_text(
+        weights: *const u32,
+        weights_len: usize,
+        starts: *const u32,
+        starts_len: usize,
+        preds: *const u32,
+        preds_len: usize,
+        text: *mut u8,
+        text_len: usize,
+    ) -> WriteReply;
 }
 
+// Each is inlined, so that a program that calls other exports alone needs no archive of these.
+
 /// The export's answer as the model gives it; refused, N and E have to be 0.
-///
-/// Inlined, so that a program that calls other exports alone needs no archive of this one.
 #[inline]
 pub fn read(text: &[u8], weights: &mut [u32], starts: &mut [u32], preds: &mut [u32]) -> Result<(u32, u32), Refusal> {
     // each pointer and length is that of a list that lives through the call; the three that are written are lent alone
@@ -52,4 +64,9 @@ pub fn read(text: &[u8], weights: &mut [u32], starts: &mut [u32], preds: &mut [u
             Err(Refusal { number, detail })
         }
     }
+}
+
+#[inline]
+pub fn write(weights: &[u32], starts: &[u32], preds: &[u32], text: &mut [u8]) -> Result<u32, Refusal> {
+    call_writer!(yolluvek_write_text, weights, starts, preds, text).into()
 }
