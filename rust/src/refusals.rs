@@ -7,6 +7,7 @@ use crate::pages::{table, Block};
 #[derive(Clone, Copy, Debug, PartialEq, Eq, PartialOrd, Ord)]
 pub enum Caller {
     Reader,
+    Writer,
     /// The graph check that begin makes, as a call of its own, with or without filling the successor table.
     Check,
     /// The lookup, through its judging call.
@@ -18,7 +19,7 @@ pub enum Caller {
     Release,
 }
 
-use Caller::{Begin, Check, Complete, Fetch, Lookup, Reader, Release, Start};
+use Caller::{Begin, Check, Complete, Fetch, Lookup, Reader, Release, Start, Writer};
 
 impl From<Step> for Caller {
     fn from(step: Step) -> Caller {
@@ -31,7 +32,7 @@ impl From<Step> for Caller {
     }
 }
 
-/// A row of document 01's table in short.
+/// A row of document 01's table in short, or one that joined it with document 02.
 pub struct Row {
     pub number: u32,
     pub meaning: &'static str,
@@ -40,30 +41,36 @@ pub struct Row {
 }
 
 const STEPS: &[Caller] = &[Fetch, Start, Complete, Release];
-const ALL: &[Caller] = &[Reader, Check, Lookup, Begin, Fetch, Start, Complete, Release];
+const ALL: &[Caller] = &[Reader, Writer, Check, Lookup, Begin, Fetch, Start, Complete, Release];
 
 /// "Order in begin: 2, 1, 3, 4, 5, 6. In a step: 2, 1, 7, phase word (8), 9; […] 8, 10, 11, 12 […]. In lookup: 2, 1, 3. In the
-/// reader: 1, text length, then line by line 13, or after it in that line 2".
-pub const ROWS: [Row; 13] = [
-    row(1, "a lent list has the wrong length", "0", ALL),
+/// reader: 1, text length, then line by line 13, or after it in that line 2". The writer "checks as begin does up to cycles
+/// first. Refused: 14, after 5, […]; a buffer too small is 1, last of all."
+pub const ROWS: [Row; 14] = [
+    row(
+        1,
+        "a lent list has the wrong length, or the writer's buffer is too small",
+        "0",
+        ALL,
+    ),
     row(2, "a size, a weight or the text is beyond its limit", "0", ALL),
     row(
         3,
         "a bad start or task number in a table",
         "the smallest bad task, or N; lookup: the task",
-        &[Check, Lookup, Begin],
+        &[Check, Lookup, Begin, Writer],
     ),
     row(
         4,
         "a predecessor stands twice in one task",
         "the smallest such task",
-        &[Check, Begin],
+        &[Check, Begin, Writer],
     ),
     row(
         5,
         "the tasks form a cycle",
         "the smallest task on a cycle",
-        &[Check, Begin],
+        &[Check, Begin, Writer],
     ),
     row(6, "too many roots for the rings", "the number of roots", &[Begin]),
     row(7, "no such worker", "the number handed in", STEPS),
@@ -73,6 +80,7 @@ pub const ROWS: [Row; 13] = [
     row(11, "no room for the released task", "the task", &[Release]),
     row(12, "the record is full", "0", &[Complete]),
     row(13, "the text breaks the layout", "the line, from 1", &[Reader]),
+    row(14, "the tables lack a text's dummies", "0", &[Writer]),
 ];
 
 const fn row(number: u32, meaning: &'static str, detail: &'static str, callers: &'static [Caller]) -> Row {
@@ -118,6 +126,7 @@ impl Caller {
     fn name(self) -> &'static str {
         match self {
             Reader => "reader",
+            Writer => "writer",
             Check => "graph check",
             Lookup => "lookup",
             Begin => "begin",

@@ -1,6 +1,7 @@
 //! docs/REFUSALS.md: the calls that it names for a number answer it, and no others do.
 
 use engine_model::engine::MODEL;
+use engine_model::exports::MAX_WRITTEN;
 use engine_model::frames;
 use engine_model::model::{check, link, Answer, Lent};
 use engine_model::pages;
@@ -8,7 +9,7 @@ use engine_model::reader;
 use engine_model::refusals::{Caller, ROWS};
 use engine_model::runs::{next_case, Call, Case, Reply};
 use engine_model::text::{GraphTrial, LookupTrial, Trial};
-use engine_model::{texts, trials};
+use engine_model::{saves, texts, trials, writer};
 use std::collections::BTreeSet;
 
 type Answered = BTreeSet<(u32, Caller)>;
@@ -22,6 +23,16 @@ fn read_texts(answered: &mut Answered) {
         let [mut weights, mut starts, mut preds] = trial.lent.map(|length| vec![0; length]);
         let answer = reader::read(&trial.text, &mut weights, &mut starts, &mut preds);
         note(answered, Caller::Reader, answer.map(|_| ()));
+    }
+}
+
+fn save_graphs(answered: &mut Answered) {
+    for graph in (1..400).map(saves::drawn) {
+        for length in [0, MAX_WRITTEN] {
+            let (starts, preds) = (&graph.preds.starts, &graph.preds.words);
+            let answer = writer::write(&graph.weights, starts, preds, &mut vec![0; length]);
+            note(answered, Caller::Writer, answer.map(|_| ()));
+        }
     }
 }
 
@@ -78,14 +89,15 @@ fn every_number_is_explained() {
 #[test]
 fn the_rows_are_numbered() {
     let numbers: Vec<u32> = ROWS.iter().map(|row| row.number).collect();
-    assert_eq!(numbers, (1..=13).collect::<Vec<u32>>());
+    assert_eq!(numbers, (1..=14).collect::<Vec<u32>>());
 }
 
-/// Each number by each call that is named for it, and by no other, in the stored texts and graphs and in drawn runs.
+/// Each number by each call that is named for it, and by no other, in the stored texts and graphs, in drawn saves and runs.
 #[test]
 fn the_calls_named_for_a_number_are_those_that_answer_it() {
     let mut answered = Answered::new();
     read_texts(&mut answered);
+    save_graphs(&mut answered);
     check_graphs_and_look_up(&mut answered);
     run(&mut answered, (0..1_600).map(next_case));
     let named = ROWS
