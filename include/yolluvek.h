@@ -6,13 +6,14 @@
  *
  * A run: fill the weights and the predecessor table, by yolluvek_read_text or otherwise; call yolluvek_begin; let each
  * worker take steps, by yolluvek_fetch, _start, _complete and _release, until run[0] is the number of tasks. Then
- * `executed` is the record: task and worker, in the order of completion. examples/diamond.c is a whole program.
+ * `executed` is the record: task and worker, in the order of completion. examples/diamond.c is a whole program. At any
+ * time yolluvek_write_text saves the graph as a text.
  * docs/RULE.md says which worker a released task goes to, docs/REFUSALS.md what to do about each refusal.
  * yolluvek_job.h has the same calls on a job in one block of memory, with a few arguments instead of all the lists.
  *
  * Link libyolluvek.a, which `make install` installs (x86-64 Linux), or the archives that it is merged from:
  * libgraph_export.a, libstg_export.a and libengine_export.a, which `rt staticlib` writes to target/staticlib. Of these
- * the last has begin and the steps, the second the reader, the first the other calls.
+ * the last has begin and the steps, the second the reader and the writer, the first the other calls.
  *
  * What is assumed of the pointers:
  *   - each is aligned and good for as many elements as the length after it says; an empty list may have any pointer
@@ -38,11 +39,14 @@ extern "C" {
 /* Limits: beyond them a call is refused with 2. */
 #define YOLLUVEK_MAX_TASKS 1024   /* N at most; in a text n is 2 less, for its two dummies */
 #define YOLLUVEK_MAX_EDGES 8192   /* E at most */
-#define YOLLUVEK_MAX_WEIGHT 65535 /* a weight at most, judged by the check and by begin */
+#define YOLLUVEK_MAX_WEIGHT 65535 /* a weight at most, judged by the check, the writer and begin */
 #define YOLLUVEK_MAX_WORKERS 16   /* P at most, at least 1 */
 #define YOLLUVEK_MIN_SLOTS 2      /* K at least */
 #define YOLLUVEK_MAX_SLOTS 64     /* K at most */
 #define YOLLUVEK_MAX_TEXT 65536   /* bytes of a text at most */
+
+/* Bytes of a buffer that always suffice for the writer's text: no text that it writes is longer. */
+#define YOLLUVEK_MAX_WRITTEN 57349
 
 /* The held task of a worker whose hand is empty. */
 #define YOLLUVEK_NIL 65535
@@ -54,7 +58,7 @@ extern "C" {
 enum {
     YOLLUVEK_ACCEPTED = 0,
 
-    /* a lent list has the wrong length */
+    /* a lent list has the wrong length, or the writer's buffer is too small */
     YOLLUVEK_WRONG_LENGTH = 1,
 
     /* a size, a weight or the text is beyond its limit */
@@ -92,7 +96,10 @@ enum {
     YOLLUVEK_RECORD_FULL = 12,
 
     /* the text breaks the layout; detail: the line, from 1 */
-    YOLLUVEK_BAD_LAYOUT = 13
+    YOLLUVEK_BAD_LAYOUT = 13,
+
+    /* the tables lack a text's dummies: N is under 2, task 0 has weight or predecessors, or the last task has weight */
+    YOLLUVEK_NO_DUMMIES = 14
 };
 
 /* What the check, begin and the judging call answer. */
@@ -108,6 +115,13 @@ typedef struct {
     uint32_t tasks; /* N; 0 of a refused text */
     uint32_t edges; /* E; 0 of a refused text */
 } yolluvek_read_reply;
+
+/* What the writer answers. */
+typedef struct {
+    uint32_t number;
+    uint32_t detail;
+    uint32_t used; /* the bytes of the text; 0 where it is refused */
+} yolluvek_write_reply;
 
 /* What a step answers. */
 typedef struct {
@@ -161,6 +175,22 @@ yolluvek_read_reply yolluvek_read_text(
     uint32_t *weights, size_t weights_len,
     uint32_t *starts, size_t starts_len,
     uint32_t *preds, size_t preds_len);
+
+/*
+ * Saves a graph as a text of the Standard Task Graph Set, for other schedulers; yolluvek_read_text reads it to the same
+ * tables again. It has single spaces between fields, LF after every line, no leading zeros, no comments, predecessors
+ * in the table's order, and no 0 byte behind it. Accepted, the first `used` bytes of `text` are written, and no other.
+ * The three lists are only read, so a run may go on with them.
+ *
+ * Lengths: weights N, starts N + 1, preds E. That of `text` is the one length that isn't exact: at least the text's. A
+ * shorter one is refused with 1, which doesn't tell the size; YOLLUVEK_MAX_WRITTEN bytes always suffice.
+ * Refused: 2, 1 for the starts, 3, 4, 5, 14, and last 1 for `text`, the first in this order.
+ */
+yolluvek_write_reply yolluvek_write_text(
+    const uint32_t *weights, size_t weights_len,
+    const uint32_t *starts, size_t starts_len,
+    const uint32_t *preds, size_t preds_len,
+    uint8_t *text, size_t text_len);
 
 /*
  * Checks a graph, as begin does. `most_tasks` and `most_edges` are the caller's limits on N and E, not N and E, which
@@ -353,6 +383,9 @@ YOLLUVEK_ASSERT(sizeof(yolluvek_read_reply) == 16);
 YOLLUVEK_ASSERT(offsetof(yolluvek_read_reply, detail) == 4);
 YOLLUVEK_ASSERT(offsetof(yolluvek_read_reply, tasks) == 8);
 YOLLUVEK_ASSERT(offsetof(yolluvek_read_reply, edges) == 12);
+YOLLUVEK_ASSERT(sizeof(yolluvek_write_reply) == 12);
+YOLLUVEK_ASSERT(offsetof(yolluvek_write_reply, detail) == 4);
+YOLLUVEK_ASSERT(offsetof(yolluvek_write_reply, used) == 8);
 YOLLUVEK_ASSERT(sizeof(yolluvek_step_reply) == 20);
 YOLLUVEK_ASSERT(offsetof(yolluvek_step_reply, detail) == 4);
 YOLLUVEK_ASSERT(offsetof(yolluvek_step_reply, kind) == 8);

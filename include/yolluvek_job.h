@@ -184,6 +184,32 @@ static inline yolluvek_read_reply yolluvek_tables_read(yolluvek_tables *tables, 
     return reply;
 }
 
+/* A refused save, without a detail. */
+static inline yolluvek_write_reply yolluvek_not_written(uint32_t number)
+{
+    yolluvek_write_reply reply;
+    reply.number = number;
+    reply.detail = 0;
+    reply.used = 0;
+    return reply;
+}
+
+/*
+ * Saves the tables as a text into `length` bytes, of which YOLLUVEK_MAX_WRITTEN always suffice; refused as by
+ * yolluvek_write_text, it leaves every byte. A buffer of no bytes may be NULL.
+ */
+static inline yolluvek_write_reply yolluvek_tables_to_text(const yolluvek_tables *tables, void *text, size_t length)
+{
+    uint8_t none;
+    size_t n = tables->tasks, e = tables->edges;
+    if (n > YOLLUVEK_MAX_TASKS || e > YOLLUVEK_MAX_EDGES) {
+        return yolluvek_not_written(YOLLUVEK_BEYOND_LIMIT);
+    }
+    return yolluvek_write_text(
+        tables->weights, n, tables->pred_starts, n + 1, tables->preds, e,
+        length == 0 ? &none : (uint8_t *)text, length);
+}
+
 /* Makes a job, and fills its weights and predecessor table. Refused as yolluvek_job_make is. */
 static inline yolluvek_reply yolluvek_job_from_tables(
     yolluvek_job *job, uint32_t *block, size_t words, const yolluvek_tables *tables, size_t p, size_t k)
@@ -261,6 +287,18 @@ static inline yolluvek_step_reply yolluvek_job_release(yolluvek_job *job, uint32
 
 #undef YOLLUVEK_LENT
 
+/*
+ * Saves the job's graph as a text, as yolluvek_tables_to_text does, before begin, in a run or after it. The text has
+ * the graph alone: a run is saved by its block.
+ */
+static inline yolluvek_write_reply yolluvek_job_to_text(const yolluvek_job *job, void *text, size_t length)
+{
+    uint8_t none;
+    return yolluvek_write_text(
+        job->weights, job->n, job->pred_starts, job->n + 1, job->preds, job->e,
+        length == 0 ? &none : (uint8_t *)text, length);
+}
+
 /* 1 where the job is begun and every task is recorded, else 0. */
 static inline int yolluvek_job_finished(const yolluvek_job *job)
 {
@@ -272,7 +310,7 @@ static inline const char *yolluvek_means(uint32_t number)
 {
     switch (number) {
     case YOLLUVEK_ACCEPTED: return "accepted";
-    case YOLLUVEK_WRONG_LENGTH: return "a lent list has the wrong length";
+    case YOLLUVEK_WRONG_LENGTH: return "a lent list has the wrong length, or the writer's buffer is too small";
     case YOLLUVEK_BEYOND_LIMIT: return "a size, a weight or the text is beyond its limit";
     case YOLLUVEK_BAD_TABLE: return "a bad start or task number in a table";
     case YOLLUVEK_PREDECESSOR_TWICE: return "a predecessor stands twice in one task";
@@ -285,6 +323,7 @@ static inline const char *yolluvek_means(uint32_t number)
     case YOLLUVEK_NO_ROOM: return "no room for the released task";
     case YOLLUVEK_RECORD_FULL: return "the record is full";
     case YOLLUVEK_BAD_LAYOUT: return "the text breaks the layout";
+    case YOLLUVEK_NO_DUMMIES: return "the tables lack a text's dummies";
     default: return "a number that this header doesn't know";
     }
 }
@@ -320,6 +359,8 @@ static inline const char *yolluvek_advice(uint32_t number)
         return "look in that line for a wrong number of fields, a task number out of turn, a number of more than five "
                "digits or over 65,535, a mark other than digits, spaces and tabs, a time at the first or last task, "
                "a predecessor at task 0, or a line after the last task.";
+    case YOLLUVEK_NO_DUMMIES:
+        return "put a task without weight and predecessors first, and one without weight last.";
     /* 1, 8 and 12 are faults of the host, as are numbers that the page doesn't have */
     default:
         return "report it.";

@@ -1,6 +1,6 @@
 /*
  * include/yolluvek_job.h tried: sizes and places, document 01's examples of refusals with the whole block compared
- * before and after, jobs without tasks or edges, whole runs, saving and going on.
+ * before and after, jobs without tasks or edges, whole runs, saving and going on, jobs saved as texts.
  */
 #include "check.h"
 #include "yolluvek.h"
@@ -16,7 +16,17 @@ static yolluvek_read_reply read_text_checked(
     return yolluvek_read_text(text, text_len, weights, weights_len, starts, starts_len, preds, preds_len);
 }
 
+/* The writer likewise: also where the host's buffer has no bytes. */
+static yolluvek_write_reply write_text_checked(
+    const uint32_t *weights, size_t weights_len, const uint32_t *starts, size_t starts_len,
+    const uint32_t *preds, size_t preds_len, uint8_t *text, size_t text_len)
+{
+    CHECK(weights != NULL && starts != NULL && preds != NULL && text != NULL);
+    return yolluvek_write_text(weights, weights_len, starts, starts_len, preds, preds_len, text, text_len);
+}
+
 #define yolluvek_read_text read_text_checked
+#define yolluvek_write_text write_text_checked
 #include "yolluvek_job.h"
 
 typedef yolluvek_step_reply (*step_call)(yolluvek_job *, uint32_t);
@@ -666,6 +676,184 @@ static void opens_refused(void)
     free(job.block);
 }
 
+/* ---- saving as a text ---- */
+
+static char saved[70000];
+
+/* Refused by the job's helper with a buffer of this length: every byte of it and of the block stays. */
+static void save_refused(const yolluvek_job *job, size_t length, uint32_t number, uint32_t detail)
+{
+    uint32_t *before = copied(job);
+    yolluvek_write_reply reply;
+    size_t place;
+    memset(saved, 0x5A, sizeof saved);
+    reply = yolluvek_job_to_text(job, length == 0 ? NULL : saved, length);
+    CHECK(reply.number == number && reply.detail == detail && reply.used == 0);
+    for (place = 0; place < sizeof saved; place++) {
+        CHECK(saved[place] == 0x5A);
+    }
+    CHECK(unchanged(job, before));
+    free(before);
+}
+
+/* Saved as this text with a buffer of this length; the bytes beyond stay, and the block does. */
+static void saves(const yolluvek_job *job, size_t length, const char *text)
+{
+    uint32_t *before = copied(job);
+    size_t used = strlen(text), place;
+    yolluvek_write_reply reply;
+    memset(saved, 0x5A, sizeof saved);
+    reply = yolluvek_job_to_text(job, saved, length);
+    CHECK(reply.number == YOLLUVEK_ACCEPTED && reply.detail == 0 && reply.used == used);
+    CHECK(memcmp(saved, text, used) == 0);
+    for (place = used; place < sizeof saved; place++) {
+        CHECK(saved[place] == 0x5A);
+    }
+    CHECK(unchanged(job, before));
+    free(before);
+}
+
+/* The diamond's five lines, 34 bytes, before begin, after every turn and at the end. */
+static void the_diamond_saved(void)
+{
+    yolluvek_job job = read_job(diamond, 2, 4);
+    uint32_t worker = 0;
+    CHECK(strlen(diamond) == 34);
+    saves(&job, 34, diamond);
+    saves(&job, 35, diamond);
+    saves(&job, YOLLUVEK_MAX_WRITTEN, diamond);
+    saves(&job, sizeof saved, diamond); /* over 65,536 bytes */
+    save_refused(&job, 33, YOLLUVEK_WRONG_LENGTH, 0);
+    save_refused(&job, 0, YOLLUVEK_WRONG_LENGTH, 0);
+    begins(&job);
+    while (!yolluvek_job_finished(&job)) {
+        saves(&job, 34, diamond);
+        take_turn(&job, worker);
+        worker = 1 - worker;
+    }
+    saves(&job, 34, diamond);
+    desk_lines(&job);
+    free(job.block);
+}
+
+/* 14 five ways, and begin's check before it; whatever the buffer. */
+static void saves_refused(void)
+{
+    static const uint32_t none[] = {0, 0, 0, 0}, one_edge[] = {0, 0, 1}, two[] = {2};
+    static const uint32_t first[] = {0, 1, 1, 1}, last[] = {2};
+    static const uint32_t twice[] = {1, 1}, twice_starts[] = {0, 0, 0, 0, 2};
+    static const uint32_t cycle[] = {2, 1}, cycle_starts[] = {0, 0, 1, 2};
+    static const size_t lengths[] = {0, 10, YOLLUVEK_MAX_WRITTEN};
+    size_t place;
+    for (place = 0; place < 3; place++) {
+        size_t length = lengths[place];
+        yolluvek_job job = made(0, 0, 2, 4, none, NULL);
+        save_refused(&job, length, YOLLUVEK_NO_DUMMIES, 0); /* N 0 */
+        free(job.block);
+        job = made(1, 0, 2, 4, none, NULL);
+        job.weights[0] = 0;
+        save_refused(&job, length, YOLLUVEK_NO_DUMMIES, 0); /* N 1 */
+        free(job.block);
+        job = made(3, 1, 2, 4, first, last);
+        job.weights[0] = 0;
+        job.weights[2] = 0;
+        save_refused(&job, length, YOLLUVEK_NO_DUMMIES, 0); /* task 0 waits for task 2 */
+        job.pred_starts[1] = 0;
+        job.weights[0] = 1;
+        save_refused(&job, length, YOLLUVEK_NO_DUMMIES, 0); /* task 0 has weight */
+        job.weights[0] = 0;
+        job.weights[2] = 1;
+        save_refused(&job, length, YOLLUVEK_NO_DUMMIES, 0); /* the last task has weight */
+        job.weights[2] = 65536;
+        save_refused(&job, length, YOLLUVEK_BEYOND_LIMIT, 0);
+        job.weights[2] = 0;
+        job.pred_starts[3] = 0;
+        save_refused(&job, length, YOLLUVEK_BAD_TABLE, 2); /* the starts of task 2 fall */
+        job.pred_starts[3] = 1;
+        if (length > 10) {
+            saves(&job, length, "1\n0 0 0\n1 1 1 2\n2 0 0\n");
+        } else {
+            save_refused(&job, length, YOLLUVEK_WRONG_LENGTH, 0);
+        }
+        free(job.block);
+        job = made(2, 1, 2, 2, one_edge, two);
+        save_refused(&job, length, YOLLUVEK_BAD_TABLE, 1); /* N 2, predecessor 2 */
+        free(job.block);
+        job = made(4, 2, 2, 2, twice_starts, twice);
+        save_refused(&job, length, YOLLUVEK_PREDECESSOR_TWICE, 3); /* task 3: 1, 1 */
+        free(job.block);
+        job = made(3, 2, 2, 2, cycle_starts, cycle);
+        save_refused(&job, length, YOLLUVEK_CYCLE, 1); /* 1 after 2, 2 after 1 */
+        free(job.block);
+    }
+}
+
+/* Of the tables: what is saved is read to the same words again, and saved again it is the same text. */
+static void tables_saved(const char *text, size_t length)
+{
+    static yolluvek_tables before;
+    static char again[YOLLUVEK_MAX_WRITTEN];
+    yolluvek_write_reply reply;
+    size_t used;
+    memset(&tables, 0x5A, sizeof tables);
+    CHECK(yolluvek_tables_read(&tables, text, length).number == YOLLUVEK_ACCEPTED);
+    memcpy(&before, &tables, sizeof tables);
+    reply = yolluvek_tables_to_text(&tables, saved, sizeof saved);
+    CHECK(reply.number == YOLLUVEK_ACCEPTED && reply.detail == 0);
+    CHECK(reply.used > 0 && reply.used <= YOLLUVEK_MAX_WRITTEN);
+    used = reply.used;
+    CHECK(memcmp(&before, &tables, sizeof tables) == 0);
+    memset(&tables, 0x5A, sizeof tables);
+    CHECK(yolluvek_tables_read(&tables, saved, used).number == YOLLUVEK_ACCEPTED);
+    CHECK(memcmp(&before, &tables, sizeof tables) == 0);
+    reply = yolluvek_tables_to_text(&tables, again, used);
+    CHECK(reply.number == YOLLUVEK_ACCEPTED && reply.used == used);
+    CHECK(memcmp(saved, again, used) == 0);
+    reply = yolluvek_tables_to_text(&tables, again, used - 1);
+    CHECK(reply.number == YOLLUVEK_WRONG_LENGTH && reply.detail == 0 && reply.used == 0);
+    reply = yolluvek_tables_to_text(&tables, NULL, 0);
+    CHECK(reply.number == YOLLUVEK_WRONG_LENGTH && reply.detail == 0 && reply.used == 0);
+}
+
+/* Weights of five digits between the dummies; tasks 1 to 819 wait for tasks 1000 to 1009, the first for two more. */
+static void the_longest_saved(void)
+{
+    static char text[YOLLUVEK_MAX_WRITTEN + 1];
+    size_t end = (size_t)sprintf(text, "1022\n0 0 0\n");
+    int task, pred;
+    for (task = 1; task <= 1022; task++) {
+        int count = task == 1 ? 12 : task <= 819 ? 10 : 0;
+        end += (size_t)sprintf(text + end, "%d 65535 %d", task, count);
+        for (pred = 1000; pred < 1000 + count; pred++) {
+            end += (size_t)sprintf(text + end, " %d", pred);
+        }
+        text[end++] = '\n';
+    }
+    end += (size_t)sprintf(text + end, "1023 0 0\n");
+    CHECK(end == 53978);
+    tables_saved(text, end);
+    CHECK(memcmp(saved, text, end) == 0);
+}
+
+static void saved_texts(void)
+{
+    static const char spaced[] = "# a chain\r\n\r\n 1\t\r\n00 0 000\r\n\n01  007 1\t0\r\n#\n2 0 2 1 0";
+    static const char plain[] = "1\n0 0 0\n1 7 1 0\n2 0 2 1 0\n";
+    tables_saved(diamond, strlen(diamond));
+    CHECK(memcmp(saved, diamond, strlen(diamond)) == 0);
+    tables_saved(spaced, strlen(spaced));
+    CHECK(memcmp(saved, plain, strlen(plain)) == 0);
+    the_longest_saved();
+    /* sizes that the tables have no room for are refused before they are read */
+    tables.tasks = YOLLUVEK_MAX_TASKS + 1;
+    CHECK(yolluvek_tables_to_text(&tables, saved, sizeof saved).number == YOLLUVEK_BEYOND_LIMIT);
+    tables.tasks = UINT32_MAX;
+    CHECK(yolluvek_tables_to_text(&tables, NULL, 0).number == YOLLUVEK_BEYOND_LIMIT);
+    tables.tasks = 2;
+    tables.edges = YOLLUVEK_MAX_EDGES + 1;
+    CHECK(yolluvek_tables_to_text(&tables, saved, sizeof saved).number == YOLLUVEK_BEYOND_LIMIT);
+}
+
 static void version(void)
 {
     char joined[32];
@@ -691,6 +879,9 @@ int main(void)
     the_largest();
     save_and_go_on();
     opens_refused();
+    the_diamond_saved();
+    saves_refused();
+    saved_texts();
     version();
     return failures == 0 ? EXIT_SUCCESS : EXIT_FAILURE;
 }

@@ -45,6 +45,15 @@ pub(crate) struct ReadReply {
     pub edges: u32,
 }
 
+/// What the writer answers.
+#[derive(Clone, Copy, Debug, PartialEq, Eq)]
+#[repr(C)]
+pub(crate) struct WriteReply {
+    pub number: u32,
+    pub detail: u32,
+    pub used: u32,
+}
+
 /// Where a lookup's part stands in the table on the side named, and how many neighbours it has.
 #[derive(Clone, Copy, Debug, PartialEq, Eq)]
 #[repr(C)]
@@ -64,6 +73,17 @@ extern "C" {
         preds: *mut TaskId,
         preds_len: usize,
     ) -> ReadReply;
+
+    fn yolluvek_write_text(
+        weights: *const u32,
+        weights_len: usize,
+        starts: *const u32,
+        starts_len: usize,
+        preds: *const TaskId,
+        preds_len: usize,
+        text: *mut u8,
+        text_len: usize,
+    ) -> WriteReply;
 
     fn yolluvek_check_graph(
         most_tasks: usize,
@@ -90,6 +110,23 @@ pub(crate) fn read_text(text: &[u8], weights: &mut [u32], starts: &mut [u32], pr
             starts.len(),
             preds.as_mut_ptr(),
             preds.len(),
+        )
+    }
+}
+
+/// Saves a graph as a text into the buffer, whose bytes behind the text stay; a shorter one is refused with 1.
+pub(crate) fn write_text(weights: &[u32], starts: &[u32], preds: &[TaskId], text: &mut [u8]) -> WriteReply {
+    // SAFETY: good, apart, alone: four slices, the one that is written borrowed mutably; a TaskId is a word
+    unsafe {
+        yolluvek_write_text(
+            weights.as_ptr(),
+            weights.len(),
+            starts.as_ptr(),
+            starts.len(),
+            preds.as_ptr(),
+            preds.len(),
+            text.as_mut_ptr(),
+            text.len(),
         )
     }
 }

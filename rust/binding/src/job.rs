@@ -64,6 +64,7 @@ pub enum Side {
 /// | [`NoRoom`](Refusal::NoRoom) | Release | let a worker fetch, then release again |
 /// | [`NotBegun`](Refusal::NotBegun), [`NoSuccessorsYet`](Refusal::NoSuccessorsYet) | a step, a lookup | there was no accepted begin |
 /// | [`NoSuchTask`](Refusal::NoSuchTask), [`BadPart`](Refusal::BadPart) | a lookup | there is no such task, or its part of the table is bad |
+/// | [`NoDummies`](Refusal::NoDummies) | [`to_text`](Tables::to_text) of its [tables](Job::tables) | a text's first and last task are dummies, which this job lacks |
 /// | [`DamagedWord`](Refusal::DamagedWord), [`RecordFull`](Refusal::RecordFull), [`UnexpectedReply`](Refusal::UnexpectedReply), [`Unknown`](Refusal::Unknown) | no call | a job doesn't answer them |
 ///
 /// Where begin is refused with `BeyondLimit` or `WrongLength`, a step or a lookup may be too.

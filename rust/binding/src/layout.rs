@@ -1,6 +1,6 @@
 //! The declared layouts, held to the library: what it reads and writes in each word is what the field there says.
 
-use crate::ffi::{self, Part, ReadReply, Reply, StepReply};
+use crate::ffi::{self, Part, ReadReply, Reply, StepReply, WriteReply};
 use crate::ids::{TaskId, WorkerId};
 use crate::memory::{Entry, Memory, Row, Run};
 use crate::tables::Tables;
@@ -65,6 +65,7 @@ fn sizes_and_places() {
     assert_eq!((size_of::<Reply>(), align_of::<Reply>()), (8, 4));
     assert_eq!((size_of::<StepReply>(), align_of::<StepReply>()), (20, 4));
     assert_eq!((size_of::<ReadReply>(), align_of::<ReadReply>()), (16, 4));
+    assert_eq!((size_of::<WriteReply>(), align_of::<WriteReply>()), (12, 4));
     assert_eq!((size_of::<Part>(), align_of::<Part>()), (8, 4));
 
     let row = [
@@ -94,6 +95,12 @@ fn sizes_and_places() {
         offset_of!(ReadReply, edges),
     ];
     assert_eq!(read, [0, 4, 8, 12]);
+    let write = [
+        offset_of!(WriteReply, number),
+        offset_of!(WriteReply, detail),
+        offset_of!(WriteReply, used),
+    ];
+    assert_eq!(write, [0, 4, 8]);
     assert_eq!([offset_of!(Part, place), offset_of!(Part, count)], [0, 4]);
 }
 
@@ -244,4 +251,28 @@ fn replies_of_the_other_calls() {
     };
     assert_eq!(read(b"1\n0 0 0\n1 7 1 0\n2 0 1 1\n"), read_reply([0, 0, 3, 2]));
     assert_eq!(read(b"1\n0 0 0\n1 7 2 0\n2 0 1 1\n"), read_reply([13, 3, 0, 0]));
+}
+
+/// The diamond's five lines, 34 bytes; of a longer buffer the others stay.
+#[test]
+fn replies_of_the_writer() {
+    let Tables {
+        weights,
+        pred_starts,
+        preds,
+    } = diamond().tables;
+    let write = |weights: &[u32], preds: &[TaskId], bytes: usize| {
+        let mut text = vec![b'x'; bytes];
+        let WriteReply { number, detail, used } = ffi::write_text(weights, &pred_starts, preds, &mut text);
+        ([number, detail, used], text)
+    };
+    let text = b"2\n0 0 0\n1 5 1 0\n2 3 1 0\n3 0 2 1 2\n";
+    assert_eq!(write(&weights, &preds, 34), ([0, 0, 34], text.to_vec()));
+    assert_eq!(write(&weights, &preds, 36), ([0, 0, 34], [&text[..], b"xx"].concat()));
+    assert_eq!(write(&weights, &preds, 33), ([1, 0, 0], vec![b'x'; 33]));
+    assert_eq!(write(&weights, &preds, 0), ([1, 0, 0], vec![]));
+    // task 1 after itself; a last weight
+    let itself = [1, 0, 1, 2].map(TaskId::new);
+    assert_eq!(write(&weights, &itself, 34), ([5, 1, 0], vec![b'x'; 34]));
+    assert_eq!(write(&[0, 5, 3, 1], &preds, 34), ([14, 0, 0], vec![b'x'; 34]));
 }

@@ -3,7 +3,8 @@
 //! A [`Job`] owns a task graph and all the memory of its run. It is read from a text of the Standard Task Graph Set
 //! ([`Job::from_text`]) or made from tables ([`Job::from_tables`]), for a number of workers and of slots in each ring.
 //! [`Job::begin`] begins a run, and each call of [`Job::fetch`], [`Job::start`], [`Job::complete`] and [`Job::release`]
-//! is one step of one worker. `docs/RULE.md` says which worker a released task goes to, in words and with examples.
+//! is one step of one worker. `docs/RULE.md` says which worker a released task goes to, in words and with examples. For
+//! another scheduler the graph is saved as such a text again ([`Tables::to_text`]).
 //!
 //! # Example
 //!
@@ -70,6 +71,7 @@
 
 #![deny(missing_docs, unsafe_code)]
 
+mod dummies;
 #[allow(unsafe_code)]
 mod ffi;
 mod ids;
@@ -84,6 +86,7 @@ mod step;
 mod tables;
 mod views;
 
+pub use dummies::Lack;
 pub use ids::{TaskId, WorkerId};
 pub use job::{Job, Side};
 pub use memory::Entry;

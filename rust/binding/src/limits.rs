@@ -25,6 +25,9 @@ pub const MAX_SLOTS: usize = 64;
 /// Bytes of a text, at most.
 pub const MAX_TEXT: usize = 65_536;
 
+/// Bytes that always suffice for the text of a graph: no call is refused for a longer one.
+pub const MAX_WRITTEN: usize = 57_349;
+
 /// Which limit a call goes beyond, where the job, the tables or the text show it; the first of several.
 #[derive(Clone, Copy, Debug, PartialEq, Eq, Hash)]
 #[non_exhaustive]

@@ -1,5 +1,6 @@
 //! Why a call was refused.
 
+use crate::dummies::Lack;
 use crate::ids::{TaskId, WorkerId};
 use crate::job::Side;
 use crate::limits::Limit;
@@ -12,12 +13,12 @@ use std::fmt;
 ///
 /// | number | variants | answered by |
 /// |---|---|---|
-/// | 1 | [`WrongLength`](Refusal::WrongLength) | check, begin, steps, lookup |
+/// | 1 | [`WrongLength`](Refusal::WrongLength) | check, saving, begin, steps, lookup |
 /// | 2 | [`BeyondLimit`](Refusal::BeyondLimit) | every call |
-/// | 3 | [`BadPart`](Refusal::BadPart), [`BadEnds`](Refusal::BadEnds) | check, begin, lookup |
+/// | 3 | [`BadPart`](Refusal::BadPart), [`BadEnds`](Refusal::BadEnds) | check, saving, begin, lookup |
 /// | 3 | [`NoSuchTask`](Refusal::NoSuchTask), [`NoSuccessorsYet`](Refusal::NoSuccessorsYet) | lookup |
-/// | 4 | [`PredecessorTwice`](Refusal::PredecessorTwice) | check, begin |
-/// | 5 | [`Cycle`](Refusal::Cycle) | check, begin |
+/// | 4 | [`PredecessorTwice`](Refusal::PredecessorTwice) | check, saving, begin |
+/// | 5 | [`Cycle`](Refusal::Cycle) | check, saving, begin |
 /// | 6 | [`TooManyRoots`](Refusal::TooManyRoots) | begin |
 /// | 7 | [`NoSuchWorker`](Refusal::NoSuchWorker) | every step |
 /// | 8 | [`NotBegun`](Refusal::NotBegun) | a step before begin |
@@ -27,6 +28,7 @@ use std::fmt;
 /// | 11 | [`NoRoom`](Refusal::NoRoom) | Release |
 /// | 12 | [`RecordFull`](Refusal::RecordFull) | none |
 /// | 13 | [`BadLayout`](Refusal::BadLayout), [`TextEnds`](Refusal::TextEnds) | reading |
+/// | 14 | [`NoDummies`](Refusal::NoDummies) | saving |
 ///
 /// In a run, from an accepted begin on, 1, 2, 8 and 12 aren't answered: they would say that something else has written
 /// the job's memory. [`UnexpectedReply`](Refusal::UnexpectedReply) and [`Unknown`](Refusal::Unknown) aren't answered at
@@ -136,6 +138,12 @@ pub enum Refusal {
         /// The line that isn't there, counted from 1.
         line: u32,
     },
+    /// 14: the tables lack a text's dummies, its first and its last task. Put a task without weight and predecessors
+    /// first, and one without weight last.
+    NoDummies {
+        /// Why.
+        lack: Lack,
+    },
     /// No refusal: the library accepts the call, with a reply that this crate knows no meaning of, as another version of
     /// the library might. The number is 0, and the job may have changed.
     UnexpectedReply {
@@ -158,6 +166,9 @@ pub(crate) enum Asked<'a> {
         text: &'a [u8],
     },
     Check {
+        tables: &'a Tables,
+    },
+    Save {
         tables: &'a Tables,
     },
     Lookup {
@@ -197,7 +208,8 @@ impl Asked<'_> {
             (2, _) => Refusal::BeyondLimit { limit: self.limit() },
             (13, Asked::Text { text }) => layout_refused(text, detail),
             (_, Asked::Text { .. }) => return None,
-            (_, Asked::Check { tables }) => graph_refused(tables, number, detail)?,
+            (14, Asked::Save { tables }) => Refusal::NoDummies { lack: Lack::of(tables) },
+            (_, Asked::Check { tables } | Asked::Save { tables }) => graph_refused(tables, number, detail)?,
             (3, Asked::Lookup { side, tables, begun }) => lookup_refused(side, tables, begun, detail),
             (_, Asked::Lookup { .. }) => return None,
             (6, Asked::Begin { workers, slots, .. }) => Refusal::TooManyRoots {
@@ -220,7 +232,9 @@ impl Asked<'_> {
     fn limit(self) -> Limit {
         let found = match self {
             Asked::Text { text } => Some(Limit::of_text(text)),
-            Asked::Check { tables } => Limit::of_sizes(tables).or_else(|| Limit::of_weights(tables)),
+            Asked::Check { tables } | Asked::Save { tables } => {
+                Limit::of_sizes(tables).or_else(|| Limit::of_weights(tables))
+            }
             Asked::Lookup { tables, .. } => Limit::of_sizes(tables),
             Asked::Begin { tables, workers, slots } => Limit::of_sizes(tables)
                 .or_else(|| Limit::of_numbers(workers, slots))
@@ -244,7 +258,7 @@ fn layout_refused(text: &[u8], line: u32) -> Refusal {
     }
 }
 
-/// 3, 4 and 5 by the check and by begin.
+/// 3, 4 and 5 by the check, by saving and by begin.
 fn graph_refused(tables: &Tables, number: u32, detail: u32) -> Option<Refusal> {
     let task = TaskId::new(detail);
     let tasks = detail as usize;
@@ -314,6 +328,7 @@ impl Refusal {
             Refusal::NoRoom { .. } => 11,
             Refusal::RecordFull => 12,
             Refusal::BadLayout { .. } | Refusal::TextEnds { .. } => 13,
+            Refusal::NoDummies { .. } => 14,
             Refusal::Unknown { number, .. } => number,
         }
     }
@@ -328,7 +343,8 @@ impl Refusal {
             | Refusal::DamagedWord
             | Refusal::NothingToFetch
             | Refusal::NothingToRelease
-            | Refusal::RecordFull => 0,
+            | Refusal::RecordFull
+            | Refusal::NoDummies { .. } => 0,
             Refusal::BadPart { task }
             | Refusal::NoSuchTask { task, .. }
             | Refusal::NoSuccessorsYet { task }
@@ -388,6 +404,7 @@ const fn advice_on(number: u32) -> &'static str {
              digits or over 65,535, a mark other than digits, spaces and tabs, a time at the first or last task, a \
              predecessor at task 0, or a line after the last task."
         }
+        14 => "put a task without weight and predecessors first, and one without weight last.",
         // 1, 8 and 12 are faults of the host, as are numbers that the page doesn't have
         _ => "report it.",
     }
@@ -460,6 +477,7 @@ impl fmt::Display for Refusal {
             Refusal::RecordFull => to.write_str("the record is full: every task is recorded already"),
             Refusal::BadLayout { line } => write!(to, "the text breaks the layout in line {line}"),
             Refusal::TextEnds { line } => write!(to, "the text ends before line {line}"),
+            Refusal::NoDummies { lack } => lack.fmt(to),
             Refusal::UnexpectedReply { words } => {
                 write!(
                     to,
@@ -507,6 +525,7 @@ mod tests {
         let others = [
             Asked::Text { text },
             Asked::Check { tables },
+            Asked::Save { tables },
             Asked::Begin { tables, workers, slots },
         ];
         steps.chain(lookups).chain(others).collect()
@@ -554,9 +573,9 @@ mod tests {
         let words = "a damaged word in the lent memory: something else than the engine has written it";
         assert_eq!(damaged.to_string(), words);
         let text = Asked::Text { text: b"" };
-        let unknown = text.answered(14, 3).unwrap_err();
-        assert_eq!(unknown, Refusal::Unknown { number: 14, detail: 3 });
-        let words = "the library answers number 14 and detail 3, which isn't known";
+        let unknown = text.answered(99, 3).unwrap_err();
+        assert_eq!(unknown, Refusal::Unknown { number: 99, detail: 3 });
+        let words = "the library answers number 99 and detail 3, which isn't known";
         assert_eq!(unknown.to_string(), words);
         // "An accepted call of the exports for C answers number 0 and detail 0"
         let accepted = text.answered(0, 3).unwrap_err();
@@ -566,5 +585,10 @@ mod tests {
         assert_eq!(phase, Refusal::Unknown { number: 9, detail: 3 });
         let detail = text.answered(1, 1).unwrap_err();
         assert_eq!(detail, Refusal::Unknown { number: 1, detail: 1 });
+        // 14 of tables that have their dummies
+        let save = Asked::Save { tables: &tables };
+        let dummies = save.answered(14, 0).unwrap_err();
+        assert_eq!(dummies, Refusal::NoDummies { lack: Lack::Unknown });
+        assert_eq!(dummies.to_string(), "the tables lack a text's dummies");
     }
 }

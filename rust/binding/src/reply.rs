@@ -1,9 +1,9 @@
 //! What the library answers to an accepted call, read exactly: what isn't expected is an error, and never read as
 //! something else.
 
-use crate::ffi::{Part, ReadReply, StepReply};
+use crate::ffi::{Part, ReadReply, StepReply, WriteReply};
 use crate::ids::{TaskId, WorkerId};
-use crate::limits::{MAX_EDGES, MAX_TASKS};
+use crate::limits::{MAX_EDGES, MAX_TASKS, MAX_WRITTEN};
 use crate::refusal::Refusal;
 use crate::step::Released;
 
@@ -99,6 +99,15 @@ pub(crate) fn sizes(reply: ReadReply) -> Result<(usize, usize), Refusal> {
     Ok(sizes)
 }
 
+/// How many bytes of a buffer the text has that was saved into it.
+pub(crate) fn used(reply: WriteReply) -> Result<usize, Refusal> {
+    let WriteReply { used, .. } = reply;
+    match used as usize {
+        bytes if bytes <= MAX_WRITTEN => Ok(bytes),
+        _ => Err(Refusal::UnexpectedReply { words: [used, 0, 0] }),
+    }
+}
+
 #[cfg(test)]
 mod tests {
     use super::*;
@@ -176,5 +185,20 @@ mod tests {
         assert_eq!(read(1_024, 8_192), Ok((1_024, 8_192)));
         assert_eq!(read(1_025, 0), unexpected([1_025, 0, 0]));
         assert_eq!(read(2, 8_193), unexpected([2, 8_193, 0]));
+    }
+
+    #[test]
+    fn bytes_that_do_not_fit() {
+        let written = |bytes| {
+            used(WriteReply {
+                number: 0,
+                detail: 0,
+                used: bytes,
+            })
+        };
+        assert_eq!(written(34), Ok(34));
+        assert_eq!(written(57_349), Ok(57_349));
+        assert_eq!(written(57_350), unexpected([57_350, 0, 0]));
+        assert_eq!(written(u32::MAX), unexpected([u32::MAX, 0, 0]));
     }
 }

@@ -2,7 +2,7 @@
 
 use crate::ffi;
 use crate::ids::TaskId;
-use crate::limits::{MAX_EDGES, MAX_TASKS};
+use crate::limits::{MAX_EDGES, MAX_TASKS, MAX_WRITTEN};
 use crate::refusal::{Asked, Refusal};
 use crate::reply;
 use std::collections::btree_map::{BTreeMap, Entry};
@@ -122,6 +122,44 @@ impl Tables {
         })
     }
 
+    /// Saves the graph as a text of the Standard Task Graph Set, for another scheduler or for [`from_text`](Tables::from_text),
+    /// which gives the same tables again: single spaces between fields, LF after every line, no leading zeros, no
+    /// comments, predecessors in the tables' order. A [`Job`](crate::Job) is saved by its
+    /// [`tables`](crate::Job::tables), also during a run.
+    ///
+    /// # Errors
+    ///
+    /// Refused as by [`check`](Tables::check), then with 14 where there are no dummies: a text has at least two tasks,
+    /// the first and the last without weight, the first without predecessors.
+    ///
+    /// ```
+    /// use yolluvek::{Lack, Refusal, Tables};
+    ///
+    /// // tasks 1 and 2 after task 0, task 3 after both
+    /// let tables = Tables::from_edges([0, 5, 3, 0], [(0, 1), (0, 2), (1, 3), (2, 3)]);
+    /// let text = tables.to_text()?;
+    /// assert_eq!(text, b"2\n0 0 0\n1 5 1 0\n2 3 1 0\n3 0 2 1 2\n");
+    /// assert_eq!(Tables::from_text(&text)?, tables);
+    ///
+    /// let weighed = Tables::from_edges([4, 6], [(0, 1)]);
+    /// let refusal = weighed.to_text().unwrap_err();
+    /// assert_eq!(refusal, Refusal::NoDummies { lack: Lack::FirstWeight { weight: 4 } });
+    /// assert_eq!((refusal.number(), refusal.detail()), (14, 0));
+    /// assert_eq!(refusal.to_string(), "the tables lack a text's dummies: task 0 has weight 4");
+    /// # Ok::<(), Refusal>(())
+    /// ```
+    pub fn to_text(&self) -> Result<Vec<u8>, Refusal> {
+        let Tables {
+            weights,
+            pred_starts,
+            preds,
+        } = self;
+        let mut text = vec![0; MAX_WRITTEN];
+        let reply = ffi::write_text(weights, pred_starts, preds, &mut text);
+        Asked::Save { tables: self }.answered(reply.number, reply.detail)?;
+        Ok(first(&text, reply::used(reply)?))
+    }
+
     /// The check that begin makes too, without workers and slots.
     ///
     /// # Errors
@@ -151,7 +189,7 @@ impl Tables {
 
 impl Tables {
     /// A task's predecessors as the tables have them; none where its part is bad.
-    fn predecessors(&self, task: TaskId) -> &[TaskId] {
+    pub(crate) fn predecessors(&self, task: TaskId) -> &[TaskId] {
         let place = task.number() as usize;
         let start = |place: usize| self.pred_starts.get(place).map(|&start| start as usize);
         let part = start(place).zip(start(place + 1));

@@ -3,7 +3,7 @@
 use engine_model::pages;
 use std::collections::BTreeMap;
 use yolluvek::limits::Limit;
-use yolluvek::{Phase, Refusal, TaskId, WorkerId};
+use yolluvek::{Lack, Phase, Refusal, TaskId, WorkerId};
 
 /// The operator's line in each number's part of the page, broken lines joined.
 fn operator_lines() -> BTreeMap<u32, String> {
@@ -52,6 +52,9 @@ fn refusals() -> Vec<Refusal> {
         Refusal::RecordFull,
         Refusal::BadLayout { line: 3 },
         Refusal::TextEnds { line: 3 },
+        Refusal::NoDummies {
+            lack: Lack::Tasks { tasks: 1 },
+        },
     ]
 }
 
@@ -65,8 +68,8 @@ fn the_page_s_words() {
         numbers.push(number);
     }
     numbers.dedup();
-    assert_eq!(numbers, (1..=13).collect::<Vec<u32>>());
-    assert_eq!(lines.len(), 13);
+    assert_eq!(numbers, (1..=14).collect::<Vec<u32>>());
+    assert_eq!(lines.len(), 14);
 }
 
 /// Before begin there is something better to do than to report it.
@@ -83,7 +86,7 @@ fn begin_first() {
 #[test]
 fn not_on_the_page() {
     for refusal in [
-        Refusal::Unknown { number: 14, detail: 3 },
+        Refusal::Unknown { number: 99, detail: 3 },
         Refusal::UnexpectedReply { words: [9, 0, 0] },
     ] {
         assert_eq!(refusal.advice(), "report it.");

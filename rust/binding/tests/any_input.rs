@@ -1,8 +1,10 @@
 //! No input makes a call panic: odd texts, tables and numbers, each held to the model where that says what is answered.
 
 use engine_model::frames::{texts, LENT};
-use engine_model::{reader, texts as generator};
-use yolluvek::limits::MAX_TEXT;
+use engine_model::model::Graph;
+use engine_model::saves;
+use engine_model::{reader, texts as generator, writer};
+use yolluvek::limits::{MAX_TEXT, MAX_WRITTEN};
 use yolluvek::{Job, Refusal, Side, Tables, TaskId, WorkerId};
 
 const NUMBERS: [usize; 12] = [
@@ -55,6 +57,7 @@ fn make_every_call(job: &mut Job) {
         assert!(job.worker_ids().len() == job.workers() || job.workers() > u32::MAX as usize);
         assert!(job.words() > job.tasks() + job.edges());
         assert!(job.tables().dot().ends_with("}\n"));
+        save(job.tables());
         let refusal = job.begin().err();
         assert_eq!(refusal.is_none(), job.is_begun());
         refusal
@@ -87,6 +90,40 @@ fn read(text: &[u8]) -> Result<Tables, Refusal> {
     }
     assert_end(text, &found);
     found
+}
+
+/// The answer is the model's; what is saved is what the model saves, and is read back to the same tables.
+fn save(tables: &Tables) {
+    let Tables {
+        weights, pred_starts, ..
+    } = tables;
+    let preds: Vec<u32> = tables.preds.iter().map(|task| task.number()).collect();
+    let mut text = vec![0; MAX_WRITTEN];
+    let expected = writer::write(weights, pred_starts, &preds, &mut text);
+    match (tables.to_text(), expected) {
+        (Ok(found), Ok(used)) => {
+            assert_eq!(found, text[..used as usize]);
+            assert_eq!(Tables::from_text(&found).as_ref(), Ok(tables));
+        }
+        (Err(refusal), Err(expected)) => {
+            assert_eq!((refusal.number(), refusal.detail()), (expected.number, expected.detail));
+            assert_ne!(refusal.to_string(), "the tables lack a text's dummies");
+        }
+        (found, expected) => panic!("{found:?}, where the model has {expected:?}"),
+    }
+}
+
+/// Sound graphs, damaged ones, and the longest text that there is.
+#[test]
+fn drawn_tables() {
+    let graphs = (50_000..51_000).map(saves::drawn).chain(saves::limits());
+    for Graph { weights, preds } in graphs {
+        save(&Tables {
+            weights,
+            pred_starts: preds.starts,
+            preds: preds.words.into_iter().map(TaskId::new).collect(),
+        });
+    }
 }
 
 /// Further blank lines move the refusal exactly if the text ends too early.

@@ -68,6 +68,7 @@ fn in_c(of: &str) -> &'static str {
         "Reply" => "yolluvek_reply",
         "StepReply" => "yolluvek_step_reply",
         "ReadReply" => "yolluvek_read_reply",
+        "WriteReply" => "yolluvek_write_reply",
         "Part" => "yolluvek_part",
         _ => panic!("the header has no type for {of}"),
     }
@@ -134,7 +135,7 @@ fn declared() -> Functions {
 #[test]
 fn the_functions_are_the_exports() {
     let (exported, declared) = (exported(), declared());
-    assert_eq!(exported.len(), 10);
+    assert_eq!(exported.len(), 11);
     let names = |functions: &Functions| functions.keys().cloned().collect::<Vec<_>>();
     assert_eq!(names(&declared), names(&exported));
     for (name, function) in &exported {
@@ -197,6 +198,7 @@ fn the_fields_are_the_exports() {
         ("Reply", "replies"),
         ("StepReply", "replies"),
         ("ReadReply", "stg_export"),
+        ("WriteReply", "stg_export"),
         ("Part", "graph_export"),
     ] {
         assert_eq!(declared_fields(in_c(name)), fields(&source(of), name), "{name} of {of}");
@@ -220,4 +222,5 @@ fn the_limits_are_the_binding_s() {
     assert_eq!(defined("YOLLUVEK_MIN_SLOTS"), limits::MIN_SLOTS);
     assert_eq!(defined("YOLLUVEK_MAX_SLOTS"), limits::MAX_SLOTS);
     assert_eq!(defined("YOLLUVEK_MAX_TEXT"), limits::MAX_TEXT);
+    assert_eq!(defined("YOLLUVEK_MAX_WRITTEN"), limits::MAX_WRITTEN);
 }

@@ -3,7 +3,7 @@
 //! then no worker runs one.
 
 use yolluvek::limits::Limit;
-use yolluvek::{Job, Phase, Refusal, Side, Step, Tables, TaskId, WorkerId};
+use yolluvek::{Job, Lack, Phase, Refusal, Side, Step, Tables, TaskId, WorkerId};
 
 const DIAMOND: &[u8] = b"2\n0 0 0\n1 5 1 0\n2 3 1 0\n3 0 2 1 2\n";
 
@@ -315,6 +315,76 @@ fn number_13() {
         let refusal = Tables::from_text(early.as_bytes()).unwrap_err();
         assert_says(refusal, 13, line, &format!("the text ends before line {line}"));
     }
+}
+
+/// Saving is refused as the check is, in its order.
+#[test]
+fn saving_meets_what_the_check_meets() {
+    let wrong = [
+        sized(1_025, 0, 0),
+        sized(2, 8_193, 0),
+        sized(3, 0, 65_536),
+        Tables {
+            pred_starts: vec![0; 2],
+            ..tables(&[&[], &[]])
+        },
+        tables(&[&[], &[2]]),
+        Tables {
+            pred_starts: vec![0; 3],
+            ..tables(&[&[], &[0]])
+        },
+        tables(&[&[], &[], &[], &[1, 1]]),
+        tables(&[&[], &[2], &[1]]),
+        tables(&[&[0]]),
+    ];
+    let numbers = wrong.map(|tables| {
+        let refusal = tables.to_text().unwrap_err();
+        assert_eq!(tables.check(), Err(refusal.clone()));
+        refusal.number()
+    });
+    assert_eq!(numbers, [2, 2, 2, 1, 3, 3, 4, 5, 5]);
+}
+
+/// "when N is under 2, task 0 has weight or predecessors, or the last task has weight": the first of these is named.
+#[test]
+fn number_14() {
+    let of = |weights: &[u32], lists: &[&[u32]]| Tables {
+        weights: weights.to_vec(),
+        ..tables(lists)
+    };
+    let refused = |tables: Tables, lack: Lack, why: &str| {
+        let refusal = tables.to_text().unwrap_err();
+        assert_eq!(refusal, Refusal::NoDummies { lack });
+        assert_says(refusal, 14, 0, &format!("the tables lack a text's dummies: {why}"));
+    };
+    let none = "there are 0 tasks, and a text has at least 2";
+    refused(Tables::default(), Lack::Tasks { tasks: 0 }, none);
+    let one = "there is 1 task, and a text has at least 2";
+    refused(of(&[0], &[&[]]), Lack::Tasks { tasks: 1 }, one);
+    refused(of(&[7], &[&[]]), Lack::Tasks { tasks: 1 }, one);
+    let weight = Lack::FirstWeight { weight: 65_535 };
+    refused(of(&[65_535, 0], &[&[], &[0]]), weight, "task 0 has weight 65535");
+    // also where there is more
+    refused(of(&[65_535, 9], &[&[1], &[]]), weight, "task 0 has weight 65535");
+    let one = Lack::FirstPredecessors { count: 1 };
+    refused(of(&[0, 9], &[&[1], &[]]), one, "task 0 has 1 predecessor");
+    let two = Lack::FirstPredecessors { count: 2 };
+    refused(of(&[0, 9, 0], &[&[2, 1], &[], &[1]]), two, "task 0 has 2 predecessors");
+    let last = Lack::LastWeight {
+        task: TaskId::new(2),
+        weight: 1,
+    };
+    refused(
+        of(&[0, 9, 1], &[&[], &[0], &[1]]),
+        last,
+        "task 2, the last one, has weight 1",
+    );
+    // what the refusal advises
+    let between = Tables::from_edges([0, 1, 1, 0], [(1, 2)]);
+    assert_eq!(
+        between.to_text().as_deref(),
+        Ok(&b"2\n0 0 0\n1 1 0\n2 1 1 1\n3 0 0\n"[..])
+    );
 }
 
 /// A refusal can be handed on as any other error.
