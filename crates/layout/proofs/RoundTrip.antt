@@ -1,11 +1,11 @@
 -- PROMISES: what an accepted call writes, and that it reads back: "Reading the result yields the same weights and predecessor tables."
 use Prim.Native.Nat.{ℕ, _+_, _≤_, _<_}
-use mathlib.Core.Path.{_≡_, refl, sym, ap, subst, _∙_}
+use mathlib.Core.Path.{_≡_, sym, ap, subst, _∙_}
 use mathlib.Core.Bool.{true}
 use mathlib.Core.Logic.{_⊎_, inl, inr}
 use mathlib.Core.List.{List}
 use native.Mathlib.Omega.{arith}
-use lib.ListN.{length, getD, take, drop, length-append, length-drop}
+use lib.ListN.{length, take, drop, length-append, length-drop}
 use lib.Seq.{take-append-seam, drop-append-seam}
 use Rattle.lists.proofs.Apart.{true-and-false}
 use Rattle.task.specs.Types.{engine, capped}
@@ -13,15 +13,15 @@ use Rattle.task.specs.Refusals.{refused, bytesUsed, answerSays, writeSays, wron
 use Rattle.task.specs.Rows.{Acceptance, Given}
 use Rattle.graph.specs.Graph.{graphOf}
 use Rattle.graph.specs.Conditions.{GraphFits}
-use Rattle.graph.specs.Tables.{Beyond, Heavy, tableRows, checkRows}
+use Rattle.graph.specs.Tables.{tableRows, checkRows}
 use Rattle.graph.proofs.Refusals.{graph-follows}
 use Rattle.graph.proofs.Accepted.{graph-accepted-iff, fits-sound}
-use Rattle.layout.specs.Tasks.{Task, Tables, tables, tablesOf}
+use Rattle.layout.specs.Tasks.{Tables, tables}
 use Rattle.layout.specs.Layout.{Spells}
 use Rattle.layout.specs.Plain.{textOf}
 use Rattle.layout.specs.Alike.{Alike}
 use Rattle.layout.specs.Reader.{onto}
-use Rattle.layout.specs.Tables.{Accepts, Writable}
+use Rattle.layout.specs.Tables.{Accepts}
 use Rattle.layout.specs.Writer.{dummiesFit, Saved, writeText, mostWritten, Writes}
 use Rattle.layout.proofs.Unique.{spells-unique}
 use Rattle.layout.proofs.Readings.{accepted-iff}

@@ -1,5 +1,4 @@
 // What the desk program prints, put into a lent buffer: each function puts its bytes at a place and answers the place behind them.
-ghost use mathlib.Core.Path.{_≡_};
 ghost use Prim.Native.Nat.{_+_, _*_, _≤_};
 ghost use lib.ListN.{length};
 ghost use Rattle.desk_rule.specs.Printed.{pairLine};

@@ -1,5 +1,4 @@
 -- What the exported calls answer: "the number and a detail", 0 and 0 where accepted; a step then answers its outcome.
-use Prim.Native.Nat.{ℕ}
 use Rattle.task.specs.Refusals.{Said, answerSays, stepSays, numberOf, detailOf, kindOf, valueAt}
 use Rattle.task.specs.declared.Answer.{Answer}
 use Rattle.task.specs.declared.StepAnswer.{StepAnswer}
