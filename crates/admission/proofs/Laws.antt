@@ -107,11 +107,11 @@ blank-sizes z = simp length-replicate
 measured : (limits : Limits) (p k i : ℕ) (sizes : Sizes) (m : Mem) → sizesOf m ≡ sizes → Fits limits p k m → i < p → Measured p k i sizes
 unfolding capped
 measured limits p k i sizes m e f h = subst (Measured p k i) e (record {
-  fewTasks = omega (arith, f .fewTasks);
-  fewEdges = omega (arith, f .fewEdges);
-  fewWorkers = omega (arith, f .fewWorkers);
-  twoSlots = f .twoSlots;
-  fewSlots = omega (arith, f .fewSlots);
+  fewTasks = omega (arith, f .limits .fewTasks);
+  fewEdges = omega (arith, f .limits .fewEdges);
+  fewWorkers = omega (arith, f .limits .fewWorkers);
+  twoSlots = f .limits .twoSlots;
+  fewSlots = omega (arith, f .limits .fewSlots);
   worker = h;
   predStarts = f .lengths .predStarts;
   succStarts = f .lengths .others .succStarts;

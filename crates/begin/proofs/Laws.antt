@@ -100,11 +100,11 @@ module _ (limits : Limits) (p k : ℕ) (w s e : List ℕ) (ss sc d r n c b x u r
   unfolding capped
   layable d′ rings ends counters hd hr hn hc = (
     record {
-      oneWorker = fits .0 .oneWorker;
-      fewWorkers = omega (arith, fits .0 .fewWorkers);
-      oneSlot = omega (arith, fits .0 .twoSlots);
-      fewSlots = omega (arith, fits .0 .fewSlots);
-      fewTasks = omega (arith, fits .0 .fewTasks, ap length hd, length-degrees g);
+      oneWorker = fits .0 .limits .oneWorker;
+      fewWorkers = omega (arith, fits .0 .limits .fewWorkers);
+      oneSlot = omega (arith, fits .0 .limits .twoSlots);
+      fewSlots = omega (arith, fits .0 .limits .fewSlots);
+      fewTasks = omega (arith, fits .0 .limits .fewTasks, ap length hd, length-degrees g);
       weighed = sym (ap length hd ∙ length-degrees g);
       light = fits .1 .light;
     },

@@ -57,7 +57,7 @@ module _ (limits : Limits) (l : limits ≡ engine) (lent begun : Mem) (a : Answe
     pub begun-ready : Ready (lent .weights) (lent .preds) (lent .executed) (lent .run)
     unfolding capped
     begun-ready =
-        record { tasks = fits .fewTasks; edges = fits .fewEdges; executed = fits .lengths .others .executed; run = fits .lengths .others .run }
+        record { tasks = fits .limits .fewTasks; edges = fits .limits .fewEdges; executed = fits .lengths .others .executed; run = fits .lengths .others .run }
 
     module _ (ran : Mem) (d : ran ≡ deskRun begun) where
       pub entries-all : entriesIn ran ≡ tasks lent

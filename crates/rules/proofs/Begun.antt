@@ -245,7 +245,7 @@ module _ (limits : Limits) (p k : ℕ) (m : Mem) (e : answerSays (begin limits p
   unfolding begin
   laid-down =
       let (f, g, few) = begin-accepted limits p k m .0 e in
-      rw (accepted-begun (beginAnswer limits p k m) p k m e) (begun-laid-down p k m (f .lengths) (fits-sound g) (f .oneWorker) (f .twoSlots) (rw (length-roots (graphIn m), capacity-is k) few))
+      rw (accepted-begun (beginAnswer limits p k m) p k m e) (begun-laid-down p k m (f .lengths) (fits-sound g) (f .limits .oneWorker) (f .limits .twoSlots) (rw (length-roots (graphIn m), capacity-is k) few))
 
   -- the successor table is the predecessor table reversed, "each task's successors rising": t is among u's successors exactly as often as u is among t's
   -- predecessors, each successor is a task, and u's successors rise

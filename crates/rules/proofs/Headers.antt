@@ -22,7 +22,7 @@ use Rattle.graph.specs.Check.{sizesFit}
 use Rattle.graph.specs.Tables.{Beyond}
 use Rattle.graph.proofs.Refusals.{sizes-told}
 use Rattle.rules.specs.Memory.{Mem, tasks, edges, rowIn}
-use Rattle.rules.specs.Sizes.{Others, Lengths, Fits, numbersFit, othersFit, lengthsFit}
+use Rattle.rules.specs.Sizes.{KeepsLimits, Others, Lengths, Fits, numbersFit, othersFit, lengthsFit}
 use Rattle.rules.specs.Plans.{Plan, suited}
 use Rattle.rules.specs.Steps.{ruleOf, stepPlan}
 use Rattle.rules.specs.Tables.{BeyondPK, ownRows, stepRows}
@@ -97,25 +97,30 @@ module _ (limits : Limits) (p k : ℕ) (m : Mem) where
       (BeyondPK limits p k ⊎ Beyond limits (tasks m) (edges m))
   limits-told = and-told _ _ (numbers-told limits p k) (sizes-told limits (tasks m) (edges m))
 
-  pub within-fits : ¬ (BeyondPK limits p k ⊎ Beyond limits (tasks m) (edges m)) → Lengths p k m → Fits limits p k m
-  within-fits n l =
+  pub kept : ¬ (BeyondPK limits p k ⊎ Beyond limits (tasks m) (edges m)) → KeepsLimits limits p k (tasks m) (edges m)
+  kept n =
       record {
-        fewTasks = stable (decLe (tasks m) (capped limits .tasks)) (λ h. n (inr (inl (omega arith))));
-        fewEdges = stable (decLe (edges m) (capped limits .edges)) (λ h. n (inr (inr (omega arith))));
         oneWorker = stable (decLe 1 p) (λ h. n (inl (inl (inl (omega arith)))));
         fewWorkers = stable (decLe p (capped limits .workers)) (λ h. n (inl (inl (inr (omega arith)))));
         twoSlots = stable (decLe 2 k) (λ h. n (inl (inr (inl (omega arith)))));
         fewSlots = stable (decLe k (capped limits .slots)) (λ h. n (inl (inr (inr (omega arith)))));
-        lengths = l;
+        fewTasks = stable (decLe (tasks m) (capped limits .tasks)) (λ h. n (inr (inl (omega arith))));
+        fewEdges = stable (decLe (edges m) (capped limits .edges)) (λ h. n (inr (inr (omega arith))));
       }
 
+  pub not-beyond : KeepsLimits limits p k (tasks m) (edges m) → ¬ (BeyondPK limits p k ⊎ Beyond limits (tasks m) (edges m))
+  not-beyond w (inl (inl (inl h))) = omega (arith, w .oneWorker)
+  not-beyond w (inl (inl (inr h))) = omega (arith, w .fewWorkers)
+  not-beyond w (inl (inr (inl h))) = omega (arith, w .twoSlots)
+  not-beyond w (inl (inr (inr h))) = omega (arith, w .fewSlots)
+  not-beyond w (inr (inl h)) = omega (arith, w .fewTasks)
+  not-beyond w (inr (inr h)) = omega (arith, w .fewEdges)
+
+  pub within-fits : ¬ (BeyondPK limits p k ⊎ Beyond limits (tasks m) (edges m)) → Lengths p k m → Fits limits p k m
+  within-fits n l = record { limits = kept n; lengths = l }
+
   pub fits-within : Fits limits p k m → ¬ (BeyondPK limits p k ⊎ Beyond limits (tasks m) (edges m))
-  fits-within f (inl (inl (inl h))) = omega (arith, f .oneWorker)
-  fits-within f (inl (inl (inr h))) = omega (arith, f .fewWorkers)
-  fits-within f (inl (inr (inl h))) = omega (arith, f .twoSlots)
-  fits-within f (inl (inr (inr h))) = omega (arith, f .fewSlots)
-  fits-within f (inr (inl h)) = omega (arith, f .fewTasks)
-  fits-within f (inr (inr h)) = omega (arith, f .fewEdges)
+  fits-within f = not-beyond (f .limits)
 
   pub fits-are : numbersFit limits p k && sizesFit limits (tasks m) (edges m) ≡ true → lengthsFit p k m ≡ true → Fits limits p k m
   fits-are e q = within-fits (told-yes limits-told e) (lengths-are p k m q)

@@ -32,12 +32,7 @@ pub fits-kept : {limits : Limits} {p k : ℕ} {m m′ : Mem} → m′ .weights �
     → Fits limits p k m → Fits limits p k m′
 fits-kept w e l f =
     record {
-      fewTasks = rw w (f .fewTasks);
-      fewEdges = rw e (f .fewEdges);
-      oneWorker = f .oneWorker;
-      fewWorkers = f .fewWorkers;
-      twoSlots = f .twoSlots;
-      fewSlots = f .fewSlots;
+      limits = rw (w, e) (f .limits);
       lengths = l;
     }
 

@@ -18,3 +18,6 @@ pub mod Kept
 pub mod Dealt
 pub mod Joins
 pub mod Begun
+pub mod Limits
+pub mod PreviewExamples
+pub mod PreviewWrong

@@ -233,7 +233,7 @@ if-stepped limits p k i s m =
   where
     go : Told (eqb (rowIn m i .phase) (suits s)) (rowIn m i .phase ≡ suits s) (¬ (rowIn m i .phase ≡ suits s)) → Fits limits p k m → i < p
         → IfAccepted (AllFound limits p k i s m) (suited (nextPhase (rowIn m i .phase) s) (rowIn m i .phase) (ruleOf s p k i m))
-    go (told-true q e) f w = rw q (record { holds = λ o us h. found o us (if-ruled m p k i (omega (arith, f .oneWorker)) (f .lengths .others .counters) s .holds o us h) })
+    go (told-true q e) f w = rw q (record { holds = λ o us h. found o us (if-ruled m p k i (omega (arith, f .limits .oneWorker)) (f .lengths .others .counters) s .holds o us h) })
       where
         found : (o : StepOutcome) (us : List Update) → Counted m (Made s p k i m) o us → AllFound limits p k i s m o us
         found o us c =

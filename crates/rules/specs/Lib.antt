@@ -9,3 +9,4 @@ pub mod Begun
 pub mod Tables
 pub mod Moves
 pub mod Desk
+pub mod Limits

@@ -9,6 +9,15 @@ use Rattle.task.specs.declared.Limits.{Limits}
 use Rattle.ring.specs.Ring.{ringWords, endWords}
 use Rattle.rules.specs.Memory.{Mem, tasks, edges}
 
+-- P, K, N and E keep the limits; a limit above the engine's counts as the engine's
+pub record KeepsLimits (limits : Limits) (p k n e : ℕ) : Type 0 where
+  pub oneWorker : 1 ≤ p
+  pub fewWorkers : p ≤ capped limits .workers
+  pub twoSlots : 2 ≤ k
+  pub fewSlots : k ≤ capped limits .slots
+  pub fewTasks : n ≤ capped limits .tasks
+  pub fewEdges : e ≤ capped limits .edges
+
 -- "Each length is exact.", for P workers and K slots: the lists beside weights and predecessors, whose lengths are N and E, and
 -- beside predecessor starts
 pub record Others (p k : ℕ) (m : Mem) : Type 0 where
@@ -39,13 +48,8 @@ pub record Lengths (p k : ℕ) (m : Mem) : Type 0 where
   pub others : Others p k m
 
 -- numbers within their limits and lists of their lengths: what 2 and 1 leave to a step
-pub record Fits (limits : Limits) (p k : ℕ) (m : Mem) : Type 0 where
-  pub fewTasks : tasks m ≤ capped limits .tasks
-  pub fewEdges : edges m ≤ capped limits .edges
-  pub oneWorker : 1 ≤ p
-  pub fewWorkers : p ≤ capped limits .workers
-  pub twoSlots : 2 ≤ k
-  pub fewSlots : k ≤ capped limits .slots
+pub record Fits (own : Limits) (p k : ℕ) (m : Mem) : Type 0 where
+  pub limits : KeepsLimits own p k (tasks m) (edges m)
   pub lengths : Lengths p k m
 
 -- "P from 1 to 16. Each ring has K slots, K from 2 to 64.": 16 and 64 at the engine's limits, and a limit above those counts as those

@@ -15,6 +15,10 @@ idle = record { phase = 0; held = nil; pointer = 0; read = 0; write = 0; cursor 
 abbrev pub engine : Limits
 engine = record { tasks = 1024; edges = 8192; workers = 16; slots = 64 }
 
+-- "takes N to 128, E to 512, P to 4, K to 8"
+abbrev pub preview : Limits
+preview = record { tasks = 128; edges = 512; workers = 4; slots = 8 }
+
 -- a limit above the engine's counts as the engine's
 unfoldable pub capped : Limits → Limits
 capped l =

@@ -4,7 +4,7 @@ pub mod refusal;
 
 ghost use mathlib.Core.Path.{_≡_};
 ghost use Prim.Native.Nat.{_<_, min};
-ghost use Rattle.task.specs.Types.{nil, idle, engine, capped};
+ghost use Rattle.task.specs.Types.{nil, idle, engine, preview, capped};
 ghost use Rattle.task.specs.Phases.{nextPhase};
 
 // A task's number. NIL stands for "no task" in a worker's row.
@@ -135,10 +135,24 @@ impl Limits {
         slots: 64,
     };
 
+    // The planning window's.
+    pub const PREVIEW: Limits = Limits {
+        tasks: 128,
+        edges: 512,
+        workers: 4,
+        slots: 8,
+    };
+
     pub fn engine() -> Limits
         ensures { λ r. ⌜ r ≡ engine ⌝ }
     {
         Limits::ENGINE
+    }
+
+    pub fn preview() -> Limits
+        ensures { λ r. ⌜ r ≡ preview ⌝ }
+    {
+        Limits::PREVIEW
     }
 
     pub fn capped(self) -> Limits
