@@ -32,7 +32,7 @@ use Rattle.rules.proofs.Moved.{counts}
 use Rattle.rules.proofs.Words.{all-steps-are}
 use Rattle.runs.specs.Calls.{Call, leaves, memoryAfter, begunMemory, Run, eventsOf}
 use Rattle.runs.specs.Demand.{acceptedCompletes, Finished, nextSays}
-use Rattle.runs.proofs.Calls.{tasks-reached, preds-reached}
+use Rattle.runs.proofs.Calls.{memory-on, tasks-reached, preds-reached}
 use Rattle.runs.proofs.Demand.{demand-3, finished-full, finished-count}
 use Rattle.desk_rule.specs.Promise.{unlessAccepted, turnCalls, turnsCalls, DeskFinishes}
 
@@ -41,12 +41,6 @@ answerOf i s m = step engine 2 4 i s m .answer
 
 abbrev left : ℕ → Step → Mem → Mem
 left i s m = step engine 2 4 i s m .memory
-
--- one list of calls after another
-memory-on : (cs ds : List Call) (m : Mem) → memoryAfter engine (cs ++ ds) m ≡ memoryAfter engine ds (memoryAfter engine cs m)
-unfolding memoryAfter
-memory-on [] ds m = refl
-memory-on (c ∷ cs) ds m = memory-on cs ds (leaves engine c m)
 
 -- the step would be refused
 abbrev Refuses : ℕ → Mem → Step → Type 0
@@ -81,14 +75,14 @@ turned i (s ∷ ss) m = go (answerOf i s m) refl (turned i ss m)
     go (Refused n d) e t = later n d e t
 
 -- what the calls of a turn leave
-turn-calls : (i : ℕ) (ss : List Step) (m : Mem) → memoryAfter engine (turnCalls i ss m) m ≡ turn engine 2 4 i ss m
+turn-calls : (i : ℕ) (ss : List Step) (m : Mem) → memoryAfter (turnCalls i ss m) m ≡ turn engine 2 4 i ss m
 unfolding turnCalls turn memoryAfter leaves
 turn-calls i [] m = refl
 turn-calls i (s ∷ ss) m = go (answerOf i s m) refl (turn-calls i ss (left i s m))
   where
     go : (a : StepAnswer) → answerOf i s m ≡ a
-        → memoryAfter engine (turnCalls i ss (left i s m)) (left i s m) ≡ turn engine 2 4 i ss (left i s m)
-        → memoryAfter engine (unlessAccepted (answerOf i s m) (turnCalls i ss (left i s m))) (left i s m)
+        → memoryAfter (turnCalls i ss (left i s m)) (left i s m) ≡ turn engine 2 4 i ss (left i s m)
+        → memoryAfter (unlessAccepted (answerOf i s m) (turnCalls i ss (left i s m))) (left i s m)
         ≡ firstOf (answerOf i s m) (left i s m) (turn engine 2 4 i ss (left i s m))
     go (Accepted o) e _ = rw e
     go (Refused n d) e later = rw e later
@@ -109,26 +103,26 @@ turns-over zero i m h = refl
 turns-over (suc n) i m h = rw (le-ltb _ _ h)
 
 -- and those of all turns
-turns-calls : (n i : ℕ) (m : Mem) → memoryAfter engine (turnsCalls n i m) m ≡ turns engine 2 4 n i m
+turns-calls : (n i : ℕ) (m : Mem) → memoryAfter (turnsCalls n i m) m ≡ turns engine 2 4 n i m
 unfolding turnsCalls turns memoryAfter
 turns-calls zero i m = refl
 turns-calls (suc n) i m = go (ltb (acceptedIn m) (allSteps m)) (turns-calls n (after 2 i) (turn engine 2 4 i tries m))
   where
     go : (b : Bool)
-        → memoryAfter engine (turnsCalls n (after 2 i) (turn engine 2 4 i tries m)) (turn engine 2 4 i tries m)
+        → memoryAfter (turnsCalls n (after 2 i) (turn engine 2 4 i tries m)) (turn engine 2 4 i tries m)
         ≡ turns engine 2 4 n (after 2 i) (turn engine 2 4 i tries m)
-        → memoryAfter engine (cond b (turnCalls i tries m ++ turnsCalls n (after 2 i) (turn engine 2 4 i tries m)) []) m
+        → memoryAfter (cond b (turnCalls i tries m ++ turnsCalls n (after 2 i) (turn engine 2 4 i tries m)) []) m
         ≡ cond b (turns engine 2 4 n (after 2 i) (turn engine 2 4 i tries m)) m
     go true later =
         memory-on (turnCalls i tries m) (turnsCalls n (after 2 i) (turn engine 2 4 i tries m)) m
-        ∙ ap (memoryAfter engine (turnsCalls n (after 2 i) (turn engine 2 4 i tries m))) (turn-calls i tries m)
+        ∙ ap (memoryAfter (turnsCalls n (after 2 i) (turn engine 2 4 i tries m))) (turn-calls i tries m)
         ∙ later
     go false later = refl
 
 -- some calls lead from one memory to another
 record Leads (m m′ : Mem) : Type 0 where
   calls : List Call
-  there : memoryAfter engine calls m ≡ m′
+  there : memoryAfter calls m ≡ m′
 
 leads-none : (m : Mem) → Leads m m
 unfolding memoryAfter
@@ -140,7 +134,7 @@ leads-turn m m′ i l =
       calls = l .calls ++ turnCalls i tries m′;
       there =
           memory-on (l .calls) (turnCalls i tries m′) m
-          ∙ ap (memoryAfter engine (turnCalls i tries m′)) (l .there)
+          ∙ ap (memoryAfter (turnCalls i tries m′)) (l .there)
           ∙ turn-calls i tries m′;
     }
 
@@ -191,7 +185,7 @@ module _ (lent : Mem) (e : answerSays (begin engine 2 4 lent .answer) ≡ accept
             finished-count (runTo m l) (finished-full (runTo m l) f),
           )
 
-      found : (i : ℕ) × (s : Step) × (i < 2) × Acceptance (nextSays (runTo m l) i s) → (i : ℕ) × (s : Step) × (i < 2) × Acceptance (stepSays (answerOf i s m))
+      found : (i : ℕ) × (s : Step) × (i < 2) × Acceptance (nextSays engine (runTo m l) i s) → (i : ℕ) × (s : Step) × (i < 2) × Acceptance (stepSays (answerOf i s m))
       found (i, s, w, a) = (i, s, w, rw (l .there) at a)
 
   -- so not both workers wait
@@ -254,7 +248,7 @@ module _ (lent : Mem) (e : answerSays (begin engine 2 4 lent .answer) ≡ accept
       stable (yes h) = record { completes = h }
       stable (no n) = absurd (none (demand-3 .one (runTo end led) .next (λ f. n (f .completes))))
         where
-          none : (i : ℕ) × (s : Step) × (i < 2) × Acceptance (nextSays (runTo end led) i s) → ⊥
+          none : (i : ℕ) × (s : Step) × (i < 2) × Acceptance (nextSays engine (runTo end led) i s) → ⊥
           none (i, s, w, a) =
               omega (
                 arith,

@@ -25,7 +25,7 @@ unlessAccepted (Refused n d) later = later
 -- the calls of a turn of worker i: the steps in their order, up to the first that is accepted, with P 2 and K 4
 unfoldable pub turnCalls : ℕ → List Step → Mem → List Call
 turnCalls i [] m = []
-turnCalls i (s ∷ ss) m = stepCall 2 4 i s ∷ unlessAccepted (step engine 2 4 i s m .answer) (turnCalls i ss (step engine 2 4 i s m .memory))
+turnCalls i (s ∷ ss) m = stepCall engine 2 4 i s ∷ unlessAccepted (step engine 2 4 i s m .answer) (turnCalls i ss (step engine 2 4 i s m .memory))
 
 -- those of at most n turns, the first worker i's, until 3N+E are accepted
 unfoldable pub turnsCalls : ℕ → ℕ → Mem → List Call

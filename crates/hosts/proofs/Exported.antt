@@ -2,8 +2,8 @@
 -- the exports sees a run (`hosted`, `hosted-fair`, `crates/runs/proofs/Hosted.antt`).
 use Prim.Native.Nat.{ℕ}
 use mathlib.Core.Path.{_≡_, refl}
-use Rattle.task.specs.Types.{engine}
 use Rattle.task.specs.Refusals.{accepted}
+use Rattle.task.specs.declared.Limits.{Limits}
 use Rattle.task.specs.declared.Side.{Side}
 use Rattle.task.specs.declared.Step.{Step}
 use Rattle.task.proofs.Said.{zero-accepts}
@@ -26,27 +26,27 @@ use Rattle.hosts.specs.Heard.{heard, stepHeard}
 use Rattle.hosts.proofs.Heard.{heard-zero, heard-said, step-heard-said}
 
 module _ (m : Mem) where
-  -- `yolluvek_fetch`, `yolluvek_start`, `yolluvek_complete`, `yolluvek_release`
-  pub exported-step : (p k i : ℕ) (s : Step) (r : StepReply) (m′ : Mem) → resultOf r m′ ≡ replied stepReplyOf (step engine p k i s m)
-      → Link engine m (seenAs (stepCall p k i s) (stepHeard r) m′)
-  exported-step p k i s = replied-step engine m p k i s stepReplyOf stepHeard (step-heard-said (step engine p k i s m .answer) (step-zero engine p k m i s .0))
+  -- a step, with the limits of its export
+  pub exported-step : (limits : Limits) (p k i : ℕ) (s : Step) (r : StepReply) (m′ : Mem) → resultOf r m′ ≡ replied stepReplyOf (step limits p k i s m)
+      → Link m (seenAs (stepCall limits p k i s) (stepHeard r) m′)
+  exported-step limits p k i s = replied-step m limits p k i s stepReplyOf stepHeard (step-heard-said (step limits p k i s m .answer) (step-zero limits p k m i s .0))
 
-  -- `yolluvek_begin`
-  pub exported-begin : (p k : ℕ) (r : Reply) (m′ : Mem) → resultOf r m′ ≡ replied replyOf (begin engine p k m)
-      → Link engine m (seenAs (beginCall p k) (heard r) m′)
-  exported-begin p k = replied-begin engine m p k replyOf heard (heard-said (begin engine p k m .answer) (begin-zero engine p k m .0))
+  -- begin
+  pub exported-begin : (limits : Limits) (p k : ℕ) (r : Reply) (m′ : Mem) → resultOf r m′ ≡ replied replyOf (begin limits p k m)
+      → Link m (seenAs (beginCall limits p k) (heard r) m′)
+  exported-begin limits p k = replied-begin m limits p k replyOf heard (heard-said (begin limits p k m .answer) (begin-zero limits p k m .0))
 
   -- answered 0, it is the accepted begin that a run starts at
-  pub exported-start : (p k : ℕ) (r : Reply) (m′ : Mem) → resultOf r m′ ≡ replied replyOf (begin engine p k m) → _≡_ {A = ℕ} (r .number) 0
-      → Link engine m (seenAs (beginCall p k) accepted m′)
-  exported-start p k r m′ contract e = rw (heard-zero r e) at (exported-begin p k r m′ contract)
+  pub exported-start : (limits : Limits) (p k : ℕ) (r : Reply) (m′ : Mem) → resultOf r m′ ≡ replied replyOf (begin limits p k m) → _≡_ {A = ℕ} (r .number) 0
+      → Link m (seenAs (beginCall limits p k) accepted m′)
+  exported-start limits p k r m′ contract e = rw (heard-zero r e) at (exported-begin limits p k r m′ contract)
 
   abbrev lentNow : Lent
   lentNow = lentOf (m .weights) (m .predStarts) (m .preds) (m .succStarts) (m .succs)
 
   -- `yolluvek_judge_lookup`: it writes nothing
   pub exported-lookup : (side : Side) (t : ℕ) (r : Reply) → r ≡ replyOf (judged m side t)
-      → Link engine m (seenAs (lookupCall side t) (heard r) m)
+      → Link m (seenAs (lookupCall side t) (heard r) m)
   exported-lookup side t =
-      replied-lookup engine m side t replyOf heard
+      replied-lookup m side t replyOf heard
       (heard-said (judged m side t) (zero-accepts (lookupRows side lentNow t) _ (judge-follows side lentNow t) refl .0))

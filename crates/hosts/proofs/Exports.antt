@@ -6,7 +6,6 @@ use mathlib.Core.List.{List, [], _∷_}
 use native.Mathlib.Omega.{arith}
 use lib.ListN.{length, take}
 use lib.Seq.{take-all}
-use Rattle.task.specs.Types.{engine}
 use Rattle.rules.specs.Memory.{Mem}
 use Rattle.runs.specs.Calls.{Run, memoryOf, eventsOf}
 use Rattle.runs.specs.Demand.{Finished, OneRun, OneGraph, Exchanges}
@@ -18,13 +17,13 @@ use Rattle.hosts.specs.Exports.{Export, stepMade, beginMade, lookupMade,
 use Rattle.hosts.proofs.Exported.{exported-step, exported-begin, exported-start, exported-lookup}
 
 -- one call more, in front of a chain
-chained-more : (c : Export) (m m′ : Mem) (later : List Seen) → Contract m c m′ → Chained engine m′ later → Chained engine m (heardOf c m′ later)
-chained-more (stepMade p k i s r) m m′ later contract rest = (exported-step m p k i s r m′ contract, rest)
-chained-more (beginMade p k r) m m′ later contract rest = (exported-begin m p k r m′ contract, rest)
+chained-more : (c : Export) (m m′ : Mem) (later : List Seen) → Contract m c m′ → Chained m′ later → Chained m (heardOf c m′ later)
+chained-more (stepMade limits p k i s r) m m′ later contract rest = (exported-step m limits p k i s r m′ contract, rest)
+chained-more (beginMade limits p k r) m m′ later contract rest = (exported-begin m limits p k r m′ contract, rest)
 chained-more (lookupMade side t r) m m′ later contract rest = rw (contract .1) (exported-lookup m side t r (contract .0), rw (contract .1) at rest)
 chained-more readingMade m m′ later contract rest = rw contract at rest
 
-pub exports-chained : (made : List Made) (m : Mem) → Exports m made → Chained engine m (heardAll made)
+pub exports-chained : (made : List Made) (m : Mem) → Exports m made → Chained m (heardAll made)
 unfolding heardAll
 exports-chained [] m e = tt
 exports-chained (c ∷ rest) m e = chained-more (c .export) m (c .left) (heardAll rest) (e .0) (exports-chained rest (c .left) (e .1))
@@ -32,12 +31,12 @@ exports-chained (c ∷ rest) m e = chained-more (c .export) m (c .left) (heardAl
 abbrev pub hostingOf : Exporting → Hosting
 hostingOf e =
     record {
-      limits = engine;
+      limits = e .limits;
       workers = e .workers;
       slots = e .slots;
       lent = e .lent;
       begun = e .begun;
-      begins = exported-start (e .lent) (e .workers) (e .slots) (e .reply) (e .begun) (e .begins) (e .accepts);
+      begins = exported-start (e .lent) (e .limits) (e .workers) (e .slots) (e .reply) (e .begun) (e .begins) (e .accepts);
       seen = heardAll (e .made);
       chained = exports-chained (e .made) (e .begun) (e .exports);
     }
@@ -51,6 +50,7 @@ first-exports (suc n) (c ∷ rest) m e = (e .0, first-exports n rest (c .left) (
 abbrev firstMade : Exporting → ℕ → Exporting
 firstMade e n =
     record {
+      limits = e .limits;
       workers = e .workers;
       slots = e .slots;
       lent = e .lent;
@@ -66,11 +66,11 @@ firstMade e n =
 abbrev pub runMade : Exporting → ℕ → Run
 runMade e n =
     record {
-      limits = engine;
+      limits = e .limits;
       workers = e .workers;
       slots = e .slots;
       lent = e .lent;
-      accepts = begin-accepts engine (e .workers) (e .slots) (e .lent) (e .begun) (hostingOf e .begins);
+      accepts = begin-accepts (e .limits) (e .workers) (e .slots) (e .lent) (e .begun) (hostingOf e .begins);
       calls = callsMade (heardAll (take n (e .made)));
     }
 
@@ -89,8 +89,8 @@ pub record ExportsRun (e : Exporting) : Type 0 where
 -- a call that is not heard leaves the words
 last-more : (c : Export) (m m′ : Mem) (later : List Seen) → Contract m c m′ → lastLeft m (heardOf c m′ later) ≡ lastLeft m′ later
 unfolding lastLeft
-last-more (stepMade p k i s r) m m′ later contract = refl
-last-more (beginMade p k r) m m′ later contract = refl
+last-more (stepMade limits p k i s r) m m′ later contract = refl
+last-more (beginMade limits p k r) m m′ later contract = refl
 last-more (lookupMade side t r) m m′ later contract = refl
 last-more readingMade m m′ later contract = ap (λ (x : Mem). lastLeft x later) (sym contract)
 

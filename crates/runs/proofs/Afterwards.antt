@@ -1,5 +1,5 @@
--- A finished run is at rest: every ring and every buffer is empty, every worker idle and every degree 0. A step with begin's P and K and a worker
--- below P then only ever meets 9 and 10: Fetch and Release find nothing there, Start and Complete don't suit the phase.
+-- A finished run is at rest: every ring and every buffer is empty, every worker idle and every degree 0. A step with begin's P and K, limits that these and
+-- N and E keep, and a worker below P then only ever meets 9 and 10: Fetch and Release find nothing there, Start and Complete don't suit the phase.
 use Prim.Native.Nat.{ℕ, _+_, _%_, _<_}
 use mathlib.Core.Path.{_≡_, refl, sym, _∙_}
 use mathlib.Core.Logic.{inl, inr}
@@ -26,13 +26,13 @@ use Rattle.algorithm1.specs.Reading.{queueIn, stateOf}
 use Rattle.algorithm1.proofs.Readings.{degree-at, queue-at}
 use Rattle.system.specs.Stages.{idle}
 use Rattle.system.proofs.Finished.{finished-waiting, finished-hand, finished-degree, finished-pending}
-use Rattle.runs.specs.Calls.{Run, memoryOf}
+use Rattle.runs.specs.Calls.{Run, KeptBy, memoryOf}
 use Rattle.runs.specs.Demand.{Finished, nextSays}
 use Rattle.runs.specs.AtRest.{AtRest}
 use Rattle.runs.proofs.Invariant.{meaning}
 use Rattle.runs.proofs.Begun.{all-listed}
 use Rattle.runs.proofs.Waiting.{waiting-none}
-use Rattle.runs.proofs.Honest.{systemIn, ends-sound, honest-run}
+use Rattle.runs.proofs.Honest.{systemIn, ends-sound, honest-under, honest-run}
 use Rattle.runs.proofs.Live.{row-phase, row-pointer, scan-sound}
 use Rattle.runs.proofs.LiveRelease.{places-good, pending-none}
 use Rattle.runs.proofs.Demand.{invariant-run, all-recorded, finished-full}
@@ -103,23 +103,25 @@ module _ (r : Run) (f : Finished r) where
   rests = record { queues = queue-none; rings = ring-empty; phases = phase-idle; buffers = buffer-empty; degrees = degree-none }
 
   module _ (i : ℕ) (worker : i < p) where
-    fits : Fits (r .limits) p k now
-    fits = honest-run r .fits
-
     free : _≡_ {A = ℕ} (rowIn now i .phase) 0
     free = phase-idle i worker
 
     -- the scan finds all P rings empty
     pub scan-none : GoesOn k Empty (scannedEnds p i now) p
-    scan-none d h = ring-empty i ((rowIn now i .pointer + d) % p) worker (mod-lt (rowIn now i .pointer + d) (fits .oneWorker))
+    scan-none d h = ring-empty i ((rowIn now i .pointer + d) % p) worker (mod-lt (rowIn now i .pointer + d) (honest-run r .fits .limits .oneWorker))
 
-    pub finished-says : (nextSays r i Fetch ≡ refused 10 0) × (nextSays r i Start ≡ refused 9 0)
-        × (nextSays r i Complete ≡ refused 9 0) × (nextSays r i Release ≡ refused 10 0)
-    finished-says = (
-      own-row (r .limits) p k i Fetch now fits worker free refl nothingThere 0
+    -- with all limits that the run keeps
+    pub finished-says : (limits : Limits) → KeptBy limits r
+        → (nextSays limits r i Fetch ≡ refused 10 0) × (nextSays limits r i Start ≡ refused 9 0)
+        × (nextSays limits r i Complete ≡ refused 9 0) × (nextSays limits r i Release ≡ refused 10 0)
+    finished-says limits w = (
+      own-row limits p k i Fetch now fits worker free refl nothingThere 0
           (inr (λ d c. omega (arith, row-pointer (honest-run r) i worker, c .1), inr (λ d c. scan-sound (honest-run r) i worker (c .1), inl (refl, (refl, scan-none))))),
-      unsuited (r .limits) p k i Start now fits worker free (λ e. omega (arith, e)),
-      unsuited (r .limits) p k i Complete now fits worker free (λ e. omega (arith, e)),
-      own-row (r .limits) p k i Release now fits worker free refl nothingThere 0
+      unsuited limits p k i Start now fits worker free (λ e. omega (arith, e)),
+      unsuited limits p k i Complete now fits worker free (λ e. omega (arith, e)),
+      own-row limits p k i Release now fits worker free refl nothingThere 0
           (inr (λ d c. places-good (honest-run r) i worker (c .1), inl (refl, (refl, buffer-empty i worker)))),
     )
+      where
+        fits : Fits limits p k now
+        fits = honest-under r limits w .fits

@@ -130,7 +130,7 @@ module _ (p k : ℕ) (m b : Mem) (positive : 0 < p) (sound : Sound (graphIn m)) 
 
 module _ (limits : Limits) (p k : ℕ) (m : Mem) (e : answerSays (begin limits p k m .answer) ≡ accepted) where
   positive : 0 < p
-  positive = begin-accepted limits p k m .0 e .0 .oneWorker
+  positive = begin-accepted limits p k m .0 e .0 .limits .oneWorker
 
   begun-sound : Sound (graphIn m)
   begun-sound = fits-sound (begin-accepted limits p k m .0 e .1)

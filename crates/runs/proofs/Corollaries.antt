@@ -2,35 +2,45 @@
 -- records the same tasks as any other of its graph, and accepts no further step. With N 0 begun is finished.
 use Prim.Native.Nat.{ℕ, _<_}
 use mathlib.Core.Path.{_≡_, refl, sym, ap, _∙_}
+use mathlib.Core.Logic.{inl}
 use mathlib.Core.List.{List, []}
 use native.Mathlib.Omega.{arith}
 use native.Mathlib.Decide.{ℕ-discrete}
 use lib.ListN.{length, getD}
 use Rattle.lists.specs.Lists.{occ, placeOf}
 use Rattle.lists.proofs.Blocks.{getD-tabulate}
+use Rattle.lists.proofs.Decided.{stable, both?}
 use Rattle.lists.proofs.Occurrences.{occ-hit, at-occ}
 use Rattle.lists.proofs.Positions.{place-member, place-at, place-least, before-member}
-use Rattle.task.specs.Refusals.{answerSays, stepSays, refused, recordFull}
+use Rattle.task.specs.Refusals.{Said, answerSays, stepSays, refused, recordFull}
 use Rattle.task.specs.Rows.{Acceptance}
 use Rattle.task.specs.declared.Limits.{Limits}
+use Rattle.task.specs.declared.Answer.{Answer}
+use Rattle.task.specs.declared.Answer.the-variants as answer
 use Rattle.task.specs.declared.Step.{Step}
 use Rattle.task.specs.declared.Step.the-variants.{Complete}
+use Rattle.task.specs.declared.StepAnswer.{StepAnswer}
+use Rattle.task.specs.declared.StepAnswer.the-variants.{Refused}
 use Rattle.graph.specs.Graph.{Graph, predsOf, Edge}
 use Rattle.graph.specs.Conditions.{EndsFit}
 use Rattle.exchange.specs.Pairs.{eachOnce}
-use Rattle.rules.specs.Memory.{Mem, tasks, graphIn, rowIn, held, entriesIn}
+use Rattle.rules.specs.Memory.{Mem, tasks, edges, graphIn, rowIn, held, entriesIn}
+use Rattle.rules.specs.Sizes.{KeepsLimits}
+use Rattle.rules.specs.Plans.{Result, resultOf}
 use Rattle.rules.specs.Steps.{step}
 use Rattle.rules.specs.Begin.{begin}
+use Rattle.rules.proofs.Headers.{kept, not-beyond}
+use Rattle.rules.proofs.Limits.{beyond-2}
 use Rattle.rules.proofs.Moves.{accepted-step}
 use Rattle.rules.proofs.Numbers.{TwoOrOne, other-step, other-begin}
 use Rattle.algorithm1.specs.Reading.{threadIn}
 use Rattle.algorithm1.proofs.Readings.{thread-at}
 use Rattle.system.specs.Stages.{inHand}
 use Rattle.system.proofs.Progress as progress
-use Rattle.runs.specs.Calls.{Run, memoryOf, eventsOf}
+use Rattle.runs.specs.Calls.{stepCall, beginCall, says, leaves, Run, KeptBy, memoryOf, eventsOf}
 use Rattle.runs.specs.Demand.{acceptedSteps, acceptedCompletes, Finished, taskWord, orderOf, OneGraph}
 use Rattle.runs.proofs.Invariant.{itemsOf, meaning}
-use Rattle.runs.proofs.Calls.{graph-reached}
+use Rattle.runs.proofs.Calls.{accepted-fits, graph-reached, tasks-reached, edges-reached}
 use Rattle.runs.proofs.Begun.{items-reversed}
 use Rattle.runs.proofs.Hands.{hand-holds}
 use Rattle.runs.proofs.Events.{entries-word}
@@ -115,15 +125,47 @@ nothing-finished r none = (finished, omega (arith, none, demand-3 .one r .steps 
     ends : EndsFit (graphIn (r .lent))
     ends = rw (graph-reached r) at (run-sound r .ends)
 
--- "A call with another P or K than begin's meets 2 or 1.", a step or a begin, at any time of the run
-pub other-numbers : (r : Run) (p k : ℕ) → ¬ ((p ≡ r .workers) × (k ≡ r .slots))
-    → ((i : ℕ) (s : Step) → TwoOrOne (stepSays (step (r .limits) p k i s (memoryOf r) .answer)))
-    × TwoOrOne (answerSays (begin (r .limits) p k (memoryOf r) .answer))
-other-numbers r p k n = (
-  other-step (r .limits) (r .workers) (r .slots) p k (memoryOf r) (honest-run r .fits .lengths) n,
-  other-begin (r .limits) (r .workers) (r .slots) p k (memoryOf r) (honest-run r .fits .lengths) n,
+-- "A call with another P or K than begin's meets 2 or 1.", a step or a begin, at any time of the run and whatever its limits
+pub other-numbers : (r : Run) (limits : Limits) (p k : ℕ) → ¬ ((p ≡ r .workers) × (k ≡ r .slots))
+    → ((i : ℕ) (s : Step) → TwoOrOne (stepSays (step limits p k i s (memoryOf r) .answer)))
+    × TwoOrOne (answerSays (begin limits p k (memoryOf r) .answer))
+other-numbers r limits p k n = (
+  other-step limits (r .workers) (r .slots) p k (memoryOf r) (honest-run r .fits .lengths) n,
+  other-begin limits (r .workers) (r .slots) p k (memoryOf r) (honest-run r .fits .lengths) n,
 )
 
--- in memory begun and stepped by the engine Complete never meets 12, whatever P, K and worker
-pub never-full : (r : Run) (p k i d : ℕ) → ¬ (stepSays (step (r .limits) p k i Complete (memoryOf r) .answer) ≡ refused recordFull d)
-never-full r p k i d = undamaged .next r (r .limits) p k i Complete .notFull d
+-- a call beyond its limits is refused with 2 and leaves all words, a step or a begin, at any time of the run
+pub beyond-limits : (r : Run) (limits : Limits) (p k : ℕ) → ¬ (KeepsLimits limits p k (tasks (r .lent)) (edges (r .lent)))
+    → ((i : ℕ) (s : Step) → (says (stepCall limits p k i s) (memoryOf r) ≡ refused 2 0) × (leaves (stepCall limits p k i s) (memoryOf r) ≡ memoryOf r))
+    × ((says (beginCall limits p k) (memoryOf r) ≡ refused 2 0) × (leaves (beginCall limits p k) (memoryOf r) ≡ memoryOf r))
+unfolding says leaves
+beyond-limits r limits p k n = (
+  λ i s. (ap (λ (x : Result StepAnswer). stepSays (x .answer)) (two .1 i s), ap (λ (x : Result StepAnswer). x .memory) (two .1 i s)),
+  (ap (λ (x : Result Answer). answerSays (x .answer)) (two .0), ap (λ (x : Result Answer). x .memory) (two .0)),
+)
+  where
+    two : (begin limits p k (memoryOf r) ≡ resultOf (answer.Refused 2 0) (memoryOf r))
+        × ((i : ℕ) (s : Step) → step limits p k i s (memoryOf r) ≡ resultOf (Refused 2 0) (memoryOf r))
+    two = beyond-2 limits p k (memoryOf r) (λ w. n (rw (sym (tasks-reached r), sym (edges-reached r)) w))
+
+-- so the run keeps the limits of every step and begin that is accepted, whatever its P and K
+pub accepted-kept : (r : Run) (limits : Limits) (p k : ℕ)
+    → ((i : ℕ) (s : Step) → Acceptance (says (stepCall limits p k i s) (memoryOf r)) → KeptBy limits r)
+    × (Acceptance (says (beginCall limits p k) (memoryOf r)) → KeptBy limits r)
+unfolding says
+accepted-kept r limits p k = (
+  λ i s a. keeps _ a (λ n. beyond-limits r limits p k n .0 i s .0) (λ n. other-numbers r limits p k n .0 i s),
+  λ a. keeps _ a (λ n. beyond-limits r limits p k n .1 .0) (λ n. other-numbers r limits p k n .1),
+)
+  where
+    keeps : (said : Said) → Acceptance said → (¬ (KeepsLimits limits p k (tasks (r .lent)) (edges (r .lent))) → said ≡ refused 2 0)
+        → (¬ ((p ≡ r .workers) × (k ≡ r .slots)) → TwoOrOne said) → KeptBy limits r
+    keeps said a beyond other =
+        let (ep, ek) = stable (both? p k (r .workers) (r .slots)) (λ n. accepted-fits said a (other n)) in
+        rw (sym ep, sym ek, sym (tasks-reached r), sym (edges-reached r))
+        (kept limits p k (memoryOf r)
+        (λ b. accepted-fits said a (inl (beyond (λ w. not-beyond limits p k (memoryOf r) (rw (tasks-reached r, edges-reached r) w) b)))))
+
+-- in memory begun and stepped by the engine Complete never meets 12, whatever the limits, P, K and worker
+pub never-full : (r : Run) (limits : Limits) (p k i d : ℕ) → ¬ (stepSays (step limits p k i Complete (memoryOf r) .answer) ≡ refused recordFull d)
+never-full r limits p k i d = undamaged .next r limits p k i Complete .notFull d

@@ -13,9 +13,10 @@ use Rattle.lists.proofs.Occurrences.{occ-hit}
 use Rattle.lists.proofs.Sums.{sum-prefix}
 use Rattle.task.specs.Types.{nil}
 use Rattle.task.specs.Rows.{Acceptance}
+use Rattle.task.specs.declared.Limits.{Limits}
 use Rattle.task.specs.declared.Step.{Step}
 use Rattle.task.specs.declared.Step.the-variants.{Fetch, Start, Complete, Release}
-use Rattle.graph.specs.Graph.{Graph, edgeCount, Edge}
+use Rattle.graph.specs.Graph.{Graph, Edge}
 use Rattle.graph.specs.Conditions.{Sound}
 use Rattle.graph.proofs.Accepted.{rank, rank-rises, fits-sound}
 use Rattle.graph.proofs.Parts.{edge-of, few-preds}
@@ -33,16 +34,16 @@ use Rattle.system.specs.System.{Ready, toStart, toComplete, toFetch, toRelease}
 use Rattle.system.proofs.Counting.{held-few, below-all}
 use Rattle.system.proofs.Finished.{finished-record, finished-steps}
 use Rattle.system.proofs.Progress.{progress, held-wanted, waiting-wanted, pending-blocked}
-use Rattle.runs.specs.Calls.{Run, memoryOf}
+use Rattle.runs.specs.Calls.{Run, KeptBy, memoryOf}
 use Rattle.runs.specs.Counters.{handOf}
 use Rattle.runs.specs.Demand.{Finished, taskWord, orderOf, AllowedOrder, nextSays, OneRun, Agree, OneGraph, Exchanges, Demand3}
 use Rattle.runs.proofs.Invariant.{itemsOf, pendingOf, meaning}
-use Rattle.runs.proofs.Calls.{graph-reached, tasks-reached}
+use Rattle.runs.proofs.Calls.{graph-reached, tasks-reached, edges-reached, begun-within}
 use Rattle.runs.proofs.Begun.{all-listed, items-reversed}
 use Rattle.runs.proofs.Hands.{hand-running}
 use Rattle.runs.proofs.Meaning.{length-tasks}
 use Rattle.runs.proofs.Events.{length-record, record-words, recorded-workers, entries-word, accepted-word}
-use Rattle.runs.proofs.Honest.{systemIn, Honest, honest-run}
+use Rattle.runs.proofs.Honest.{systemIn, Honest, honest-under, honest-run}
 use Rattle.runs.proofs.Live.{start-live, complete-live, fetch-live}
 use Rattle.runs.proofs.LiveRelease.{release-live}
 
@@ -155,9 +156,6 @@ module _ (r : Run) where
 
   -- a task isn't recorded yet
   module _ (free : entriesIn now < tasks now) where
-    abbrev Accepts : ℕ → Step → Type 0
-    Accepts i s = Acceptance (nextSays r i s)
-
     some-missing : length recorded < length (allOf (tasks now))
     some-missing = omega (arith, recorded-length, free, length-all (tasks now))
 
@@ -179,13 +177,16 @@ module _ (r : Run) where
         (λ u t h. tally-yes (decLt u (tasks now)) (run-sound .good t (edge-of run-sound u t h .task) .below u h))
         (allOf (tasks now)) (all-listed graph) (systemIn p k now) invariant-run some-missing
 
-    -- so one of the four steps is accepted
-    accepted-next : (i : ℕ) × (s : Step) × (i < p) × Accepts i s
+    -- so one of the four steps is accepted, with all limits that the run keeps
+    accepted-next : (limits : Limits) → KeptBy limits r → (i : ℕ) × (s : Step) × (i < p) × Acceptance (nextSays limits r i s)
     unfolding meaning
-    accepted-next = go ready
+    accepted-next limits within = go ready
       where
-        h : Honest (r .limits) p k now
-        h = honest-run r
+        Accepts : ℕ → Step → Type 0
+        Accepts i s = Acceptance (nextSays limits r i s)
+
+        h : Honest limits p k now
+        h = honest-under r limits within
 
         release : (i x : ℕ) (rest : List ℕ) → i < p → pendingOf state (threadOf state i) ≡ x ∷ rest → handOf (threadOf state i) ≡ idle
             → ((o : ℕ) → o < p → waitingFor p state o ≡ []) → Accepts i Release
@@ -200,9 +201,6 @@ module _ (r : Run) where
         go (toRelease i x rest worker pending hands none) = (i, Release, worker, release i x rest worker pending (hands i worker) none)
 
 module _ (r : Run) where
-  edges-same : edges (memoryOf r) ≡ edges (r .lent)
-  edges-same = ap edgeCount (graph-reached r)
-
   -- "The run is finished once N of its Completes are accepted": then the record is full
   pub finished-full : Finished r → entriesIn (memoryOf r) ≡ tasks (memoryOf r)
   finished-full f = omega (arith, f .completes, entries-word r, honest-run r .words .entries, tasks-reached r)
@@ -234,12 +232,13 @@ two-runs r r′ o f f′ =
 one-run : (r : Run) → OneRun r
 one-run r =
     record {
-      steps = λ f. omega (arith, accepted-word r, finished-count r (finished-full r f), tasks-reached r, edges-same r);
+      steps = λ f. omega (arith, accepted-word r, finished-count r (finished-full r f), tasks-reached r, edges-reached r);
       word = accepted-word r;
-      full = λ f. omega (arith, finished-count r (finished-full r f), tasks-reached r, edges-same r);
+      full = λ f. omega (arith, finished-count r (finished-full r f), tasks-reached r, edges-reached r);
       order = finished-order r;
       named = λ f x h. recorded-workers r x (omega (arith, h, f .completes));
-      next = λ n. accepted-next r (unfinished-free r n);
+      next = λ n. accepted-next r (unfinished-free r n) (r .limits) (begun-within r);
+      nextBy = λ n. accepted-next r (unfinished-free r n);
     }
 
 pub demand-3 : Demand3

@@ -35,34 +35,35 @@ use Rattle.runs.proofs.Honest.{honest-run}
 use Rattle.runs.proofs.Spares.{pointerOf, Spares, spares-none, waits-spared, spared-fetch, spared, taking, pointer-on}
 
 -- one of the owner's accepted Fetches
-abbrev owned : Limits → ℕ → Call → Mem → Bool
-owned limits owner c m = cond (fetchBy owner c) (acceptedSaid (says limits c m)) false
+abbrev owned : ℕ → Call → Mem → Bool
+owned owner c m = cond (fetchBy owner c) (acceptedSaid (says c m)) false
 
 oneMore-lt : (b : Bool) (x y : ℕ) → x < y → oneMore b x < oneMore b y
 oneMore-lt true x y h = omega (arith, h)
 oneMore-lt false x y h = h
 
 -- a call that begins no other run, before other calls
-fetches-first : (limits : Limits) (owner : ℕ) (c : Call) (cs : List Call) (m : Mem) → began (eventOf limits c m) ≡ false
-    → fetches limits owner (c ∷ cs) m ≡ oneMore (owned limits owner c m) (fetches limits owner cs (leaves limits c m))
+fetches-first : (owner : ℕ) (c : Call) (cs : List Call) (m : Mem) → began (eventOf c m) ≡ false
+    → fetches owner (c ∷ cs) m ≡ oneMore (owned owner c m) (fetches owner cs (leaves c m))
 unfolding fetches
-fetches-first limits owner c cs m same = rw same refl
+fetches-first owner c cs m same = rw same refl
 
 -- what the calls after c take is taken from c on, c counting if it is one of the owner's accepted Fetches
-taken-later : (limits : Limits) (p k owner filler t : ℕ) (behind : List ℕ) (c : Call) (cs : List Call) (m : Mem) → began (eventOf limits c m) ≡ false
-    → (x n : ℕ) → oneMore (owned limits owner c m) x ≡ n
-    → TakenWithin limits p k owner filler t behind x cs (leaves limits c m) → TakenWithin limits p k owner filler t behind n (c ∷ cs) m
+taken-later : (p k owner filler t : ℕ) (behind : List ℕ) (c : Call) (cs : List Call) (m : Mem) → began (eventOf c m) ≡ false
+    → (x n : ℕ) → oneMore (owned owner c m) x ≡ n
+    → TakenWithin p k owner filler t behind x cs (leaves c m) → TakenWithin p k owner filler t behind n (c ∷ cs) m
 unfolding memoryAfter begins
-taken-later limits p k owner filler t behind c cs m same x n e w =
+taken-later p k owner filler t behind c cs m same x n e w =
     rw (sym e)
     (record {
       earlier = c ∷ w .earlier;
       later = w .later;
+      limits = w .limits;
       split = ap (λ (ds : List Call). c ∷ ds) (w .split);
       sameRun = rw same (w .sameRun);
       number =
-          rw (fetches-first limits owner c (w .earlier) m same)
-          (oneMore-lt (owned limits owner c m) (fetches limits owner (w .earlier) (leaves limits c m)) x (w .number));
+          rw (fetches-first owner c (w .earlier) m same)
+          (oneMore-lt (owned owner c m) (fetches owner (w .earlier) (leaves c m)) x (w .number));
       answered = w .answered;
       added = w .added;
       first = w .first;
@@ -75,15 +76,15 @@ still-own owner c said (refuses _ n d) = cond-either (fetchBy owner c) false
 still-own owner c said (looks side t _) = refl
 
 -- an accepted begin ends the run
-fetches-none : (limits : Limits) (owner : ℕ) (c : Call) (cs : List Call) (m : Mem) → began (eventOf limits c m) ≡ true → fetches limits owner (c ∷ cs) m ≡ 0
+fetches-none : (owner : ℕ) (c : Call) (cs : List Call) (m : Mem) → began (eventOf c m) ≡ true → fetches owner (c ∷ cs) m ≡ 0
 unfolding fetches
-fetches-none limits owner c cs m e = rw e refl
+fetches-none owner c cs m e = rw e refl
 
-module _ (limits : Limits) (p k : ℕ) where
+module _ (p k : ℕ) where
   -- every accepted step is Algorithm 1's
-  does : (i : ℕ) (s : Step) (m : Mem) (a : AcceptedStep limits p k i s m)
+  does : (limits : Limits) (i : ℕ) (s : Step) (m : Mem) (a : AcceptedStep limits p k i s m)
       → Lines p (capacity k) i s (stateOf p k m) (stateOf p k (step limits p k i s m .memory)) (a .outcome)
-  does i s m a = step-does limits p k i s m a .lines
+  does limits i s m a = step-does limits p k i s m a .lines
 
   module _ (owner filler t : ℕ) (behind : List ℕ) (owns : owner < p) (fills : filler < p) where
     -- t waits in the owner's list, `added` being what has joined it since, and fewer than n takes can come before t's own: n accepted Fetches
@@ -92,47 +93,48 @@ module _ (limits : Limits) (p k : ℕ) where
     Enough cs m =
         (ahead added : List ℕ) (distance n : ℕ)
         → Waits p (queueOf (stateOf p k m) owner) (pointerOf (stateOf p k m) owner) filler ahead t (behind ++ added) distance
-        → length ahead * p + distance < n → n ≤ fetches limits owner cs m → TakenWithin limits p k owner filler t behind n cs m
+        → length ahead * p + distance < n → n ≤ fetches owner cs m → TakenWithin p k owner filler t behind n cs m
 
     -- a call that spares the owner's lists
-    enough-spared : (c : Call) (cs : List Call) (m : Mem) → began (eventOf limits c m) ≡ false → owned limits owner c m ≡ false
-        → Spares owner (stateOf p k m) (stateOf p k (leaves limits c m)) → Enough cs (leaves limits c m) → Enough (c ∷ cs) m
+    enough-spared : (c : Call) (cs : List Call) (m : Mem) → began (eventOf c m) ≡ false → owned owner c m ≡ false
+        → Spares owner (stateOf p k m) (stateOf p k (leaves c m)) → Enough cs (leaves c m) → Enough (c ∷ cs) m
     enough-spared c cs m same e h rest ahead added distance n w small enough =
         let (l, still) = waits-spared p owner _ _ filler ahead t (behind ++ added) distance h w in
-        taken-later limits p k owner filler t behind c cs m same n n (ap (λ (b : Bool). oneMore b n) e)
+        taken-later p k owner filler t behind c cs m same n n (ap (λ (b : Bool). oneMore b n) e)
         (rest ahead (added ++ l) distance n (rw (sym (append-assoc behind added l)) still) small
-        (rw (fetches-first limits owner c cs m same, e) at enough))
+        (rw (fetches-first owner c cs m same, e) at enough))
 
     -- the owner's Fetch
-    module _ (cs : List Call) (m : Mem) (a : AcceptedStep limits p k owner Fetch m) where
+    module _ (limits : Limits) (cs : List Call) (m : Mem) (a : AcceptedStep limits p k owner Fetch m) where
       abbrev this : Call
-      this = stepCall p k owner Fetch
+      this = stepCall limits p k owner Fetch
 
       abbrev next : Mem
       next = step limits p k owner Fetch m .memory
 
       fetch : Fetches p owner (stateOf p k m) (stateOf p k next) (a .outcome)
-      fetch = does owner Fetch m a
+      fetch = does limits owner Fetch m a
 
       takes : Takes p (queueOf (stateOf p k m) owner) (queueOf (stateOf p k next) owner) (pointerOf (stateOf p k m) owner) (fetch .list) (fetch .task)
       takes = taking p k m owner owns (stateOf p k next) (a .outcome) fetch
 
-      answer : says limits this m ≡ taskFetched (fetch .task)
+      answer : says this m ≡ taskFetched (fetch .task)
       unfolding says
       answer = a .answered ∙ ap outcomeSays (fetch .outcome)
 
-      fetch-owned : owned limits owner this m ≡ true
+      fetch-owned : owned owner this m ≡ true
       fetch-owned = rw (eq-eqb owner owner refl, answer) refl
 
       -- it takes t
       fetches-it : (added : List ℕ) (n : ℕ) → 0 < n
           → Own (queueOf (stateOf p k m) owner) (queueOf (stateOf p k next) owner) filler (fetch .task) t (behind ++ added)
-          → TakenWithin limits p k owner filler t behind n (this ∷ cs) m
+          → TakenWithin p k owner filler t behind n (this ∷ cs) m
       unfolding memoryAfter begins fetches leaves
       fetches-it added n h own =
           record {
             earlier = [];
             later = cs;
+            limits = limits;
             split = refl;
             sameRun = refl;
             number = h;
@@ -143,63 +145,63 @@ module _ (limits : Limits) (p k : ℕ) where
           }
 
       -- it takes t, or brings it nearer
-      enough-own : Enough cs (leaves limits this m) → Enough (this ∷ cs) m
+      enough-own : Enough cs (leaves this m) → Enough (this ∷ cs) m
       unfolding leaves
       enough-own rest ahead added distance n w small enough =
           go (taken-or-nearer p _ _ _ filler (fetch .list) (fetch .task) t (behind ++ added) takes ahead distance w)
         where
-          same : began (eventOf limits this m) ≡ false
+          same : began (eventOf this m) ≡ false
           same = step-began limits p k m owner Fetch
 
           go : Own (queueOf (stateOf p k m) owner) (queueOf (stateOf p k next) owner) filler (fetch .task) t (behind ++ added)
               ⊎ Nearer p (queueOf (stateOf p k next) owner) ((fetch .list + 1) % p) filler t (behind ++ added) (length ahead * p + distance)
-              → TakenWithin limits p k owner filler t behind n (this ∷ cs) m
+              → TakenWithin p k owner filler t behind n (this ∷ cs) m
           go (inl own) = fetches-it added n (omega (arith, small)) own
           go (inr near) =
-              taken-later limits p k owner filler t behind this cs m same (n - 1) n (rw fetch-owned (omega (arith, small)))
+              taken-later p k owner filler t behind this cs m same (n - 1) n (rw fetch-owned (omega (arith, small)))
               (rest (near .ahead) added (near .distance) (n - 1) (rw (pointer-on p k m owner owns _ _ fetch) (near .waits))
               (omega (arith, small, near .fewer))
-              (omega (arith, rw (fetches-first limits owner this cs m same, fetch-owned) at enough)))
+              (omega (arith, rw (fetches-first owner this cs m same, fetch-owned) at enough)))
 
     -- any step
-    enough-step : (i : ℕ) (s : Step) (cs : List Call) (m : Mem) → AcceptedStep limits p k i s m
-        → Enough cs (leaves limits (stepCall p k i s) m) → Enough (stepCall p k i s ∷ cs) m
+    enough-step : (limits : Limits) (i : ℕ) (s : Step) (cs : List Call) (m : Mem) → AcceptedStep limits p k i s m
+        → Enough cs (leaves (stepCall limits p k i s) m) → Enough (stepCall limits p k i s ∷ cs) m
     unfolding leaves
-    enough-step i s cs m a = go s a (ℕ-discrete owner i)
+    enough-step limits i s cs m a = go s a (ℕ-discrete owner i)
       where
         spares : (s : Step) → cond (isFetch s) (eqb i owner) false ≡ false → Spares owner (stateOf p k m) (stateOf p k (step limits p k i s m .memory))
-            → Enough cs (leaves limits (stepCall p k i s) m) → Enough (stepCall p k i s ∷ cs) m
-        spares s e h = enough-spared (stepCall p k i s) cs m (step-began limits p k m i s) (rw e refl) h
+            → Enough cs (leaves (stepCall limits p k i s) m) → Enough (stepCall limits p k i s ∷ cs) m
+        spares s e h = enough-spared (stepCall limits p k i s) cs m (step-began limits p k m i s) (rw e refl) h
 
         no-fetch : (s : Step) → isFetch s ≡ false → AcceptedStep limits p k i s m
-            → Enough cs (leaves limits (stepCall p k i s) m) → Enough (stepCall p k i s ∷ cs) m
-        no-fetch s e a = spares s (rw e refl) (spared p k m i (a .allowed .worker) _ (a .outcome) owner s e (does i s m a))
+            → Enough cs (leaves (stepCall limits p k i s) m) → Enough (stepCall limits p k i s ∷ cs) m
+        no-fetch s e a = spares s (rw e refl) (spared p k m i (a .allowed .worker) _ (a .outcome) owner s e (does limits i s m a))
 
         go : (s : Step) → AcceptedStep limits p k i s m → Dec (owner ≡ i)
-            → Enough cs (leaves limits (stepCall p k i s) m) → Enough (stepCall p k i s ∷ cs) m
-        go Fetch a (yes e) = rw (sym e) (enough-own cs m (rw e a))
+            → Enough cs (leaves (stepCall limits p k i s) m) → Enough (stepCall limits p k i s ∷ cs) m
+        go Fetch a (yes e) = rw (sym e) (enough-own limits cs m (rw e a))
         go Fetch a (no n) =
-            spares Fetch (ne-eqb i owner (λ e. n (sym e))) (spared-fetch p k m i (a .allowed .worker) _ (a .outcome) owner n (does i Fetch m a))
+            spares Fetch (ne-eqb i owner (λ e. n (sym e))) (spared-fetch p k m i (a .allowed .worker) _ (a .outcome) owner n (does limits i Fetch m a))
         go Start a _ = no-fetch Start refl a
         go Complete a _ = no-fetch Complete refl a
         go Release a _ = no-fetch Release refl a
 
-    enough-call : (c : Call) (cs : List Call) (m : Mem) → Did limits p k m c → Enough cs (leaves limits c m) → Enough (c ∷ cs) m
+    enough-call : (c : Call) (cs : List Call) (m : Mem) → Did p k m c → Enough cs (leaves c m) → Enough (c ∷ cs) m
     enough-call c cs m (stays _ h e) =
-        enough-spared c cs m (still-began c (says limits c m) h) (still-own owner c (says limits c m) h) (rw e (spares-none owner (stateOf p k m)))
-    enough-call _ cs m (steps i s a) = enough-step i s cs m a
-    enough-call _ cs m (starts e) = λ _ ahead added distance n w small enough.
-        absurd (omega (arith, small, enough, fetches-none limits owner _ cs m (begin-began limits p k m e)))
+        enough-spared c cs m (still-began c (says c m) h) (still-own owner c (says c m) h) (rw e (spares-none owner (stateOf p k m)))
+    enough-call _ cs m (steps limits i s a) = enough-step limits i s cs m a
+    enough-call _ cs m (starts limits e) = λ _ ahead added distance n w small enough.
+        absurd (omega (arith, small, enough, fetches-none owner _ cs m (begin-began limits p k m e)))
 
     enough : (cs : List Call) (m : Mem) → Lengths p k m → Enough cs m
     unfolding fetches
     enough [] m l = λ ahead added distance n w small some. absurd (omega (arith, small, some))
-    enough (c ∷ cs) m l = enough-call c cs m (did limits p k m l c) (enough cs (leaves limits c m) (lengths-kept limits p k m l c))
+    enough (c ∷ cs) m l = enough-call c cs m (did p k m l c) (enough cs (leaves c m) (lengths-kept p k m l c))
 
     -- t's list is less than p on from the pointer, so fewer than (length ahead + 1) * p takes can come before t's own
     taken-soon : (m : Mem) → Lengths p k m → (ahead : List ℕ) → queueIn p k m owner filler ≡ ahead ++ (t ∷ behind)
-        → (further : List Call) → (length ahead + 1) * p ≤ fetches limits owner further m
-        → TakenWithin limits p k owner filler t behind ((length ahead + 1) * p) further m
+        → (further : List Call) → (length ahead + 1) * p ≤ fetches owner further m
+        → TakenWithin p k owner filler t behind ((length ahead + 1) * p) further m
     taken-soon m l ahead stands further many =
         let (distance, near, there) = mod-reached p (pointer % p) filler (mod-lt pointer (omega (arith, owns))) fills in
         enough further m l ahead [] distance ((length ahead + 1) * p)
@@ -217,6 +219,6 @@ pub fair-fetching : FairFetching
 fair-fetching =
     record {
       soon = λ r owner filler owns fills ahead t behind.
-          taken-soon (r .limits) (r .workers) (r .slots) owner filler t behind owns fills (memoryOf r)
+          taken-soon (r .workers) (r .slots) owner filler t behind owns fills (memoryOf r)
           (honest-run r .fits .lengths) ahead;
     }

@@ -5,6 +5,7 @@ use mathlib.Core.List.{List}
 use native.Mathlib.Decide.{ℕ-discrete}
 use lib.ListN.{length}
 use Rattle.lists.proofs.Places.{place-lt}
+use Rattle.task.specs.Types.{engine}
 use Rattle.task.specs.Refusals.{answerSays, accepted}
 use Rattle.task.specs.declared.Limits.{Limits}
 use Rattle.task.specs.declared.Step.{Step}
@@ -12,8 +13,8 @@ use Rattle.graph.specs.Graph.{Graph, predsOf}
 use Rattle.graph.specs.Conditions.{Good, GraphFits}
 use Rattle.graph.proofs.Accepted.{fits-sound}
 use Rattle.ring.specs.Ring.{Sound, capacity}
-use Rattle.rules.specs.Memory.{Mem, tasks, graphIn, ringNumber, endsIn, acceptedIn}
-use Rattle.rules.specs.Sizes.{Fits}
+use Rattle.rules.specs.Memory.{Mem, tasks, edges, graphIn, ringNumber, endsIn, acceptedIn}
+use Rattle.rules.specs.Sizes.{KeepsLimits, Fits}
 use Rattle.rules.specs.Steps.{step}
 use Rattle.rules.specs.Begin.{begin}
 use Rattle.rules.specs.Begun.{LaidDown}
@@ -22,6 +23,7 @@ use Rattle.rules.proofs.Begin.{begin-accepted}
 use Rattle.rules.proofs.Begun.{laid-graph, laid-run, laid-down, begun-reversed}
 use Rattle.rules.proofs.Kept.{Kept, same-graph, fits-kept}
 use Rattle.rules.proofs.Kept as rules
+use Rattle.rules.proofs.Limits.{within-engine}
 use Rattle.rules.proofs.Moved.{counts}
 use Rattle.rules.proofs.Moves.{step-accepts}
 use Rattle.algorithm1.specs.State.{State}
@@ -31,10 +33,10 @@ use Rattle.algorithm1.proofs.Accepted.{step-does}
 use Rattle.system.specs.System as system
 use Rattle.system.proofs.Kept.{step-keeps, begins-keeps}
 use Rattle.system.proofs.Progress.{begins-few, step-few}
-use Rattle.runs.specs.Calls.{Call, reached, Run, memoryOf}
+use Rattle.runs.specs.Calls.{Call, reached, Run, KeptBy, memoryOf}
 use Rattle.runs.specs.Counters.{AddsUp}
 use Rattle.runs.proofs.Invariant.{itemsOf, meaning, Sane, Words}
-use Rattle.runs.proofs.Calls.{always}
+use Rattle.runs.proofs.Calls.{always, kept-now, begun-within}
 use Rattle.runs.proofs.Begun.{items-reversed, begun-sane, begun-begins}
 use Rattle.runs.proofs.Steps.{does-steps, does-sane}
 use Rattle.runs.proofs.Counters.{does-adds-up, begun-adds-up}
@@ -86,7 +88,7 @@ module _ (limits : Limits) (p k : ℕ) where
       laid : LaidDown p k m (begin limits p k m .memory)
       laid = laid-down limits p k m e
 
-  module _ (m : Mem) (i : ℕ) (s : Step) (r : AcceptedStep limits p k i s m) (h : Honest limits p k m) where
+  module _ (m : Mem) (i : ℕ) (s : Step) (r : AcceptedStep limits p k i s m) {kept-limits : Limits} (h : Honest kept-limits p k m) where
     abbrev left : Mem
     left = step limits p k i s m .memory
 
@@ -110,7 +112,7 @@ module _ (limits : Limits) (p k : ℕ) where
     system-step =
         does-steps (graphIn m) p (capacity k) i before after (r .outcome) (h .sane) (acceptedIn m) s does
 
-    step-honest : Honest limits p k left
+    step-honest : Honest kept-limits p k left
     step-honest =
         record {
           fits = fits-kept (kept .graph .weights) (kept .graph .preds) (kept .lengths p k (h .fits .lengths)) (h .fits);
@@ -129,14 +131,36 @@ module _ (limits : Limits) (p k : ℕ) where
           bounded = does-bounded p (capacity k) i before after (r .outcome) (h .sane .shaped) s does (h .bounded);
         }
 
-  -- so it holds after every list of a run's calls
-  pub honest : (m : Mem) → answerSays (begin limits p k m .answer) ≡ accepted → (cs : List Call) → Honest limits p k (reached limits p k m cs)
-  honest = always limits p k (Honest limits p k) begun-honest step-honest
+-- it is so under all limits that N, E, P and K keep
+honest-as : {limits limits′ : Limits} {p k : ℕ} {m : Mem} → KeepsLimits limits′ p k (tasks m) (edges m) → Honest limits p k m → Honest limits′ p k m
+honest-as w h =
+    record {
+      fits = record { limits = w; lengths = h .fits .lengths };
+      graph =
+          record { tasks = w .fewTasks; edges = w .fewEdges; light = h .graph .light; lengths = h .graph .lengths; graph = h .graph .graph };
+      good = h .good;
+      words = h .words;
+      sane = h .sane;
+      known = h .known;
+      addsUp = h .addsUp;
+      bounded = h .bounded;
+    }
+
+-- so it holds after every list of a run's calls, each with limits of its own, and under the engine's
+honest : (limits : Limits) (p k : ℕ) (m : Mem) → answerSays (begin limits p k m .answer) ≡ accepted → (cs : List Call)
+    → Honest engine p k (reached limits p k m cs)
+honest limits p k =
+    always p k (Honest engine p k)
+    (λ l m e. honest-as (within-engine (begun-honest l p k m e .fits .limits)) (begun-honest l p k m e))
+    (λ l m i s a h. step-honest l p k m i s a h) limits
 
 -- the ends of the ring of owner i filled by worker j are slots
 pub ends-sound : {limits : Limits} {p k : ℕ} {m : Mem} → Honest limits p k m → (i : ℕ) → i < p → (j : ℕ) → j < p → Sound k (endsIn m (ringNumber p i j))
 ends-sound {p = p} h i worker j l = h .words .ends (ringNumber p i j) (place-lt p p i j worker l)
 
--- what is known of the memory after a run's calls
+-- what is known of the memory after a run's calls, under all limits that the run keeps, and under begin's
+pub honest-under : (r : Run) (limits : Limits) → KeptBy limits r → Honest limits (r .workers) (r .slots) (memoryOf r)
+honest-under r limits w = honest-as (kept-now r limits w) (honest (r .limits) (r .workers) (r .slots) (r .lent) (r .accepts) (r .calls))
+
 pub honest-run : (r : Run) → Honest (r .limits) (r .workers) (r .slots) (memoryOf r)
-honest-run r = honest (r .limits) (r .workers) (r .slots) (r .lent) (r .accepts) (r .calls)
+honest-run r = honest-under r (r .limits) (begun-within r)

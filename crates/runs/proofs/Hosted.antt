@@ -15,45 +15,44 @@ use Rattle.runs.specs.Hosted.{Seen, seenAs, eventSeen, Link, Chained, Ho
 use Rattle.runs.specs.HostedFair.{fetchesSeen, beginsSeen, SeenTaken, HostedFair}
 use Rattle.runs.proofs.Fair.{fair-fetching}
 
-begun-is : (limits : Limits) (p k : ℕ) (m b : Mem) → Link limits m (seenAs (beginCall p k) accepted b) → begunMemory limits p k m ≡ b
+begun-is : (limits : Limits) (p k : ℕ) (m b : Mem) → Link m (seenAs (beginCall limits p k) accepted b) → begunMemory limits p k m ≡ b
 unfolding leaves
 begun-is limits p k m b l = sym (l .written)
 
-module _ (limits : Limits) where
-  -- the first calls of a chain, and those after them on the words that these left
-  chained-first : (a b : List Seen) (m : Mem) → Chained limits m (a ++ b) → Chained limits m a
-  chained-first [] b m c = tt
-  chained-first (s ∷ a) b m c = (c .0, chained-first a b (s .left) (c .1))
+-- the first calls of a chain, and those after them on the words that these left
+chained-first : (a b : List Seen) (m : Mem) → Chained m (a ++ b) → Chained m a
+chained-first [] b m c = tt
+chained-first (s ∷ a) b m c = (c .0, chained-first a b (s .left) (c .1))
 
-  chained-later : (a b : List Seen) (m : Mem) → Chained limits m (a ++ b) → Chained limits (lastLeft m a) b
-  unfolding lastLeft
-  chained-later [] b m c = c
-  chained-later (s ∷ a) b m c = chained-later a b (s .left) (c .1)
+chained-later : (a b : List Seen) (m : Mem) → Chained m (a ++ b) → Chained (lastLeft m a) b
+unfolding lastLeft
+chained-later [] b m c = c
+chained-later (s ∷ a) b m c = chained-later a b (s .left) (c .1)
 
-  -- what the rules say of the calls made is what was seen
-  last-after : (seen : List Seen) (m : Mem) → Chained limits m seen → memoryAfter limits (callsMade seen) m ≡ lastLeft m seen
-  unfolding memoryAfter callsMade lastLeft
-  last-after [] m c = refl
-  last-after (s ∷ rest) m c = ap (memoryAfter limits (callsMade rest)) (sym (c .0 .written)) ∙ last-after rest (s .left) (c .1)
+-- what the rules say of the calls made is what was seen
+last-after : (seen : List Seen) (m : Mem) → Chained m seen → memoryAfter (callsMade seen) m ≡ lastLeft m seen
+unfolding memoryAfter callsMade lastLeft
+last-after [] m c = refl
+last-after (s ∷ rest) m c = ap (memoryAfter (callsMade rest)) (sym (c .0 .written)) ∙ last-after rest (s .left) (c .1)
 
-  events-after : (seen : List Seen) (m : Mem) (past : List Event) → Chained limits m seen
-      → eventsAfter limits (callsMade seen) m past ≡ eventsSeen seen past
-  unfolding eventsAfter callsMade eventsSeen
-  events-after [] m past c = refl
-  events-after (s ∷ rest) m past c =
-      ap (λ (m′ : Mem). eventsAfter limits (callsMade rest) m′ (recalled (eventOf limits (s .call) m) past)) (sym (c .0 .written))
-      ∙ ap (λ (said : Said). eventsAfter limits (callsMade rest) (s .left) (recalled (record { call = s .call; said = said }) past)) (sym (c .0 .answered))
-      ∙ events-after rest (s .left) (recalled (eventSeen s) past) (c .1)
+events-after : (seen : List Seen) (m : Mem) (past : List Event) → Chained m seen
+    → eventsAfter (callsMade seen) m past ≡ eventsSeen seen past
+unfolding eventsAfter callsMade eventsSeen
+events-after [] m past c = refl
+events-after (s ∷ rest) m past c =
+    ap (λ (m′ : Mem). eventsAfter (callsMade rest) m′ (recalled (eventOf (s .call) m) past)) (sym (c .0 .written))
+    ∙ ap (λ (said : Said). eventsAfter (callsMade rest) (s .left) (recalled (record { call = s .call; said = said }) past)) (sym (c .0 .answered))
+    ∙ events-after rest (s .left) (recalled (eventSeen s) past) (c .1)
 
-  fetches-after : (i : ℕ) (seen : List Seen) (m : Mem) → Chained limits m seen → fetches limits i (callsMade seen) m ≡ fetchesSeen i seen
-  unfolding fetches callsMade fetchesSeen
-  fetches-after i [] m c = refl
-  fetches-after i (s ∷ rest) m c = rw (sym (c .0 .written), sym (c .0 .answered), fetches-after i rest (s .left) (c .1)) refl
+fetches-after : (i : ℕ) (seen : List Seen) (m : Mem) → Chained m seen → fetches i (callsMade seen) m ≡ fetchesSeen i seen
+unfolding fetches callsMade fetchesSeen
+fetches-after i [] m c = refl
+fetches-after i (s ∷ rest) m c = rw (sym (c .0 .written), sym (c .0 .answered), fetches-after i rest (s .left) (c .1)) refl
 
-  begins-after : (seen : List Seen) (m : Mem) → Chained limits m seen → begins limits (callsMade seen) m ≡ beginsSeen seen
-  unfolding begins callsMade beginsSeen
-  begins-after [] m c = refl
-  begins-after (s ∷ rest) m c = rw (sym (c .0 .written), sym (c .0 .answered), begins-after rest (s .left) (c .1)) refl
+begins-after : (seen : List Seen) (m : Mem) → Chained m seen → begins (callsMade seen) m ≡ beginsSeen seen
+unfolding begins callsMade beginsSeen
+begins-after [] m c = refl
+begins-after (s ∷ rest) m c = rw (sym (c .0 .written), sym (c .0 .answered), begins-after rest (s .left) (c .1)) refl
 
 -- the calls made, parted at one of them: so were they seen
 record Parted (seen : List Seen) (before : List Call) (c : Call) : Type 0 where
@@ -84,23 +83,21 @@ parted (b ∷ before) c after [] e = absurd (omega (arith, ap length e))
 parted (b ∷ before) c after (s ∷ seen) e = parted-more s (head-same e) (parted before c after seen (ap (drop 1) e))
 
 -- what is taken within some calls is seen to be taken
-module _ (limits : Limits) (p k owner filler t : ℕ) (behind : List ℕ) (bound : ℕ) (m : Mem) where
-  abbrev this : Call
-  this = stepCall p k owner Fetch
-
-  seen-taken : (later : List Seen) → Chained limits m later → TakenWithin limits p k owner filler t behind bound (callsMade later) m
+module _ (p k owner filler t : ℕ) (behind : List ℕ) (bound : ℕ) (m : Mem) where
+  seen-taken : (later : List Seen) → Chained m later → TakenWithin p k owner filler t behind bound (callsMade later) m
       → SeenTaken p k owner filler t behind bound later m
-  seen-taken later c w = go (parted (w .earlier) this (w .later) later (w .split))
+  seen-taken later c w = go (parted (w .earlier) (stepCall (w .limits) p k owner Fetch) (w .later) later (w .split))
     where
-      go : Parted later (w .earlier) this → SeenTaken p k owner filler t behind bound later m
+      go : Parted later (w .earlier) (stepCall (w .limits) p k owner Fetch) → SeenTaken p k owner filler t behind bound later m
       go q =
           record {
             before = q .earlier;
             fetch = q .this;
             rest = q .rest;
             split = q .split;
-            sameRun = sym (begins-after limits (q .earlier) m first) ∙ rw (q .calls) (w .sameRun);
-            number = rw (sym (fetches-after limits owner (q .earlier) m first), q .calls) (w .number);
+            sameRun = sym (begins-after (q .earlier) m first) ∙ rw (q .calls) (w .sameRun);
+            number = rw (sym (fetches-after owner (q .earlier) m first), q .calls) (w .number);
+            limits = w .limits;
             asked = q .call;
             answered = link .answered ∙ rw (q .call, sym left) (w .answered);
             added = w .added;
@@ -108,17 +105,17 @@ module _ (limits : Limits) (p k owner filler t : ℕ) (behind : List ℕ) (bound
             taken = rw (link .written, q .call, sym left) (w .taken);
           }
         where
-          whole : Chained limits m (q .earlier ++ (q .this ∷ q .rest))
+          whole : Chained m (q .earlier ++ (q .this ∷ q .rest))
           whole = rw (q .split) at c
 
-          first : Chained limits m (q .earlier)
-          first = chained-first limits (q .earlier) (q .this ∷ q .rest) m whole
+          first : Chained m (q .earlier)
+          first = chained-first (q .earlier) (q .this ∷ q .rest) m whole
 
-          link : Link limits (lastLeft m (q .earlier)) (q .this)
-          link = chained-later limits (q .earlier) (q .this ∷ q .rest) m whole .0
+          link : Link (lastLeft m (q .earlier)) (q .this)
+          link = chained-later (q .earlier) (q .this ∷ q .rest) m whole .0
 
-          left : memoryAfter limits (w .earlier) m ≡ lastLeft m (q .earlier)
-          left = ap (λ (cs : List Call). memoryAfter limits cs m) (sym (q .calls)) ∙ last-after limits (q .earlier) m first
+          left : memoryAfter (w .earlier) m ≡ lastLeft m (q .earlier)
+          left = ap (λ (cs : List Call). memoryAfter cs m) (sym (q .calls)) ∙ last-after (q .earlier) m first
 
 module _ (h : Hosting) where
   abbrev begunWords : Mem
@@ -128,31 +125,31 @@ module _ (h : Hosting) where
   begun = begun-is (h .limits) (h .workers) (h .slots) (h .lent) (h .begun) (h .begins)
 
   -- before and after the first n calls
-  parts : (n : ℕ) → Chained (h .limits) (h .begun) (take n (h .seen) ++ drop n (h .seen))
+  parts : (n : ℕ) → Chained (h .begun) (take n (h .seen) ++ drop n (h .seen))
   parts n = rw (take-append-drop n (h .seen)) (h .chained)
 
-  early : (n : ℕ) → Chained (h .limits) (h .begun) (take n (h .seen))
-  early n = chained-first (h .limits) (take n (h .seen)) (drop n (h .seen)) (h .begun) (parts n)
+  early : (n : ℕ) → Chained (h .begun) (take n (h .seen))
+  early n = chained-first (take n (h .seen)) (drop n (h .seen)) (h .begun) (parts n)
 
-  late : (n : ℕ) → Chained (h .limits) (wordsAfter h n) (drop n (h .seen))
-  late n = chained-later (h .limits) (take n (h .seen)) (drop n (h .seen)) (h .begun) (parts n)
+  late : (n : ℕ) → Chained (wordsAfter h n) (drop n (h .seen))
+  late n = chained-later (take n (h .seen)) (drop n (h .seen)) (h .begun) (parts n)
 
   pub hosted : Hosted h
   hosted =
       record {
         words = λ n.
-            ap (memoryAfter (h .limits) (callsMade (take n (h .seen)))) begun ∙ last-after (h .limits) (take n (h .seen)) (h .begun) (early n);
+            ap (memoryAfter (callsMade (take n (h .seen)))) begun ∙ last-after (take n (h .seen)) (h .begun) (early n);
         events = λ n.
-            ap (λ (m : Mem). eventsAfter (h .limits) (callsMade (take n (h .seen))) m []) begun
-            ∙ events-after (h .limits) (take n (h .seen)) (h .begun) [] (early n);
+            ap (λ (m : Mem). eventsAfter (callsMade (take n (h .seen))) m []) begun
+            ∙ events-after (take n (h .seen)) (h .begun) [] (early n);
       }
 
   pub hosted-fair : HostedFair h
   hosted-fair =
       record {
         soon = λ n owner filler owns fills ahead t behind stands many.
-            seen-taken (h .limits) (h .workers) (h .slots) owner filler t behind _ (wordsAfter h n) (drop n (h .seen)) (late n)
+            seen-taken (h .workers) (h .slots) owner filler t behind _ (wordsAfter h n) (drop n (h .seen)) (late n)
             (rw (sym (hosted .words n))
             (fair-fetching .soon (runAfter h n) owner filler owns fills ahead t behind (rw (hosted .words n) stands) (callsMade (drop n (h .seen)))
-            (rw (hosted .words n, fetches-after (h .limits) owner (drop n (h .seen)) (wordsAfter h n) (late n)) many)));
+            (rw (hosted .words n, fetches-after owner (drop n (h .seen)) (wordsAfter h n) (late n)) many)));
       }

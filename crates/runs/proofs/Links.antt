@@ -20,46 +20,46 @@ use Rattle.runs.specs.Hosted.{seenAs, Link}
 abbrev pub judged : Mem → Side → ℕ → Answer
 judged m side t = judgeAnswer side (lentOf (m .weights) (m .predStarts) (m .preds) (m .succStarts) (m .succs)) t
 
-module _ (limits : Limits) (m : Mem) where
+module _ (m : Mem) where
   -- `reply` turns the rule's answer into what the call hands out, and `read` tells from that what was said
-  from-rule : {A R : Type 0} (c : Call) (rule : Result A) (say : A → Said) → says limits c m ≡ say (rule .answer) → leaves limits c m ≡ rule .memory
+  from-rule : {A R : Type 0} (c : Call) (rule : Result A) (say : A → Said) → says c m ≡ say (rule .answer) → leaves c m ≡ rule .memory
       → (reply : A → R) (read : R → Said) → read (reply (rule .answer)) ≡ say (rule .answer)
-      → (r : R) (m′ : Mem) → resultOf r m′ ≡ resultOf (reply (rule .answer)) (rule .memory) → Link limits m (seenAs c (read r) m′)
+      → (r : R) (m′ : Mem) → resultOf r m′ ≡ resultOf (reply (rule .answer)) (rule .memory) → Link m (seenAs c (read r) m′)
   from-rule {R = R} c rule say answer memory reply read told r m′ contract =
       record {
         answered = ap (λ (x : Result R). read (x .answer)) contract ∙ told ∙ sym answer;
         written = ap (λ (x : Result R). x .memory) contract ∙ sym memory;
       }
 
-  pub replied-step : {R : Type 0} (p k i : ℕ) (s : Step) (reply : StepAnswer → R) (read : R → Said)
+  pub replied-step : {R : Type 0} (limits : Limits) (p k i : ℕ) (s : Step) (reply : StepAnswer → R) (read : R → Said)
       → read (reply (step limits p k i s m .answer)) ≡ stepSays (step limits p k i s m .answer)
       → (r : R) (m′ : Mem) → resultOf r m′ ≡ resultOf (reply (step limits p k i s m .answer)) (step limits p k i s m .memory)
-      → Link limits m (seenAs (stepCall p k i s) (read r) m′)
+      → Link m (seenAs (stepCall limits p k i s) (read r) m′)
   unfolding says leaves
-  replied-step p k i s = from-rule (stepCall p k i s) (step limits p k i s m) stepSays refl refl
+  replied-step limits p k i s = from-rule (stepCall limits p k i s) (step limits p k i s m) stepSays refl refl
 
-  pub replied-begin : {R : Type 0} (p k : ℕ) (reply : Answer → R) (read : R → Said)
+  pub replied-begin : {R : Type 0} (limits : Limits) (p k : ℕ) (reply : Answer → R) (read : R → Said)
       → read (reply (begin limits p k m .answer)) ≡ answerSays (begin limits p k m .answer)
       → (r : R) (m′ : Mem) → resultOf r m′ ≡ resultOf (reply (begin limits p k m .answer)) (begin limits p k m .memory)
-      → Link limits m (seenAs (beginCall p k) (read r) m′)
+      → Link m (seenAs (beginCall limits p k) (read r) m′)
   unfolding says leaves
-  replied-begin p k = from-rule (beginCall p k) (begin limits p k m) answerSays refl refl
+  replied-begin limits p k = from-rule (beginCall limits p k) (begin limits p k m) answerSays refl refl
 
   pub replied-lookup : {R : Type 0} (side : Side) (t : ℕ) (reply : Answer → R) (read : R → Said)
       → read (reply (judged m side t)) ≡ answerSays (judged m side t)
-      → (r : R) → r ≡ reply (judged m side t) → Link limits m (seenAs (lookupCall side t) (read r) m)
+      → (r : R) → r ≡ reply (judged m side t) → Link m (seenAs (lookupCall side t) (read r) m)
   unfolding says leaves
   replied-lookup {R = R} side t reply read told r contract =
       from-rule (lookupCall side t) (resultOf (judged m side t) m) answerSays refl refl reply read told r m (ap (λ (x : R). resultOf x m) contract)
 
   -- the contracts of `engine` and `engine_ref`, and of `lookup::judge`: the answer itself is handed out
-  pub step-link : (p k i : ℕ) (s : Step) (a : StepAnswer) (m′ : Mem) → resultOf a m′ ≡ step limits p k i s m
-      → Link limits m (seenAs (stepCall p k i s) (stepSays a) m′)
-  step-link p k i s = replied-step p k i s (λ a. a) stepSays refl
+  pub step-link : (limits : Limits) (p k i : ℕ) (s : Step) (a : StepAnswer) (m′ : Mem) → resultOf a m′ ≡ step limits p k i s m
+      → Link m (seenAs (stepCall limits p k i s) (stepSays a) m′)
+  step-link limits p k i s = replied-step limits p k i s (λ a. a) stepSays refl
 
-  pub begin-link : (p k : ℕ) (a : Answer) (m′ : Mem) → resultOf a m′ ≡ begin limits p k m
-      → Link limits m (seenAs (beginCall p k) (answerSays a) m′)
-  begin-link p k = replied-begin p k (λ a. a) answerSays refl
+  pub begin-link : (limits : Limits) (p k : ℕ) (a : Answer) (m′ : Mem) → resultOf a m′ ≡ begin limits p k m
+      → Link m (seenAs (beginCall limits p k) (answerSays a) m′)
+  begin-link limits p k = replied-begin limits p k (λ a. a) answerSays refl
 
-  pub lookup-link : (side : Side) (t : ℕ) (a : Answer) → a ≡ judged m side t → Link limits m (seenAs (lookupCall side t) (answerSays a) m)
+  pub lookup-link : (side : Side) (t : ℕ) (a : Answer) → a ≡ judged m side t → Link m (seenAs (lookupCall side t) (answerSays a) m)
   lookup-link side t = replied-lookup side t (λ a. a) answerSays refl

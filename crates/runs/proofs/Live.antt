@@ -96,11 +96,11 @@ module _ {limits : Limits} {p k : ℕ} {m : Mem} (h : Honest limits p k m) (i : 
   -- so the next task waits
   pub next-waits : (t : ℕ) → NextTask p k i m t → 0 < occ t (waitingFor p state i)
   next-waits t (e, stop, q) =
-      rw q at (head-waits ((rowIn m i .pointer + e) % p) (mod-lt (rowIn m i .pointer + e) (h .fits .oneWorker)) (stop .stops))
+      rw q at (head-waits ((rowIn m i .pointer + e) % p) (mod-lt (rowIn m i .pointer + e) (h .fits .limits .oneWorker)) (stop .stops))
 
   -- the scan comes to no damaged ends
   pub scan-sound : ¬ (BadEnds p k Empty (scannedEnds p i m))
-  scan-sound (e, near, on, bad) = bad (ends-sound h i worker ((rowIn m i .pointer + e) % p) (mod-lt (rowIn m i .pointer + e) (h .fits .oneWorker)))
+  scan-sound (e, near, on, bad) = bad (ends-sound h i worker ((rowIn m i .pointer + e) % p) (mod-lt (rowIn m i .pointer + e) (h .fits .limits .oneWorker)))
 
   -- where a task waits, the scan stops
   scan-stops-at : ¬ (waitingFor p state i ≡ []) → (e : ℕ) × StopsAt p k Empty (scannedEnds p i m) e

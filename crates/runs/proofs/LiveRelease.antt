@@ -187,15 +187,15 @@ module _ {limits : Limits} {p k : ℕ} {m : Mem} (h : Honest limits p k m) (i : 
 
   -- no search for room comes to damaged ends
   pub room-sound : (j : ℕ) → ¬ (BadEnds p k (Full k) (offeredEnds p i m j))
-  room-sound j (e, near, on, bad) = bad (ends-sound h ((j + e) % p) (mod-lt (j + e) (h .fits .oneWorker)) i worker)
+  room-sound j (e, near, on, bad) = bad (ends-sound h ((j + e) % p) (mod-lt (j + e) (h .fits .limits .oneWorker)) i worker)
 
   -- an empty ring isn't full: it has two slots or more
   empty-room : (o : ℕ) → o < p → queueOf (stateOf p k m) o i ≡ [] → ¬ (Full k (endsIn m (ringNumber p o i)))
   empty-room o owner none full =
       omega (
         arith,
-        h .fits .twoSlots,
-        capacity-suc k (omega (arith, h .fits .twoSlots)),
+        h .fits .limits .twoSlots,
+        capacity-suc k (omega (arith, h .fits .limits .twoSlots)),
         sym (queue-full 0 k (ringsIn m) (ringNumber p o i) (ends-sound h o owner i worker) .0 full)
             ∙ ap length (sym (queue-at p k m o i owner worker) ∙ none),
       )
@@ -204,14 +204,14 @@ module _ {limits : Limits} {p k : ℕ} {m : Mem} (h : Honest limits p k m) (i : 
   room-first : ((o : ℕ) → o < p → waitingFor p (stateOf p k m) o ≡ []) → (j : ℕ) → StopsAt p k (Full k) (offeredEnds p i m j) 0
   room-first none j =
       record {
-        inside = h .fits .oneWorker;
+        inside = h .fits .limits .oneWorker;
         goesOn = λ d l. absurd (omega (arith, l));
         sound = ends-sound h ((j + 0) % p) owner i worker;
         stops = empty-room ((j + 0) % p) owner (waiting-none p (stateOf p k m) ((j + 0) % p) (none ((j + 0) % p) owner) i worker);
       }
     where
       owner : (j + 0) % p < p
-      owner = mod-lt (j + 0) (h .fits .oneWorker)
+      owner = mod-lt (j + 0) (h .fits .limits .oneWorker)
 
   -- the run isn't finished
   module _ (low : acceptedIn m < 3 * tasks m + edges m) where
@@ -237,7 +237,7 @@ module _ {limits : Limits} {p k : ℕ} {m : Mem} (h : Honest limits p k m) (i : 
               ready = e;
               counters = counters-within p m (honest-within h);
               target = target p (m .counters);
-              least = target-is p (m .counters) (h .fits .oneWorker);
+              least = target-is p (m .counters) (h .fits .limits .oneWorker);
               distance = 0;
               stop = room-first none (target p (m .counters));
               owner = (target p (m .counters) + 0) % p;

@@ -153,7 +153,7 @@ module _ (limits : Limits) (p k i : ℕ) (m : Mem) where
 
   module _ (past : List Event) (h : Recounts p m past) where
     abbrev seen : Step → Event
-    seen s = eventOf limits (stepCall p k i s) m
+    seen s = eventOf (stepCall limits p k i s) m
 
     -- the task that Complete records is the one that the worker's last Fetch answered
     entry-same : (s : Step) → rowIn m i .phase ≡ suits s → entryNext s (entryOf (held m i) i) ≡ entryNext s (entryOf (lastFetched i past) i)
@@ -216,5 +216,5 @@ module _ (limits : Limits) (p k i : ℕ) (m : Mem) where
 -- after every list of a run's calls
 pub recounted : (r : Run) → Recounts (r .workers) (memoryOf r) (eventsOf r)
 recounted r =
-    throughout (r .limits) (r .workers) (r .slots) (Recounts (r .workers)) (begun-recounts (r .limits) (r .workers) (r .slots))
-    (still-recounts (r .workers)) (λ m past i s a h. step-recounts (r .limits) (r .workers) (r .slots) i m past h s a) (r .lent) (r .accepts) (r .calls)
+    throughout (r .workers) (r .slots) (Recounts (r .workers)) (λ limits. begun-recounts limits (r .workers) (r .slots))
+    (still-recounts (r .workers)) (λ limits m past i s a h. step-recounts limits (r .workers) (r .slots) i m past h s a) (r .limits) (r .lent) (r .accepts) (r .calls)

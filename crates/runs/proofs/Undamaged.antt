@@ -26,11 +26,11 @@ use Rattle.rules.proofs.Numbers.{TwoOrOne, other-step}
 use Rattle.algorithm1.specs.State.{threadOf}
 use Rattle.algorithm1.specs.Reading.{stateOf}
 use Rattle.algorithm1.proofs.Readings.{phase-at}
-use Rattle.runs.specs.Calls.{Call, stepCall, beginCall, lookupCall, says, leaves, Event, eventOf, began, recalled, memoryAfter, eventsAfter, Run, memoryOf, eventsOf}
+use Rattle.runs.specs.Calls.{Call, stepCall, beginCall, lookupCall, says, Event, eventOf, began, recalled, memoryAfter, eventsAfter, Run, memoryOf, eventsOf}
 use Rattle.runs.specs.Demand.{Finished}
 use Rattle.runs.specs.Undamaged.{NoDamage, NoDamageIn, Undamaged}
 use Rattle.runs.proofs.Invariant.{pendingOf}
-use Rattle.runs.proofs.Calls.{tasks-reached}
+use Rattle.runs.proofs.Calls.{memory-on, tasks-reached}
 use Rattle.runs.proofs.Hands.{hand-running}
 use Rattle.runs.proofs.Honest.{Honest, honest-run}
 use Rattle.runs.proofs.Weights.{honest-within}
@@ -192,11 +192,11 @@ module _ (r : Run) where
           other (inr q) = rw q (number-undamaged 1 0 (omega arith))
 
   -- any call: begin's rows and a lookup's have other numbers
-  call-undamaged : (c : Call) → NoDamage (says (r .limits) c now)
+  call-undamaged : (c : Call) → NoDamage (says c now)
   unfolding says
-  call-undamaged (stepCall p k i s) = next-undamaged (r .limits) p k i s
-  call-undamaged (beginCall p k) =
-      harmless-says (begin-follows (r .limits) p k now)
+  call-undamaged (stepCall limits p k i s) = next-undamaged limits p k i s
+  call-undamaged (beginCall limits p k) =
+      harmless-says (begin-follows limits p k now)
       (ordinary-row (omega arith) (λ _.
       ordinary-row (omega arith) (λ _.
       ordinary-row (omega arith) (λ _.
@@ -215,22 +215,17 @@ recalled-undamaged e past b all = go (began e)
     go true = tt
     go false = (b, all)
 
-memory-further : (limits : Limits) (cs : List Call) (c : Call) (m : Mem) → memoryAfter limits (cs ++ (c ∷ [])) m ≡ leaves limits c (memoryAfter limits cs m)
-unfolding memoryAfter
-memory-further limits [] c m = refl
-memory-further limits (x ∷ cs) c m = memory-further limits cs c (leaves limits x m)
-
 -- the run with other calls after its begin
 abbrev withCalls : Run → List Call → Run
 withCalls r cs = record { limits = r .limits; workers = r .workers; slots = r .slots; lent = r .lent; accepts = r .accepts; calls = cs }
 
-further-undamaged : (r : Run) (cs : List Call) (past : List Event) → NoDamageIn past → NoDamageIn (eventsAfter (r .limits) cs (memoryOf r) past)
-unfolding eventsAfter
+further-undamaged : (r : Run) (cs : List Call) (past : List Event) → NoDamageIn past → NoDamageIn (eventsAfter cs (memoryOf r) past)
+unfolding memoryAfter eventsAfter
 further-undamaged r [] past all = all
 further-undamaged r (c ∷ cs) past all =
-    rw (memory-further (r .limits) (r .calls) c _) at
-    (further-undamaged (withCalls r (r .calls ++ (c ∷ []))) cs (recalled (eventOf (r .limits) c (memoryOf r)) past)
-    (recalled-undamaged (eventOf (r .limits) c (memoryOf r)) past (call-undamaged r c) all))
+    rw (memory-on (r .calls) (c ∷ []) _) at
+    (further-undamaged (withCalls r (r .calls ++ (c ∷ []))) cs (recalled (eventOf c (memoryOf r)) past)
+    (recalled-undamaged (eventOf c (memoryOf r)) past (call-undamaged r c) all))
 
 events-undamaged : (r : Run) → NoDamageIn (eventsOf r)
 unfolding memoryAfter

@@ -65,7 +65,7 @@ module _ (limits : Limits) (p k : ℕ) (m : Mem) (e : answerSays (begin limits p
       ends : (q : ℕ) → q < p * p → Sound k (endsIn b q)
       ends q h =
           let (i, j, hi, hj, s) = place-parts p p q h in
-          let two : 2 ≤ k = begin-accepted limits p k m .0 e .0 .twoSlots in
+          let two : 2 ≤ k = begin-accepted limits p k m .0 e .0 .limits .twoSlots in
           let q′ : ℕ = ringNumber p i j in
           rw (sym s) (filled-sound k (endsIn b q′) (omega (arith, two)) (laid .head q′) (begun-tail i j hi hj ∙ length-queue 0 k (ringsIn b) q′))
 

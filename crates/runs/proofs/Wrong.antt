@@ -15,12 +15,13 @@ use Rattle.lists.specs.Sums.{sumTo, sumToZ}
 use Rattle.lists.specs.Circles.{after, around}
 use Rattle.lists.proofs.Blocks.{getD-tabulate}
 use Rattle.lists.proofs.Decided.{tally-yes}
-use Rattle.task.specs.Types.{engine, capped}
+use Rattle.task.specs.Types.{engine, preview, capped}
 use Rattle.task.specs.Phases.{nextPhase, stepNumber}
 use Rattle.task.specs.Refusals.{Said, refused, accepted, wrongPhase, ringsFull, answerSays, stepSays}
 use Rattle.task.specs.Rows.{Acceptance}
 use Rattle.task.specs.declared.Answer.{Answer}
 use Rattle.task.specs.declared.Answer.the-variants.{Refused, Accepted}
+use Rattle.task.specs.declared.Limits.{Limits}
 use Rattle.task.specs.declared.Row.{Row}
 use Rattle.task.specs.declared.Step.{Step}
 use Rattle.task.specs.declared.Step.the-variants.{Fetch, Start, Complete, Release}
@@ -38,7 +39,7 @@ use Rattle.exchange.specs.Exchange.{Chain, none, more}
 use Rattle.exchange.specs.Pairs.{eachOnce, TaskExchanges}
 use Rattle.exchange.proofs.Theorem.{exchange-tasks}
 use Rattle.rules.specs.Memory.{Mem, tasks, edges, graphIn, allSteps, allEntries, degreeIn, succCount, rowIn, withPlaces, held, entriesIn, acceptedIn, oldest, successor}
-use Rattle.rules.specs.Sizes.{numbersFit, othersFit, lengthsFit}
+use Rattle.rules.specs.Sizes.{KeepsLimits, numbersFit, othersFit, lengthsFit}
 use Rattle.rules.specs.Words.{countersFit}
 use Rattle.rules.specs.Updates.{Update, putDegree, putEntry, putEntries, putAccepted, putRow, updated, written}
 use Rattle.rules.specs.Plans.{Plan, refuse, accept, counted, Result, carriedOut}
@@ -52,17 +53,18 @@ use Rattle.runs.proofs.Demand.{order-agreed, demand-3}
 
 -- Demand 3 of any program.
 
--- a begin and the four steps, at the engine's limits
+-- a begin and the four steps, each with limits of its own
 pub record Program : Type 0 where
-  pub begins : (p k : ℕ) → Mem → Result Answer
-  pub takes : (p k worker : ℕ) → Step → Mem → Result StepAnswer
+  pub begins : Limits → (p k : ℕ) → Mem → Result Answer
+  pub takes : Limits → (p k worker : ℕ) → Step → Mem → Result StepAnswer
 
 abbrev pub rules : Program
-rules = record { begins = begin engine; takes = step engine }
+rules = record { begins = begin; takes = step }
 
--- a begin with P and K on a memory, and the calls after it: "Fetch, Start, Complete and Release with any worker, P and K, accepted or refused, and
+-- a begin with some limits, P and K on a memory, and the calls after it: "Fetch, Start, Complete and Release with any worker, P and K, accepted or refused, and
 -- refused begins", and lookups
 pub record Trial : Type 0 where
+  pub limits : Limits
   pub workers : ℕ
   pub slots : ℕ
   pub memory : Mem
@@ -70,13 +72,13 @@ pub record Trial : Type 0 where
 
 -- what a call answers, and the memory that it leaves; a lookup is lent its lists shared, and is no part of the program
 unfoldable pub answerBy : Program → calls.Call → Mem → Said
-answerBy g (stepCall p k i s) m = stepSays (g .takes p k i s m .answer)
-answerBy g (beginCall p k) m = answerSays (g .begins p k m .answer)
-answerBy g (lookupCall side t) m = says engine (lookupCall side t) m
+answerBy g (stepCall limits p k i s) m = stepSays (g .takes limits p k i s m .answer)
+answerBy g (beginCall limits p k) m = answerSays (g .begins limits p k m .answer)
+answerBy g (lookupCall side t) m = says (lookupCall side t) m
 
 unfoldable pub leftBy : Program → calls.Call → Mem → Mem
-leftBy g (stepCall p k i s) m = g .takes p k i s m .memory
-leftBy g (beginCall p k) m = g .begins p k m .memory
+leftBy g (stepCall limits p k i s) m = g .takes limits p k i s m .memory
+leftBy g (beginCall limits p k) m = g .begins limits p k m .memory
 leftBy g (lookupCall side t) m = m
 
 abbrev pub eventBy : Program → calls.Call → Mem → Event
@@ -93,10 +95,10 @@ eventsBy g [] m past = past
 eventsBy g (c ∷ cs) m past = eventsBy g cs (leftBy g c m) (recalled (eventBy g c m) past)
 
 abbrev pub BeginAccepted : Program → Trial → Type 0
-BeginAccepted g r = answerSays (g .begins (r .workers) (r .slots) (r .memory) .answer) ≡ accepted
+BeginAccepted g r = answerSays (g .begins (r .limits) (r .workers) (r .slots) (r .memory) .answer) ≡ accepted
 
 abbrev pub begunBy : Program → Trial → Mem
-begunBy g r = g .begins (r .workers) (r .slots) (r .memory) .memory
+begunBy g r = g .begins (r .limits) (r .workers) (r .slots) (r .memory) .memory
 
 abbrev pub endOf : Program → Trial → Mem
 endOf g r = leftAfter g (r .calls) (begunBy g r)
@@ -111,9 +113,13 @@ orderIn g r = tabulate (tasks (r .memory)) (taskWord (endOf g r))
 abbrev pub FinishedBy : Program → Trial → Type 0
 FinishedBy g r = tasks (r .memory) ≤ acceptedCompletes (eventsIn g r)
 
--- what worker i's step would answer next
-abbrev pub nextAnswer : Program → Trial → ℕ → Step → Said
-nextAnswer g r i s = answerBy g (stepCall (r .workers) (r .slots) i s) (endOf g r)
+-- what worker i's step with these limits would answer next
+abbrev pub nextAnswer : Program → Limits → Trial → ℕ → Step → Said
+nextAnswer g limits r i s = answerBy g (stepCall limits (r .workers) (r .slots) i s) (endOf g r)
+
+-- N, E, P and K keep these limits
+abbrev pub TrialKeeps : Limits → Trial → Type 0
+TrialKeeps limits r = KeepsLimits limits (r .workers) (r .slots) (tasks (r .memory)) (edges (r .memory))
 
 -- demand 3's clauses for one run, as in `OneRun`
 pub record OneTrial (g : Program) (r : Trial) : Type 0 where
@@ -122,7 +128,8 @@ pub record OneTrial (g : Program) (r : Trial) : Type 0 where
   pub full : FinishedBy g r → acceptedIn (endOf g r) ≡ 3 * tasks (r .memory) + edges (r .memory)
   pub order : FinishedBy g r → AllowedOrder (r .memory) (orderIn g r)
   pub named : FinishedBy g r → (x : ℕ) → x < tasks (r .memory) → workerWord (endOf g r) x < r .workers
-  pub next : ¬ (FinishedBy g r) → (i : ℕ) × (s : Step) × (i < r .workers) × Acceptance (nextAnswer g r i s)
+  pub next : ¬ (FinishedBy g r) → (i : ℕ) × (s : Step) × (i < r .workers) × Acceptance (nextAnswer g (r .limits) r i s)
+  pub nextBy : ¬ (FinishedBy g r) → (limits : Limits) → TrialKeeps limits r → (i : ℕ) × (s : Step) × (i < r .workers) × Acceptance (nextAnswer g limits r i s)
 
 -- and for two
 abbrev pub Joined : Program → Trial → Trial → Type 0
@@ -133,30 +140,30 @@ pub record Keeps (g : Program) : Type 0 where
   pub two : (r r′ : Trial) → BeginAccepted g r → BeginAccepted g r′ → Agree (r .memory) (r′ .memory) → FinishedBy g r → FinishedBy g r′ → Joined g r r′
 
 -- The rules keep it, by demand 3: what is refuted below is its own claim, of other programs.
-same-answer : (c : calls.Call) (m : Mem) → answerBy rules c m ≡ says engine c m
+same-answer : (c : calls.Call) (m : Mem) → answerBy rules c m ≡ says c m
 unfolding answerBy says
-same-answer (stepCall p k i s) m = refl
-same-answer (beginCall p k) m = refl
+same-answer (stepCall limits p k i s) m = refl
+same-answer (beginCall limits p k) m = refl
 same-answer (lookupCall side t) m = refl
 
-same-left : (c : calls.Call) (m : Mem) → leftBy rules c m ≡ leaves engine c m
+same-left : (c : calls.Call) (m : Mem) → leftBy rules c m ≡ leaves c m
 unfolding leftBy leaves
-same-left (stepCall p k i s) m = refl
-same-left (beginCall p k) m = refl
+same-left (stepCall limits p k i s) m = refl
+same-left (beginCall limits p k) m = refl
 same-left (lookupCall side t) m = refl
 
-same-memory : (cs : List calls.Call) (m : Mem) → memoryAfter engine cs m ≡ leftAfter rules cs m
+same-memory : (cs : List calls.Call) (m : Mem) → memoryAfter cs m ≡ leftAfter rules cs m
 unfolding memoryAfter leftAfter
 same-memory [] m = refl
-same-memory (c ∷ cs) m = rw (same-left c m) (same-memory cs (leaves engine c m))
+same-memory (c ∷ cs) m = rw (same-left c m) (same-memory cs (leaves c m))
 
-same-events : (cs : List calls.Call) (m : Mem) (past : List Event) → eventsAfter engine cs m past ≡ eventsBy rules cs m past
+same-events : (cs : List calls.Call) (m : Mem) (past : List Event) → eventsAfter cs m past ≡ eventsBy rules cs m past
 unfolding eventsAfter eventsBy
 same-events [] m past = refl
-same-events (c ∷ cs) m past = rw (same-left c m, same-answer c m) (same-events cs (leaves engine c m) (recalled (eventOf engine c m) past))
+same-events (c ∷ cs) m past = rw (same-left c m, same-answer c m) (same-events cs (leaves c m) (recalled (eventOf c m) past))
 
 abbrev asRun : (r : Trial) → BeginAccepted rules r → Run
-asRun r b = record { limits = engine; workers = r .workers; slots = r .slots; lent = r .memory; accepts = b; calls = r .calls }
+asRun r b = record { limits = r .limits; workers = r .workers; slots = r .slots; lent = r .memory; accepts = b; calls = r .calls }
 
 module _ (r : Trial) (b : BeginAccepted rules r) where
   memory-is : memoryOf (asRun r b) ≡ endOf rules r
@@ -182,6 +189,7 @@ module _ (r : Trial) (b : BeginAccepted rules r) where
         order = λ f. rw (sym order-is) (kept .order (finished-as f));
         named = λ f. rw (sym memory-is) (kept .named (finished-as f));
         next = λ n. rw (sym memory-is) (kept .next (λ f. n (rw events-are at (f .completes))));
+        nextBy = λ n limits w. rw (sym memory-is) (kept .nextBy (λ f. n (rw events-are at (f .completes))) limits w);
       }
 
 kept-by-demand : Demand3 → Keeps rules
@@ -204,24 +212,26 @@ order-joins g order r r′ b b′ same f f′ =
 
 -- How a run contradicts it.
 
--- an idle worker with nothing in its rings and its buffer: its Fetch, Start, Complete and Release are refused with 10, 9, 9 and 10
-abbrev nothingLeft : List Said
-nothingLeft = refused 10 0 ∷ refused 9 0 ∷ refused 9 0 ∷ refused 10 0 ∷ []
+-- a worker's Fetch, Start, Complete and Release are refused with these numbers
+abbrev fourRefusals : ℕ → ℕ → ℕ → ℕ → List Said
+fourRefusals fetch start complete release = refused fetch 0 ∷ refused start 0 ∷ refused complete 0 ∷ refused release 0 ∷ []
 
 abbrev nextAnswers : Program → Trial → ℕ → List Said
-nextAnswers g r i = nextAnswer g r i Fetch ∷ nextAnswer g r i Start ∷ nextAnswer g r i Complete ∷ nextAnswer g r i Release ∷ []
+nextAnswers g r i =
+    nextAnswer g (r .limits) r i Fetch ∷ nextAnswer g (r .limits) r i Start ∷ nextAnswer g (r .limits) r i Complete ∷ nextAnswer g (r .limits) r i Release ∷ []
 
 -- how many of the calls are steps
 unfoldable stepsAmong : List calls.Call → ℕ
 stepsAmong [] = 0
 stepsAmong (c ∷ cs) = cond (isStep c) (suc (stepsAmong cs)) (stepsAmong cs)
 
--- all steps of the run are accepted, it isn't finished, and no worker has a step that would be accepted next
-record Stuck (g : Program) (r : Trial) : Type 0 where
+-- all steps of the run are accepted, it isn't finished, and no worker has a step with begin's limits that would be accepted next: each worker's steps
+-- are refused with these numbers. They are 10, 9, 9 and 10 for an idle worker with nothing in its rings and its buffer.
+record Stuck (g : Program) (r : Trial) (fetch start complete release : ℕ) : Type 0 where
   begins : BeginAccepted g r
   taken : acceptedSteps (eventsIn g r) ≡ stepsAmong (r .calls)
   unfinished : acceptedCompletes (eventsIn g r) < tasks (r .memory)
-  refusals : tabulate (r .workers) (nextAnswers g r) ≡ replicate (r .workers) nothingLeft
+  refusals : tabulate (r .workers) (nextAnswers g r) ≡ replicate (r .workers) (fourRefusals fetch start complete release)
 
 -- why a list of tasks is no order that the graph allows: a task is missing, or stands before a predecessor
 data Fault (m : Mem) (l : List ℕ) : Type 0 where
@@ -239,18 +249,22 @@ record Disordered (g : Program) (r : Trial) (l : List ℕ) : Type 0 where
 no-acceptance : {a : Said} {n d : ℕ} → a ≡ refused n d → ¬ (Acceptance a)
 no-acceptance e x = rw e at x
 
-stuck-fails : {g : Program} {r : Trial} → Stuck g r → ¬ (Keeps g)
-stuck-fails {g = g} {r = r} stuck keeps = go (keeps .one r (stuck .begins) .next (λ f. absurd (omega (arith, f, stuck .unfinished))))
+stuck-fails : {g : Program} {r : Trial} {fetch start complete release : ℕ} → Stuck g r fetch start complete release → ¬ (Keeps g)
+stuck-fails {g = g} {r = r} {fetch = fetch} {start = start} {complete = complete} {release = release} stuck keeps =
+    go (keeps .one r (stuck .begins) .next (λ f. absurd (omega (arith, f, stuck .unfinished))))
   where
-    answers : (i : ℕ) → i < r .workers → nextAnswers g r i ≡ nothingLeft
+    four : List Said
+    four = fourRefusals fetch start complete release
+
+    answers : (i : ℕ) → i < r .workers → nextAnswers g r i ≡ four
     answers i h =
         sym (getD-tabulate (r .workers) (nextAnswers g r) [] i h) ∙ ap (λ (l : List (List Said)). getD l i []) (stuck .refusals)
-        ∙ getD-replicate (r .workers) i nothingLeft [] h
+        ∙ getD-replicate (r .workers) i four [] h
 
-    at : (n i : ℕ) → i < r .workers → getD (nextAnswers g r i) n accepted ≡ getD nothingLeft n accepted
+    at : (n i : ℕ) → i < r .workers → getD (nextAnswers g r i) n accepted ≡ getD four n accepted
     at n i h = ap (λ (l : List Said). getD l n accepted) (answers i h)
 
-    go : ¬ ((i : ℕ) × (s : Step) × (i < r .workers) × Acceptance (nextAnswer g r i s))
+    go : ¬ ((i : ℕ) × (s : Step) × (i < r .workers) × Acceptance (nextAnswer g (r .limits) r i s))
     go (i, Fetch, h, a) = no-acceptance (at 0 i h) a
     go (i, Start, h, a) = no-acceptance (at 1 i h) a
     go (i, Complete, h, a) = no-acceptance (at 2 i h) a
@@ -306,7 +320,7 @@ beginWithout (Refused n d) p k m = record { answer = Refused n d; memory = m }
 beginWithout Accepted p k m = record { answer = Accepted; memory = rootsPlaced p k 0 (drop 1 (roots (graphIn m))) (cleared m) }
 
 abbrev pub forgetsRoot : Program
-forgetsRoot = record { begins = λ p k m. beginWithout (beginAnswer engine p k m) p k m; takes = step engine }
+forgetsRoot = record { begins = λ limits p k m. beginWithout (beginAnswer limits p k m) p k m; takes = step }
 
 -- a begin that is refused and clears the memory
 abbrev pub clearing : Answer → Mem → Result Answer
@@ -314,14 +328,21 @@ clearing (Refused n d) m = record { answer = Refused n d; memory = cleared m }
 clearing Accepted m = record { answer = Accepted; memory = m }
 
 abbrev pub clearsRefused : Program
-clearsRefused = record { begins = λ p k m. clearing (begin engine p k m .answer) (begin engine p k m .memory); takes = step engine }
+clearsRefused = record { begins = λ limits p k m. clearing (begin limits p k m .answer) (begin limits p k m .memory); takes = step }
 
--- the rules with another plan for one of the steps, from P, K, the worker and the memory
-abbrev pub butFor : Step → (ℕ → ℕ → ℕ → Mem → Plan) → Program
+-- a begin that takes one slot more than its limits: K 9 with the preview's
+abbrev pub slotMore : Limits → Limits
+slotMore l = record { tasks = l .tasks; edges = l .edges; workers = l .workers; slots = suc (l .slots) }
+
+abbrev pub takesSlotMore : Program
+takesSlotMore = record { begins = λ limits. begin (slotMore limits); takes = step }
+
+-- the rules with another plan for one of the steps, from the limits, P, K, the worker and the memory
+abbrev pub butFor : Step → (Limits → ℕ → ℕ → ℕ → Mem → Plan) → Program
 butFor other plan =
     record {
-      begins = begin engine;
-      takes = λ p k i s m. carriedOut (cond (eqb (stepNumber s) (stepNumber other)) (plan p k i m) (stepPlan engine p k i s m)) m;
+      begins = begin;
+      takes = λ limits p k i s m. carriedOut (cond (eqb (stepNumber s) (stepNumber other)) (plan limits p k i m) (stepPlan limits p k i s m)) m;
     }
 
 -- where a plan accepts, it writes these too, after its own updates
@@ -336,25 +357,25 @@ skippingRow count r = cond (eqb (r .cursor + 2) count) (withPlaces (r .read + 1)
 abbrev pub skipsLast : Program
 skipsLast =
     butFor Release
-    (λ p k i m. alsoWriting (stepPlan engine p k i Release m) (putRow i (skippingRow (succCount m (oldest m i)) (rowIn m i)) ∷ []))
+    (λ limits p k i m. alsoWriting (stepPlan limits p k i Release m) (putRow i (skippingRow (succCount m (oldest m i)) (rowIn m i)) ∷ []))
 
 -- a Complete that doesn't record: the entry's words and the entries word stay as they were
 abbrev pub entryKept : Mem → List Update
 entryKept m = putEntry (entriesIn m) (taskWord m (entriesIn m)) (workerWord m (entriesIn m)) ∷ putEntries (entriesIn m) ∷ []
 
 abbrev pub noRecord : Program
-noRecord = butFor Complete (λ p k i m. alsoWriting (stepPlan engine p k i Complete m) (entryKept m))
+noRecord = butFor Complete (λ limits p k i m. alsoWriting (stepPlan limits p k i Complete m) (entryKept m))
 
 -- a Complete that exchanges task number and worker number in the entry: "Task ID and thread ID are two things"
 abbrev pub exchangesNumbers : Program
-exchangesNumbers = butFor Complete (λ p k i m. alsoWriting (stepPlan engine p k i Complete m) (putEntry (entriesIn m) i (held m i) ∷ []))
+exchangesNumbers = butFor Complete (λ limits p k i m. alsoWriting (stepPlan limits p k i Complete m) (putEntry (entriesIn m) i (held m i) ∷ []))
 
 -- steps that never write the accepted word: it stays as it was
 abbrev pub neverCounts : Program
 neverCounts =
     record {
-      begins = begin engine;
-      takes = λ p k i s m. carriedOut (alsoWriting (stepPlan engine p k i s m) (putAccepted (acceptedIn m) ∷ [])) m;
+      begins = begin;
+      takes = λ limits p k i s m. carriedOut (alsoWriting (stepPlan limits p k i s m) (putAccepted (acceptedIn m) ∷ [])) m;
     }
 
 -- "an accepted word that is invented": begin writes 3N + E there, and each step follows the rule as if it were 0, and puts the old word back
@@ -365,9 +386,9 @@ wordInvented Accepted m = record { answer = Accepted; memory = written (putAccep
 abbrev pub inventsWord : Program
 inventsWord =
     record {
-      begins = λ p k m. wordInvented (begin engine p k m .answer) (begin engine p k m .memory);
-      takes = λ p k i s m.
-          carriedOut (alsoWriting (stepPlan engine p k i s (written (putAccepted 0 ∷ []) m)) (putAccepted (acceptedIn m) ∷ [])) m;
+      begins = λ limits p k m. wordInvented (begin limits p k m .answer) (begin limits p k m .memory);
+      takes = λ limits p k i s m.
+          carriedOut (alsoWriting (stepPlan limits p k i s (written (putAccepted 0 ∷ []) m)) (putAccepted (acceptedIn m) ∷ [])) m;
     }
 
 -- a Start that is "accepted with nothing moved" where it doesn't suit the phase
@@ -376,7 +397,7 @@ idling (refuse n d) = cond (eqb n wrongPhase) (accept Moved []) (refuse n d)
 idling (accept o us) = accept o us
 
 abbrev pub startsAgain : Program
-startsAgain = butFor Start (λ p k i m. idling (stepPlan engine p k i Start m))
+startsAgain = butFor Start (λ limits p k i m. idling (stepPlan limits p k i Start m))
 
 -- worker i's successor at the cursor: its degree, and the memory with another degree of it
 abbrev pub itsDegree : ℕ → Mem → ℕ
@@ -390,13 +411,13 @@ abbrev pub onceLowered : ℕ → ℕ
 onceLowered d = cond (ltb 1 d) (d - 1) d
 
 abbrev pub lowersTwice : Program
-lowersTwice = butFor Release (λ p k i m. stepPlan engine p k i Release (reading (onceLowered (itsDegree i m)) i m))
+lowersTwice = butFor Release (λ limits p k i m. stepPlan limits p k i Release (reading (onceLowered (itsDegree i m)) i m))
 
 -- a Release that places the task although its degree stays above 0: the rule's plan for a degree of 1, but the degree falls by one
 abbrev pub placesEarly : Program
 placesEarly =
     butFor Release
-    (λ p k i m. alsoWriting (stepPlan engine p k i Release (reading (min 1 (itsDegree i m)) i m)) (putDegree (successor m i) (itsDegree i m - 1) ∷ []))
+    (λ limits p k i m. alsoWriting (stepPlan limits p k i Release (reading (min 1 (itsDegree i m)) i m)) (putDegree (successor m i) (itsDegree i m - 1) ∷ []))
 
 -- a Release that drops the task when all rings are full: where the rule refuses with 11, it lowers the degree and goes on
 abbrev pub dropping : ℕ → ℕ → Mem → Plan → Plan
@@ -408,7 +429,7 @@ dropping p i m (refuse n d) =
 dropping p i m (accept o us) = accept o us
 
 abbrev pub dropsWhenFull : Program
-dropsWhenFull = butFor Release (λ p k i m. dropping p i m (stepPlan engine p k i Release m))
+dropsWhenFull = butFor Release (λ limits p k i m. dropping p i m (stepPlan limits p k i Release m))
 
 -- Their runs.
 
@@ -420,13 +441,13 @@ meet = lent 2 2 (1 ∷ 1 ∷ 1 ∷ []) (0 ∷ 0 ∷ 0 ∷ 2 ∷ []) (0 ∷ 1 ∷
 abbrev twoRootsAlone : Mem
 twoRootsAlone = lent 1 3 (4 ∷ 9 ∷ []) (0 ∷ 0 ∷ 0 ∷ []) []
 
--- a trial whose calls are steps with begin's P and K
+-- a trial whose calls are steps with the engine's limits and begin's P and K
 abbrev asCalls : ℕ → ℕ → List Call → List calls.Call
 asCalls p k [] = []
-asCalls p k (c ∷ cs) = stepCall p k (c .worker) (c .taken) ∷ asCalls p k cs
+asCalls p k (c ∷ cs) = stepCall engine p k (c .worker) (c .taken) ∷ asCalls p k cs
 
 abbrev trial : ℕ → ℕ → Mem → List Call → Trial
-trial p k m cs = record { workers = p; slots = k; memory = m; calls = asCalls p k cs }
+trial p k m cs = record { limits = engine; workers = p; slots = k; memory = m; calls = asCalls p k cs }
 
 -- a worker fetches, starts and completes a task
 abbrev runsOne : ℕ → List Call
@@ -434,7 +455,11 @@ runsOne i = by i Fetch ∷ by i Start ∷ by i Complete ∷ []
 
 -- worker 0 runs a root, and a begin with another K than the first one's is refused
 abbrev begunTwice : Trial
-begunTwice = record { workers = 2; slots = 2; memory = twoRoots; calls = asCalls 2 2 (runsOne 0) ++ (beginCall 2 3 ∷ []) }
+begunTwice = record { limits = engine; workers = 2; slots = 2; memory = twoRoots; calls = asCalls 2 2 (runsOne 0) ++ (beginCall engine 2 3 ∷ []) }
+
+-- one root, begun with the preview's limits and K 9
+abbrev ninthSlot : Trial
+ninthSlot = record { limits = preview; workers = 1; slots = 9; memory = lent 1 9 (1 ∷ []) (0 ∷ 0 ∷ []) []; calls = [] }
 
 -- worker 0 runs task 0, releases task 2 and runs it, and only then worker 1 runs task 1
 abbrev hasty : Trial
@@ -447,13 +472,15 @@ two-early = early 1 2 (record { task = omega arith; predecessor = omega arith })
 
 record WrongRuns : Type 0 where
   -- against `next`: root 1 is run, root 0 is in no ring
-  forgets-a-root : Stuck forgetsRoot (trial 2 2 twoRoots (runsOne 0))
+  forgets-a-root : Stuck forgetsRoot (trial 2 2 twoRoots (runsOne 0)) 10 9 9 10
   -- against `next`: task 2 is never placed
-  skips-the-last-successor : Stuck skipsLast (trial 1 2 fork (runsOne 0 ++ (by 0 Release ∷ runsOne 0)))
+  skips-the-last-successor : Stuck skipsLast (trial 1 2 fork (runsOne 0 ++ (by 0 Release ∷ runsOne 0))) 10 9 9 10
   -- against `next`: the ring holds task 1, and task 2 is lost
-  drops-when-full : Stuck dropsWhenFull (trial 1 2 fork (runsOne 0 ++ (by 0 Release ∷ by 0 Release ∷ runsOne 0)))
+  drops-when-full : Stuck dropsWhenFull (trial 1 2 fork (runsOne 0 ++ (by 0 Release ∷ by 0 Release ∷ runsOne 0))) 10 9 9 10
   -- against `next`: the task that waits for worker 1 is in no ring after the refused begin
-  clears-when-refused : Stuck clearsRefused begunTwice
+  clears-when-refused : Stuck clearsRefused begunTwice 10 9 9 10
+  -- against `next`: every step with the preview's limits is beyond them
+  takes-a-slot-more : Stuck takesSlotMore ninthSlot 2 2 2 2
   -- against `order`: both tasks are completed, the record's words are begin's
   does-not-record : Disordered noRecord (trial 2 2 twoRoots (runsOne 0 ++ runsOne 1)) (0 ∷ 0 ∷ [])
   -- against `order`: task 2 stands before its predecessor 1
@@ -478,6 +505,7 @@ wrong-runs =
       skips-the-last-successor = record { begins = refl; taken = refl; unfinished = omega arith; refusals = refl };
       drops-when-full = record { begins = refl; taken = refl; unfinished = omega arith; refusals = refl };
       clears-when-refused = record { begins = refl; taken = refl; unfinished = omega arith; refusals = refl };
+      takes-a-slot-more = record { begins = refl; taken = refl; unfinished = omega arith; refusals = refl };
       does-not-record = record { begins = refl; taken = refl; finished = refl; order = refl; fault = missing 1 (omega arith) refl };
       lowers-twice = record { begins = refl; taken = refl; finished = refl; order = refl; fault = two-early };
       places-early = record { begins = refl; taken = refl; finished = refl; order = refl; fault = two-early };
@@ -507,6 +535,9 @@ no-dropped-task = stuck-fails (wrong-runs .drops-when-full)
 
 pub no-clearing-refusal : ¬ (Keeps clearsRefused)
 no-clearing-refusal = stuck-fails (wrong-runs .clears-when-refused)
+
+pub no-stuck-preview : ¬ (Keeps takesSlotMore)
+no-stuck-preview = stuck-fails (wrong-runs .takes-a-slot-more)
 
 pub no-missing-entry : ¬ (Keeps noRecord)
 no-missing-entry = disordered-fails (wrong-runs .does-not-record)

@@ -1,5 +1,6 @@
 -- "A run starts at an accepted begin .. A list of calls follows: Fetch, Start, Complete and Release with any worker, P and K, accepted or
--- refused, and refused begins. Each finds the words that the last one left; a lookup in between writes nothing."
+-- refused, and refused begins. Each finds the words that the last one left; a lookup in between writes nothing." Each call has limits of its own, as
+-- the engine's or the preview's.
 use Prim.Native.Nat.{ℕ, suc}
 use mathlib.Core.Path.{_≡_}
 use mathlib.Core.Bool.{Bool, true, false, cond}
@@ -11,19 +12,20 @@ use Rattle.task.specs.declared.Side.{Side}
 use Rattle.task.specs.declared.Step.{Step}
 use Rattle.task.specs.declared.Step.the-variants.{Fetch, Start, Complete, Release}
 use Rattle.graph.specs.Lookup.{lentOf, judgeAnswer}
-use Rattle.rules.specs.Memory.{Mem}
+use Rattle.rules.specs.Memory.{Mem, tasks, edges}
+use Rattle.rules.specs.Sizes.{KeepsLimits}
 use Rattle.rules.specs.Steps.{step}
 use Rattle.rules.specs.Begin.{begin}
 
 pub data Call : Type 0 where
-  stepCall : (p k worker : ℕ) → Step → Call
-  beginCall : (p k : ℕ) → Call
+  stepCall : Limits → (p k worker : ℕ) → Step → Call
+  beginCall : Limits → (p k : ℕ) → Call
   lookupCall : Side → (task : ℕ) → Call
 
 -- one of the four steps; a lookup or a begin is none
 abbrev pub isStep : Call → Bool
-isStep (stepCall p k i s) = true
-isStep (beginCall p k) = false
+isStep (stepCall limits p k i s) = true
+isStep (beginCall limits p k) = false
 isStep (lookupCall side t) = false
 
 abbrev pub isFetch : Step → Bool
@@ -34,8 +36,8 @@ isFetch Release = false
 
 -- a Fetch by worker i
 abbrev pub fetchBy : ℕ → Call → Bool
-fetchBy i (stepCall p k w s) = cond (isFetch s) (eqb w i) false
-fetchBy i (beginCall p k) = false
+fetchBy i (stepCall limits p k w s) = cond (isFetch s) (eqb w i) false
+fetchBy i (beginCall limits p k) = false
 fetchBy i (lookupCall side t) = false
 
 abbrev pub isCompletion : Step → Bool
@@ -45,34 +47,34 @@ isCompletion Complete = true
 isCompletion Release = false
 
 abbrev pub isComplete : Call → Bool
-isComplete (stepCall p k i s) = isCompletion s
-isComplete (beginCall p k) = false
+isComplete (stepCall limits p k i s) = isCompletion s
+isComplete (beginCall limits p k) = false
 isComplete (lookupCall side t) = false
 
 -- the worker that takes a step; 0 for the other calls
 abbrev pub workerOf : Call → ℕ
-workerOf (stepCall p k i s) = i
-workerOf (beginCall p k) = 0
+workerOf (stepCall limits p k i s) = i
+workerOf (beginCall limits p k) = 0
 workerOf (lookupCall side t) = 0
 
 -- what a call answers (of a lookup its judging call), and the memory that it leaves
-unfoldable pub says : Limits → Call → Mem → Said
-says limits (stepCall p k i s) m = stepSays (step limits p k i s m .answer)
-says limits (beginCall p k) m = answerSays (begin limits p k m .answer)
-says limits (lookupCall side t) m = answerSays (judgeAnswer side (lentOf (m .weights) (m .predStarts) (m .preds) (m .succStarts) (m .succs)) t)
+unfoldable pub says : Call → Mem → Said
+says (stepCall limits p k i s) m = stepSays (step limits p k i s m .answer)
+says (beginCall limits p k) m = answerSays (begin limits p k m .answer)
+says (lookupCall side t) m = answerSays (judgeAnswer side (lentOf (m .weights) (m .predStarts) (m .preds) (m .succStarts) (m .succs)) t)
 
-unfoldable pub leaves : Limits → Call → Mem → Mem
-leaves limits (stepCall p k i s) m = step limits p k i s m .memory
-leaves limits (beginCall p k) m = begin limits p k m .memory
-leaves limits (lookupCall side t) m = m
+unfoldable pub leaves : Call → Mem → Mem
+leaves (stepCall limits p k i s) m = step limits p k i s m .memory
+leaves (beginCall limits p k) m = begin limits p k m .memory
+leaves (lookupCall side t) m = m
 
 -- a call and its answer
 pub record Event : Type 0 where
   pub call : Call
   pub said : Said
 
-abbrev pub eventOf : Limits → Call → Mem → Event
-eventOf limits c m = record { call = c; said = says limits c m }
+abbrev pub eventOf : Call → Mem → Event
+eventOf c m = record { call = c; said = says c m }
 
 abbrev pub acceptedSaid : Said → Bool
 acceptedSaid (refused n d) = false
@@ -80,41 +82,42 @@ acceptedSaid (answered k vs) = true
 
 -- the event is an accepted begin
 abbrev pub beganBy : Call → Bool → Bool
-beganBy (stepCall p k i s) a = false
-beganBy (beginCall p k) a = a
+beganBy (stepCall limits p k i s) a = false
+beganBy (beginCall limits p k) a = a
 beganBy (lookupCall side t) a = false
 
 unfoldable pub began : Event → Bool
 began e = beganBy (e .call) (acceptedSaid (e .said))
 
 -- the memory after a list of calls
-unfoldable pub memoryAfter : Limits → List Call → Mem → Mem
-memoryAfter limits [] m = m
-memoryAfter limits (c ∷ cs) m = memoryAfter limits cs (leaves limits c m)
+unfoldable pub memoryAfter : List Call → Mem → Mem
+memoryAfter [] m = m
+memoryAfter (c ∷ cs) m = memoryAfter cs (leaves c m)
 
 -- the events of the run so far, the latest first: "a further accepted begin starts another run"
 unfoldable pub recalled : Event → List Event → List Event
 recalled e past = cond (began e) [] (e ∷ past)
 
 -- after a list of calls, `past` being what came before it
-unfoldable pub eventsAfter : Limits → List Call → Mem → List Event → List Event
-eventsAfter limits [] m past = past
-eventsAfter limits (c ∷ cs) m past = eventsAfter limits cs (leaves limits c m) (recalled (eventOf limits c m) past)
+unfoldable pub eventsAfter : List Call → Mem → List Event → List Event
+eventsAfter [] m past = past
+eventsAfter (c ∷ cs) m past = eventsAfter cs (leaves c m) (recalled (eventOf c m) past)
 
 -- how many of the calls are accepted begins
-unfoldable pub begins : Limits → List Call → Mem → ℕ
-begins limits [] m = 0
-begins limits (c ∷ cs) m = cond (began (eventOf limits c m)) (suc (begins limits cs (leaves limits c m))) (begins limits cs (leaves limits c m))
+unfoldable pub begins : List Call → Mem → ℕ
+begins [] m = 0
+begins (c ∷ cs) m = cond (began (eventOf c m)) (suc (begins cs (leaves c m))) (begins cs (leaves c m))
 
 -- the memory that begin leaves, and that after the run's calls
 abbrev pub begunMemory : Limits → ℕ → ℕ → Mem → Mem
 begunMemory limits p k m = begin limits p k m .memory
 
 abbrev pub reached : Limits → ℕ → ℕ → Mem → List Call → Mem
-reached limits p k m cs = memoryAfter limits cs (begunMemory limits p k m)
+reached limits p k m cs = memoryAfter cs (begunMemory limits p k m)
 
 -- "For every list of calls from an accepted begin on": an accepted begin on any memory, with any P and K, and the calls after it
 pub record Run : Type 0 where
+  -- begin's own; the calls after it have theirs
   pub limits : Limits
   pub workers : ℕ
   pub slots : ℕ
@@ -123,13 +126,17 @@ pub record Run : Type 0 where
   pub accepts : answerSays (begin limits workers slots lent .answer) ≡ accepted
   pub calls : List Call
 
+-- N, E, P and K of the run keep these limits
+abbrev pub KeptBy : Limits → Run → Type 0
+KeptBy limits r = KeepsLimits limits (r .workers) (r .slots) (tasks (r .lent)) (edges (r .lent))
+
 -- the memory after the run's calls
 abbrev pub memoryOf : Run → Mem
 memoryOf r = reached (r .limits) (r .workers) (r .slots) (r .lent) (r .calls)
 
 -- the calls of the run that then goes on, with their answers, the latest first: those since the last accepted begin
 abbrev pub eventsOf : Run → List Event
-eventsOf r = eventsAfter (r .limits) (r .calls) (begunMemory (r .limits) (r .workers) (r .slots) (r .lent)) []
+eventsOf r = eventsAfter (r .calls) (begunMemory (r .limits) (r .workers) (r .slots) (r .lent)) []
 
 -- the run with further calls
 abbrev pub longer : Run → List Call → Run

@@ -10,13 +10,14 @@ use Rattle.lists.specs.Lists.{tabulate}
 use Rattle.task.specs.Types.{nil}
 use Rattle.task.specs.Refusals.{Said, stepSays}
 use Rattle.task.specs.Rows.{Acceptance}
+use Rattle.task.specs.declared.Limits.{Limits}
 use Rattle.task.specs.declared.Step.{Step}
 use Rattle.graph.specs.Graph.{Edge}
 use Rattle.exchange.specs.Exchange.{Allows}
 use Rattle.exchange.specs.Pairs.{eachOnce, TaskExchanges}
 use Rattle.rules.specs.Memory.{Mem, tasks, edges, graphIn, acceptedIn}
 use Rattle.rules.specs.Steps.{step}
-use Rattle.runs.specs.Calls.{Call, isStep, isComplete, Event, acceptedSaid, Run, memoryOf, eventsOf, longer}
+use Rattle.runs.specs.Calls.{Call, stepCall, isStep, isComplete, Event, acceptedSaid, Run, KeptBy, memoryOf, eventsOf, longer}
 
 -- how many of the events are accepted calls of the kind; a lookup or a begin is of neither kind below
 unfoldable pub acceptedOf : (Call → Bool) → List Event → ℕ
@@ -48,9 +49,9 @@ orderOf r = tabulate (tasks (r .lent)) (taskWord (memoryOf r))
 abbrev pub AllowedOrder : Mem → List ℕ → Type 0
 AllowedOrder m l = Allows ℕ-discrete (eachOnce (tasks m)) (Edge (graphIn m)) l
 
--- what the rules would answer next to a worker's step with begin's P and K
-abbrev pub nextSays : Run → ℕ → Step → Said
-nextSays r i s = stepSays (step (r .limits) (r .workers) (r .slots) i s (memoryOf r) .answer)
+-- what the rules would answer next to a worker's step with these limits and begin's P and K
+abbrev pub nextSays : Limits → Run → ℕ → Step → Said
+nextSays limits r i s = stepSays (step limits (r .workers) (r .slots) i s (memoryOf r) .answer)
 
 -- one run, after its list of calls
 pub record OneRun (r : Run) : Type 0 where
@@ -64,7 +65,11 @@ pub record OneRun (r : Run) : Type 0 where
   pub order : Finished r → AllowedOrder (r .lent) (orderOf r)
   pub named : Finished r → (x : ℕ) → x < tasks (r .lent) → workerWord (memoryOf r) x < r .workers
   -- "and in an unfinished one some worker has a step that would be accepted next"
-  pub next : ¬ (Finished r) → (i : ℕ) × (s : Step) × (i < r .workers) × Acceptance (nextSays r i s)
+  pub next : ¬ (Finished r)
+      → (i : ℕ) × (s : Step) × (i < r .workers) × Acceptance (nextSays (r .limits) r i s)
+  -- and so with all limits that the run keeps: begin's (`begun-within`), the engine's whatever begin's are (`engine-kept`), and others
+  pub nextBy : ¬ (Finished r) → (limits : Limits) → KeptBy limits r
+      → (i : ℕ) × (s : Step) × (i < r .workers) × Acceptance (nextSays limits r i s)
 
 -- "Two runs are of one graph if N and the edges agree.": in the tables that their begins were lent
 pub record Agree (m m′ : Mem) : Type 0 where
@@ -86,10 +91,16 @@ pub record Demand3 : Type 0 where
   -- "For every two such lists whose finished runs are of one graph, whatever worker counts and queue lengths were accepted"
   pub two : (r r′ : Run) → OneGraph r r′ → Finished r → Finished r′ → Exchanges r r′
 
+-- steps with these limits, P and K
+abbrev pub StepsWith : Limits → ℕ → ℕ → List Call → Type 0
+StepsWith limits p k [] = Unit {0}
+StepsWith limits p k (c ∷ cs) = ((i : ℕ) × (s : Step) × (c ≡ stepCall limits p k i s)) × StepsWith limits p k cs
+
 -- PROMISE: beside "in an unfinished one some worker has a step that would be accepted next": such steps lead to the end. From every run, whatever
--- its limits, P, K and calls so far, some further steps finish it.
-pub record CanFinish (r : Run) : Type 0 where
+-- its limits, P, K and calls so far, some further steps finish it, all of them with the same limits, whichever the run keeps.
+pub record CanFinish (limits : Limits) (r : Run) : Type 0 where
   pub further : List Call
+  pub alike : StepsWith limits (r .workers) (r .slots) further
   -- each is accepted, and a step of this run: an accepted begin would start another, whose steps are counted from 0
   pub taken : acceptedSteps (eventsOf (longer r further)) ≡ acceptedSteps (eventsOf r) + length further
   pub finishes : Finished (longer r further)

@@ -23,26 +23,27 @@ abbrev pub eventSeen : Seen → Event
 eventSeen s = record { call = s .call; said = s .said }
 
 -- the call was made on the words m, and answered and left what its rule says
-pub record Link (limits : Limits) (m : Mem) (s : Seen) : Type 0 where
-  pub answered : s .said ≡ says limits (s .call) m
-  pub written : s .left ≡ leaves limits (s .call) m
+pub record Link (m : Mem) (s : Seen) : Type 0 where
+  pub answered : s .said ≡ says (s .call) m
+  pub written : s .left ≡ leaves (s .call) m
 
 -- each call was made on the words that the last one left
-abbrev pub Chained : Limits → Mem → List Seen → Type 0
-Chained limits m [] = Unit {0}
-Chained limits m (s ∷ rest) = Link limits m s × Chained limits (s .left) rest
+abbrev pub Chained : Mem → List Seen → Type 0
+Chained m [] = Unit {0}
+Chained m (s ∷ rest) = Link m s × Chained (s .left) rest
 
 -- what a host sees from an accepted begin on
 pub record Hosting : Type 0 where
+  -- begin's own
   pub limits : Limits
   pub workers : ℕ
   pub slots : ℕ
   -- the words before begin, and after it
   pub lent : Mem
   pub begun : Mem
-  pub begins : Link limits lent (seenAs (beginCall workers slots) accepted begun)
+  pub begins : Link lent (seenAs (beginCall limits workers slots) accepted begun)
   pub seen : List Seen
-  pub chained : Chained limits begun seen
+  pub chained : Chained begun seen
 
 unfoldable pub callsMade : List Seen → List Call
 callsMade [] = []
@@ -58,7 +59,7 @@ unfoldable pub eventsSeen : List Seen → List Event → List Event
 eventsSeen [] past = past
 eventsSeen (s ∷ rest) past = eventsSeen rest (recalled (eventSeen s) past)
 
-pub begin-accepts : (limits : Limits) (p k : ℕ) (m b : Mem) → Link limits m (seenAs (beginCall p k) accepted b)
+pub begin-accepts : (limits : Limits) (p k : ℕ) (m b : Mem) → Link m (seenAs (beginCall limits p k) accepted b)
     → answerSays (begin limits p k m .answer) ≡ accepted
 unfolding says
 begin-accepts limits p k m b l = sym (l .answered)

@@ -5,6 +5,7 @@ use mathlib.Core.Bool.{cond, false}
 use mathlib.Core.List.{List, [], _∷_, _++_}
 use lib.ListN.{length, drop}
 use Rattle.task.specs.Refusals.{taskFetched}
+use Rattle.task.specs.declared.Limits.{Limits}
 use Rattle.task.specs.declared.Step.the-variants.{Fetch}
 use Rattle.rules.specs.Memory.{Mem}
 use Rattle.algorithm1.specs.Reading.{queueIn}
@@ -33,7 +34,8 @@ pub record SeenTaken (workers slots owner filler t : ℕ) (behind : List ℕ) (b
   pub split : later ≡ before ++ (fetch ∷ rest)
   pub sameRun : beginsSeen before ≡ 0
   pub number : fetchesSeen owner before < bound
-  pub asked : fetch .call ≡ stepCall workers slots owner Fetch
+  pub limits : Limits
+  pub asked : fetch .call ≡ stepCall limits workers slots owner Fetch
   pub answered : fetch .said ≡ taskFetched t
   -- t stood first in that ring, then came those that were behind it and what has been added since; all these stay
   pub added : List ℕ
