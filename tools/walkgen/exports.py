@@ -26,7 +26,7 @@ class Call:
         step = f" i Kind.{name.capitalize()}" if by_worker else ""
         self.word = "step-" if by_worker else ""
         self.rule = f"{'stepOf' if by_worker else 'beginOf'} lim p k{step}"
-        self.law = f"{'step' if by_worker else 'begin'}-replied lim p k {self.reply_of}{step}"
+        self.law = f"{'step' if by_worker else 'begin'}-replied lim engine p k {self.reply_of}{step}"
         self.core, self.replies = Callee(f"ref_{name}", name), Callee("replies", f"{self.word}reply_of".replace("-", "_"))
 
     def values(self, *parts):

@@ -1,7 +1,6 @@
--- A reply is what its answer says, beside the memory that the call leaves; the calls are made with the engine's limits.
+-- A reply is what its answer says, beside the memory that the call leaves; the calls are made with the limits that their export stands for.
 use Prim.Native.Nat.{ℕ}
 use mathlib.Core.Path.{_≡_, ap}
-use Rattle.task.specs.Types.{engine}
 use Rattle.task.specs.declared.Answer.{Answer}
 use Rattle.task.specs.declared.Limits.{Limits}
 use Rattle.task.specs.declared.Step.{Step}
@@ -12,11 +11,11 @@ use Rattle.rules.specs.Steps.{step}
 use Rattle.rules.specs.Plans.{resultOf}
 use Rattle.engine_export.specs.Replies.{replied}
 
-module _ {R : Type 0} (limits : Limits) (p k : ℕ) where
+module _ {R : Type 0} (limits own : Limits) (p k : ℕ) where
   pub step-replied : (reply : StepAnswer → R) (i : ℕ) (s : Step) (m m′ : Mem) (a : StepAnswer) (r : R)
-      → limits ≡ engine → resultOf a m′ ≡ step limits p k i s m → r ≡ reply a → resultOf r m′ ≡ replied reply (step engine p k i s m)
+      → limits ≡ own → resultOf a m′ ≡ step limits p k i s m → r ≡ reply a → resultOf r m′ ≡ replied reply (step own p k i s m)
   step-replied reply i s m m′ a r e made said = rw said (ap (replied reply) (rw e at made))
 
   pub begin-replied : (reply : Answer → R) (m m′ : Mem) (a : Answer) (r : R)
-      → limits ≡ engine → resultOf a m′ ≡ begin limits p k m → r ≡ reply a → resultOf r m′ ≡ replied reply (begin engine p k m)
+      → limits ≡ own → resultOf a m′ ≡ begin limits p k m → r ≡ reply a → resultOf r m′ ≡ replied reply (begin own p k m)
   begin-replied reply m m′ a r e made said = rw said (ap (replied reply) (rw e at made))

@@ -45,7 +45,7 @@ same-length-10 c = search needs
 
 returns : tie.Need-returns
 returns c =
-    begin-replied _ _ _ replyOf _ _ _ _
+    begin-replied _ _ _ _ replyOf _ _ _ _
     (c .before .before .before .before .before .before .before .before .before .before .before .before .before .before .before .before .before .before .before .before .before .before .before .before .before .before .before .before .before .before .engine .ensures)
     (c .before .before .before .before .before .before .before .before .before .before .before .before .before .before .before .before .before .before .before .begin .ensures)
     (c .reply-of .ensures)

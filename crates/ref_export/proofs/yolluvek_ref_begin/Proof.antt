@@ -107,11 +107,11 @@ module _ {M : Type 1} (𝓤 : URA M) (H : Heap 𝓤) (A : Atoms 𝓤) (W : Given
       suffices ! _ (finishes 𝓤 H A fn.ended stayed (fn.clauses 𝓤 H A mem run) W here x y
       (tt, (tt, (tt, (z3, (z4, (z5, (z6, (z7, (z8, (z9, (z10, (z11, (z12, (tt, (tt, tt)))))))))))))))
       (tt, (tt, (tt, (l3, (l4, (l5, (l6, (l7, (l8, (l9, (l10, (l11, (l12, (tt, (tt, tt)))))))))))))))) $
-      says ! (begin-replied lim p k replyOf (memory (m .weights .now) (m .predStarts .now) (m .preds .now) (m .succStarts .now) (m .succs .now)
-      (m .degrees .now) (m .rings .now) (m .ends .now) (m .counters .now) (m .buffers .now) (m .executed .now) (m .run .now) (m .rows .now))
-      (memory (m .weights .now) (m .predStarts .now) (m .preds .now) z3 z4 z5 z6 z7 z8 z9 z10 z11 z12) a y e made replied) $ frame ! $ nothing ! $
-      nothing ! $ fjoin ! $ nothing ! $ fjoin ! $ move ! (10 ∷ 0 ∷ []) $ fjoin ! $ move ! (9 ∷ 0 ∷ []) $ fjoin ! $ move ! (8 ∷ 0 ∷ []) $ fjoin ! $
-      move ! (7 ∷ 0 ∷ []) $ fjoin ! $ move ! (6 ∷ 0 ∷ []) $ fjoin ! $ move ! (5 ∷ 0 ∷ []) $ fjoin ! $ move ! (4 ∷ 0 ∷ []) $ fjoin ! $
+      says ! (begin-replied lim engine p k replyOf (memory (m .weights .now) (m .predStarts .now) (m .preds .now) (m .succStarts .now)
+      (m .succs .now) (m .degrees .now) (m .rings .now) (m .ends .now) (m .counters .now) (m .buffers .now) (m .executed .now) (m .run .now)
+      (m .rows .now)) (memory (m .weights .now) (m .predStarts .now) (m .preds .now) z3 z4 z5 z6 z7 z8 z9 z10 z11 z12) a y e made replied) $ frame ! $
+      nothing ! $ nothing ! $ fjoin ! $ nothing ! $ fjoin ! $ move ! (10 ∷ 0 ∷ []) $ fjoin ! $ move ! (9 ∷ 0 ∷ []) $ fjoin ! $ move ! (8 ∷ 0 ∷ []) $
+      fjoin ! $ move ! (7 ∷ 0 ∷ []) $ fjoin ! $ move ! (6 ∷ 0 ∷ []) $ fjoin ! $ move ! (5 ∷ 0 ∷ []) $ fjoin ! $ move ! (4 ∷ 0 ∷ []) $ fjoin ! $
       move ! (3 ∷ 0 ∷ []) $ fjoin ! $ move ! (2 ∷ 0 ∷ []) $ fjoin ! $ move ! (1 ∷ 0 ∷ []) $ fjoin ! $ nothing ! $ fjoin ! $ nothing ! $ fjoin ! $
       nothing ! $ fjoin ! $ frame ! $ owned ! ReplyT (Is ReplyT) (reply-makes 𝓤 H A) y _ y-is $ done !
 

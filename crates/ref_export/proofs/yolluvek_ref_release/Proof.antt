@@ -109,9 +109,9 @@ module _ {M : Type 1} (𝓤 : URA M) (H : Heap 𝓤) (A : Atoms 𝓤) (W : Given
       suffices ! _ (finishes 𝓤 H A fn.ended stayed (fn.clauses 𝓤 H A mem run) W here x y
       (tt, (tt, (tt, (tt, (tt, (z5, (z6, (z7, (z8, (tt, (tt, (z11, (z12, (tt, (tt, (tt, tt))))))))))))))))
       (tt, (tt, (tt, (tt, (tt, (l5, (l6, (l7, (l8, (tt, (tt, (l11, (l12, (tt, (tt, (tt, tt))))))))))))))))) $
-      says ! (step-replied lim p k stepReplyOf i Kind.Release (memory (m .weights .now) (m .predStarts .now) (m .preds .now) (m .succStarts .now)
-      (m .succs .now) (m .degrees .now) (m .rings .now) (m .ends .now) (m .counters .now) (m .buffers .now) (m .executed .now) (m .run .now)
-      (m .rows .now)) (memory (m .weights .now) (m .predStarts .now) (m .preds .now) (m .succStarts .now) (m .succs .now) z5 z6 z7 z8
+      says ! (step-replied lim engine p k stepReplyOf i Kind.Release (memory (m .weights .now) (m .predStarts .now) (m .preds .now)
+      (m .succStarts .now) (m .succs .now) (m .degrees .now) (m .rings .now) (m .ends .now) (m .counters .now) (m .buffers .now) (m .executed .now)
+      (m .run .now) (m .rows .now)) (memory (m .weights .now) (m .predStarts .now) (m .preds .now) (m .succStarts .now) (m .succs .now) z5 z6 z7 z8
       (m .buffers .now) (m .executed .now) z11 z12) a y e made replied) $ frame ! $ nothing ! $ nothing ! $ fjoin ! $ nothing ! $ fjoin ! $
       nothing ! $ fjoin ! $ move ! (6 ∷ 0 ∷ []) $ fjoin ! $ move ! (5 ∷ 0 ∷ []) $ fjoin ! $ nothing ! $ fjoin ! $ nothing ! $ fjoin ! $
       move ! (4 ∷ 0 ∷ []) $ fjoin ! $ move ! (3 ∷ 0 ∷ []) $ fjoin ! $ move ! (2 ∷ 0 ∷ []) $ fjoin ! $ move ! (1 ∷ 0 ∷ []) $ fjoin ! $ nothing ! $
