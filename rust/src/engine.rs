@@ -3,10 +3,10 @@
 
 mod begin;
 
-pub use begin::begin;
+pub use begin::begin_within;
 
 use crate::memory::{Memory, Outcome, Step, ACCEPTED, CURSOR, ENTRIES, HELD, NIL, PHASE, POINTER, READ, WRITE};
-use crate::model::{refused, word, Answer, Limits, Refusal, MAX_WEIGHT};
+use crate::model::{self, refused, word, Answer, Refusal, MAX_WEIGHT};
 
 /// "P workers, numbered 0..P−1, P from 1 to 16."
 pub const MAX_WORKERS: usize = 16;
@@ -38,6 +38,50 @@ pub const MODEL: Engine = Engine {
     step,
 };
 
+/// The preview of this file: the same calls with smaller limits.
+///
+/// "It has begin and the four steps, and takes N to 128, E to 512, P to 4, K to 8. Both call one core".
+pub const PREVIEW: Engine = Engine {
+    name: "model, preview",
+    begin: |memory, p, k| begin_within(Limits::PREVIEW, memory, p, k),
+    step: |memory, p, k, worker, which| step_within(Limits::PREVIEW, memory, p, k, worker, which),
+};
+
+/// A caller's limits on N, E, P and K; above the engine's they count as the engine's. Where a number begins, P from 1 and K
+/// from 2, is the same for every caller.
+#[derive(Clone, Copy, Debug)]
+pub struct Limits {
+    /// N and E.
+    pub graph: model::Limits,
+    /// P at most.
+    pub workers: usize,
+    /// K at most.
+    pub slots: usize,
+}
+
+impl Limits {
+    /// "N at most 1,024. E edges, at most 8,192", "P from 1 to 16", "K from 2 to 64".
+    pub const ENGINE: Limits = Limits {
+        graph: model::Limits::ENGINE,
+        workers: MAX_WORKERS,
+        slots: MAX_SLOTS,
+    };
+
+    /// "takes N to 128, E to 512, P to 4, K to 8"
+    pub const PREVIEW: Limits = Limits {
+        graph: model::Limits { tasks: 128, edges: 512 },
+        workers: 4,
+        slots: 8,
+    };
+
+    /// Whether N, E, P and K are within them.
+    pub fn hold(self, n: usize, e: usize, p: usize, k: usize) -> bool {
+        let workers = 1..=self.workers.min(MAX_WORKERS);
+        let slots = MIN_SLOTS..=self.slots.min(MAX_SLOTS);
+        workers.contains(&p) && slots.contains(&k) && self.graph.hold(n, e)
+    }
+}
+
 /// P and K, and N and E of the lent lists.
 #[derive(Clone, Copy)]
 struct Sizes {
@@ -53,11 +97,9 @@ impl Sizes {
         Sizes { n, e, p, k }
     }
 
-    /// 2: "N, E, P, K […] beyond its limit", detail 0.
-    fn judge_limits(self) -> Answer {
-        let workers_right = (1..=MAX_WORKERS).contains(&self.p);
-        let slots_right = (MIN_SLOTS..=MAX_SLOTS).contains(&self.k);
-        if !workers_right || !slots_right || !Limits::ENGINE.hold(self.n, self.e) {
+    /// 2: "N, E, P, K […] beyond its limit", detail 0. "Beyond its limits the preview gives 2, in the same place."
+    fn judge_limits(self, limits: Limits) -> Answer {
+        if !limits.hold(self.n, self.e, self.p, self.k) {
             return refused(2, 0);
         }
         Ok(())
@@ -99,10 +141,28 @@ impl Sizes {
     }
 }
 
-/// A step: "In a step: 2, 1, 7, phase word (8), 9; then the step's rule is followed from its first sentence".
+/// Begin by the engine.
+pub fn begin(memory: &mut Memory, p: usize, k: usize) -> Answer {
+    begin_within(Limits::ENGINE, memory, p, k)
+}
+
+/// A step by the engine.
 pub fn step(memory: &mut Memory, p: usize, k: usize, worker: u32, step: Step) -> Result<Outcome, Refusal> {
+    step_within(Limits::ENGINE, memory, p, k, worker, step)
+}
+
+/// A step by a caller with these limits: "In a step: 2, 1, 7, phase word (8), 9; then the step's rule is followed from its
+/// first sentence".
+pub fn step_within(
+    limits: Limits,
+    memory: &mut Memory,
+    p: usize,
+    k: usize,
+    worker: u32,
+    step: Step,
+) -> Result<Outcome, Refusal> {
     let sizes = Sizes::of(memory, p, k);
-    sizes.judge_limits()?;
+    sizes.judge_limits(limits)?;
     sizes.judge_lengths(memory)?;
     if worker as usize >= p {
         return refused(7, worker);

@@ -8,8 +8,8 @@
 //! `scripts` lists whole runs, `script` spells them as lines, and says by `engine` what each must answer.
 //! `runs` draws lists of calls over a lent `memory`, `damages` lists damaged words, `engine` says what each must answer, and
 //! `demand3` checks whole runs.
-//! `plain_engine` is begin and the steps without proofs; `measured` has the runs that costs are compared on, and `beside`
-//! makes the calls of an engine beside the model's. `proved`, `proved_engine` and `ref_engine` call the proved
+//! `plain_engine` is begin and the steps without proofs, `plain_preview` the same with the preview's limits; `measured` has the
+//! runs that costs are compared on, and `beside` makes the calls of an engine beside the model's. `proved`, `proved_engine` and `ref_engine` call the proved
 //! code; `exports` is the interface of the exports, and `plain_export` puts the plain engine and writer behind it.
 //! `rule` and `refusals` make the tables that stand in the pages of `docs`, and `pages` puts them there.
 
@@ -29,6 +29,7 @@ pub mod pages;
 pub mod plain;
 pub mod plain_engine;
 pub mod plain_export;
+pub mod plain_preview;
 pub mod plain_writer;
 #[cfg(feature = "linked")]
 pub mod proved;

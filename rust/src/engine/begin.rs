@@ -1,11 +1,11 @@
 //! Begin in the words of document 01.
 
-use super::{add, set, Sizes};
+use super::{add, set, Limits, Sizes};
 use crate::memory::{Memory, HELD, NIL, ROW_WORDS};
-use crate::model::{refused, word, Answer, Graph, Limits, Table};
+use crate::model::{refused, word, Answer, Graph, Table};
 
-/// Begin: "Order in begin: 2, 1, 3, 4, 5, 6."
-pub fn begin(memory: &mut Memory, p: usize, k: usize) -> Answer {
+/// Begin by a caller with these limits: "Order in begin: 2, 1, 3, 4, 5, 6."
+pub fn begin_within(limits: Limits, memory: &mut Memory, p: usize, k: usize) -> Answer {
     let sizes = Sizes::of(memory, p, k);
     let graph = Graph {
         weights: memory.weights.clone(),
@@ -14,8 +14,8 @@ pub fn begin(memory: &mut Memory, p: usize, k: usize) -> Answer {
             words: memory.preds.clone(),
         },
     };
-    sizes.judge_limits()?;
-    graph.judge_limits(Limits::ENGINE)?;
+    sizes.judge_limits(limits)?;
+    graph.judge_limits(limits.graph)?;
     sizes.judge_lengths(memory)?;
     graph.judge_edges()?;
     let roots = roots(&graph);
