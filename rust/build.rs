@@ -3,7 +3,13 @@
 use std::env;
 use std::path::Path;
 
-const ARCHIVES: [&str; 4] = ["graph_export", "stg_export", "engine_export", "ref_export"];
+const ARCHIVES: [&str; 5] = [
+    "graph_export",
+    "stg_export",
+    "engine_export",
+    "preview_export",
+    "ref_export",
+];
 
 fn main() {
     if env::var_os("CARGO_FEATURE_LINKED").is_none() {

@@ -1,7 +1,7 @@
 //! An engine beside the model: both make the same calls, and after each call the answers and every word of every lent list
 //! are compared, with guard words around the lists that the other engine is lent.
 
-use crate::engine::MODEL;
+use crate::engine::Engine;
 use crate::memory::{Memory, Outcome, Step, ROW_WORDS};
 use crate::model::{Answer, Refusal};
 use crate::plain_engine::Lent;
@@ -10,9 +10,10 @@ use crate::runs::{Call, Case, Reply};
 /// Elements before and after each lent list, which no call may touch.
 const GUARDS: usize = 16;
 
-/// An engine that is lent slices.
+/// An engine that is lent slices, and the one, mostly the model, that it has to be like.
 #[derive(Clone, Copy)]
 pub struct Side {
+    pub beside: Engine,
     pub begin: fn(&mut Lent, usize, usize) -> Answer,
     pub step: fn(&mut Lent, usize, usize, u32, Step) -> Result<Outcome, Refusal>,
 }
@@ -139,15 +140,22 @@ fn reply(side: &Side, call: Call, guarded: &mut Guarded) -> Reply {
 
 /// Makes the calls of the case with the model and with the side, whose guards are this word; says at which call they part.
 pub fn compare(case: &Case, side: &Side, guard: u32) -> Result<Counts, String> {
+    compare_by(case, |_| side, guard)
+}
+
+/// The same where the call at each place is made by the side named for it, on the lists that the calls before it left.
+pub fn compare_by<'a>(case: &Case, side_of: impl Fn(usize) -> &'a Side, guard: u32) -> Result<Counts, String> {
     let mut memory = case.memory.clone();
     let mut guarded = Guarded::of(&memory, guard);
     let mut counts = Counts::default();
     for (place, &call) in case.calls.iter().enumerate() {
-        let expected = call.make(&MODEL, &mut memory);
+        let side = side_of(place);
+        let expected = call.make(&side.beside, &mut memory);
         let found = reply(side, call, &mut guarded);
         if found != expected {
+            let name = side.beside.name;
             return Err(format!(
-                "call {place}, {call:?}: {found:?}, where the model has {expected:?}"
+                "call {place}, {call:?}: {found:?}, where the {name} has {expected:?}"
             ));
         }
         if expected == Reply::Changed {
@@ -169,9 +177,25 @@ pub fn compare(case: &Case, side: &Side, guard: u32) -> Result<Counts, String> {
 ///
 /// If the two engines part, or if the cases meet one of these numbers, 0 for acceptance, less than `least` times.
 pub fn compare_all(cases: impl Iterator<Item = (u64, Case)>, side: &Side, numbers: &[usize], least: usize) {
+    let compared = |(seed, case): (u64, Case), guard| (seed, compare(&case, side, guard));
+    add_up(cases, compared, numbers, least);
+}
+
+/// Compares the cases by a function that is handed each with its guards' word.
+///
+/// # Panics
+///
+/// As `compare_all` does.
+pub fn add_up<T>(
+    cases: impl Iterator<Item = T>,
+    compared: impl Fn(T, u32) -> (u64, Result<Counts, String>),
+    numbers: &[usize],
+    least: usize,
+) {
     let mut all = Counts::default();
-    for ((seed, case), &guard) in cases.zip([0xfeed_beef, 0, 1, 3].iter().cycle()) {
-        let counts = compare(&case, side, guard).unwrap_or_else(|parted| panic!("case {seed}: {parted}"));
+    for (case, &guard) in cases.zip([0xfeed_beef, 0, 1, 3].iter().cycle()) {
+        let (seed, counts) = compared(case, guard);
+        let counts = counts.unwrap_or_else(|parted| panic!("case {seed}: {parted}"));
         all.iter_mut().zip(counts).for_each(|(sum, count)| *sum += count);
     }
     for &number in numbers {

@@ -269,6 +269,11 @@ pub struct Finished {
 /// Plays an honest case and checks all that demand 3 says of one run, after each call; an accepted begin starts another
 /// run. The finished runs are answered.
 pub fn play(engine: &Engine, case: &Case) -> Found<Vec<Finished>> {
+    play_by(|_| engine, case)
+}
+
+/// The same where the call at each place is made by the engine named for it. An engine whose call is accepted has a next step too.
+pub fn play_by<'a>(engine_of: impl Fn(usize) -> &'a Engine, case: &Case) -> Found<Vec<Finished>> {
     ensure(case.is_honest(), || {
         String::from("something but the engine writes its memory")
     })?;
@@ -276,7 +281,8 @@ pub fn play(engine: &Engine, case: &Case) -> Found<Vec<Finished>> {
     let mut before = memory.clone();
     let mut watch: Option<Watch> = None;
     let mut finished = Vec::new();
-    for &call in &case.calls {
+    for (place, &call) in case.calls.iter().enumerate() {
+        let engine = engine_of(place);
         let reply = call.make(engine, &mut memory);
         if !reply.is_accepted() {
             ensure(memory == before, || format!("{call:?} is refused and writes"))?;

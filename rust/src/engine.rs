@@ -74,6 +74,16 @@ impl Limits {
         slots: 8,
     };
 
+    /// N at most.
+    pub fn tasks(self) -> usize {
+        self.graph.tasks as usize
+    }
+
+    /// E at most.
+    pub fn edges(self) -> usize {
+        self.graph.edges as usize
+    }
+
     /// Whether N, E, P and K are within them.
     pub fn hold(self, n: usize, e: usize, p: usize, k: usize) -> bool {
         let workers = 1..=self.workers.min(MAX_WORKERS);

@@ -4,7 +4,7 @@ use crate::engine::{Engine, MODEL, PREVIEW};
 use crate::plain_engine;
 use crate::plain_preview;
 #[cfg(feature = "linked")]
-use crate::proved_engine::PROVED;
+use crate::proved_engine::{self, PROVED};
 #[cfg(feature = "linked")]
 use crate::ref_engine::RECORDS;
 
@@ -20,5 +20,10 @@ pub fn all() -> Vec<Engine> {
 }
 
 pub fn previews() -> Vec<Engine> {
-    vec![PREVIEW, plain_preview::PLAIN]
+    vec![
+        PREVIEW,
+        plain_preview::PLAIN,
+        #[cfg(feature = "linked")]
+        proved_engine::preview::PREVIEW,
+    ]
 }

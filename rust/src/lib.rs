@@ -7,10 +7,11 @@
 //! `saves` draws the graphs and compares, and `plain_writer` is the plain one.
 //! `scripts` lists whole runs, `script` spells them as lines, and says by `engine` what each must answer.
 //! `runs` draws lists of calls over a lent `memory`, `damages` lists damaged words, `engine` says what each must answer, and
-//! `demand3` checks whole runs.
+//! `demand3` checks whole runs; `mixed` shares lists of calls out between the engine and the preview.
 //! `plain_engine` is begin and the steps without proofs, `plain_preview` the same with the preview's limits; `measured` has the
-//! runs that costs are compared on, and `beside` makes the calls of an engine beside the model's. `proved`, `proved_engine` and `ref_engine` call the proved
-//! code; `exports` is the interface of the exports, and `plain_export` puts the plain engine and writer behind it.
+//! runs that costs are compared on, and `beside` makes the calls of an engine beside the model's. `proved`, `proved_engine` and
+//! `ref_engine` call the proved code; `exports` is the interface of the exports, and `plain_export` puts the plain engine and
+//! writer behind it.
 //! `rule` and `refusals` make the tables that stand in the pages of `docs`, and `pages` puts them there.
 
 pub mod beside;
@@ -24,6 +25,7 @@ pub mod exports;
 pub mod frames;
 pub mod measured;
 pub mod memory;
+pub mod mixed;
 pub mod model;
 pub mod pages;
 pub mod plain;

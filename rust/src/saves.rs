@@ -2,6 +2,7 @@
 //! lengths, the answers and every lent byte and word are compared, with guards around them, and the text is read back.
 
 use crate::draw::Draw;
+use crate::engine::Limits;
 use crate::exports::MAX_WRITTEN;
 use crate::frames::LENT;
 use crate::model::{word, Graph, Refusal, Table, MAX_EDGES, MAX_TASKS};
@@ -52,7 +53,7 @@ pub fn sound(draw: &mut Draw, most: usize) -> Graph {
 
 /// The same with as many tasks as there may be, and about as many edges.
 pub fn largest(draw: &mut Draw) -> Graph {
-    with_dummies(graphs::largest(draw))
+    with_dummies(graphs::largest(draw, Limits::ENGINE))
 }
 
 /// What may be wrong with a graph.

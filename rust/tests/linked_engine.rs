@@ -3,11 +3,13 @@
 
 use engine_model::beside::{compare, compare_all, Side, ANSWERS, STEP_ANSWERS};
 use engine_model::damages;
+use engine_model::engine::MODEL;
 use engine_model::measured;
 use engine_model::proved_engine;
 use engine_model::runs::{next_case, runs_of_one_graph};
 
 const PROVED: Side = Side {
+    beside: MODEL,
     begin: proved_engine::begin,
     step: proved_engine::step,
 };

@@ -3,6 +3,7 @@
 
 use engine_model::beside::{compare_all, Side, ANSWERS, STEP_ANSWERS};
 use engine_model::damages;
+use engine_model::engine::MODEL;
 use engine_model::memory::{Memory, Step};
 use engine_model::model::Graph;
 use engine_model::ref_engine;
@@ -11,6 +12,7 @@ use engine_model::text::Trial;
 use engine_model::trials;
 
 const RECORDS: Side = Side {
+    beside: MODEL,
     begin: ref_engine::begin,
     step: ref_engine::step,
 };

@@ -2,11 +2,13 @@
 
 use engine_model::beside::{compare, compare_all, Side, ANSWERS, STEP_ANSWERS};
 use engine_model::damages;
+use engine_model::engine::MODEL;
 use engine_model::measured;
 use engine_model::plain_engine;
 use engine_model::runs::next_case;
 
 const PLAIN: Side = Side {
+    beside: MODEL,
     begin: plain_engine::begin,
     step: plain_engine::step,
 };

@@ -3,15 +3,15 @@
 use super::honest::Recorder;
 use super::{any_sizes, graphs as shapes, lent_for, Call, Case};
 use crate::draw::Draw;
+use crate::engine::Limits;
 use crate::memory::{List, Memory, Step};
-use crate::model::{MAX_EDGES, MAX_TASKS};
 use crate::trials::damage::several;
 
 /// A run in which lists are lent longer or shorter for a while.
-pub fn lengths(draw: &mut Draw) -> Case {
-    let graph = shapes::any(draw, 20);
-    let (p, k) = any_sizes(draw, &graph);
-    let mut recorder = Recorder::new(lent_for(draw, graph, p, k), p, k);
+pub fn lengths(draw: &mut Draw, limits: Limits) -> Case {
+    let graph = shapes::any_within(draw, limits, 20);
+    let (p, k) = any_sizes(draw, limits, &graph);
+    let mut recorder = Recorder::new(limits, lent_for(draw, graph, p, k), p, k);
     for _ in 0..draw.between(1, 8) {
         recorder.begin();
         recorder.every_step(draw, 16);
@@ -35,18 +35,18 @@ pub fn lengths(draw: &mut Draw) -> Case {
 }
 
 /// Graphs that begin refuses; after each refusal steps on what the lists held.
-pub fn graphs(draw: &mut Draw) -> Case {
+pub fn graphs(draw: &mut Draw, limits: Limits) -> Case {
     match draw.below(3) {
-        0 => several_defects(draw),
-        1 => too_many_roots(draw),
-        _ => one_defect_after_another(draw),
+        0 => several_defects(draw, limits),
+        1 => too_many_roots(draw, limits),
+        _ => one_defect_after_another(draw, limits),
     }
 }
 
 /// A graph with several defects from the start.
-fn several_defects(draw: &mut Draw) -> Case {
+fn several_defects(draw: &mut Draw, limits: Limits) -> Case {
     let trial = several(draw);
-    let (p, k) = any_sizes(draw, &trial.graph);
+    let (p, k) = any_sizes(draw, limits, &trial.graph);
     let mut memory = lent_for(draw, trial.graph, p, k);
     let [succ_starts, succs, degrees] = trial.lent;
     if draw.below(4) == 0 {
@@ -54,14 +54,14 @@ fn several_defects(draw: &mut Draw) -> Case {
         memory.lend(List::Succs, succs, 0);
         memory.lend(List::Degrees, degrees, 0);
     }
-    let mut recorder = Recorder::new(memory, p, k);
+    let mut recorder = Recorder::new(limits, memory, p, k);
     recorder.begin();
     recorder.every_step(draw, 16);
     recorder.case()
 }
 
 /// Rings that the roots fill, or that lack a slot or two: "more than P·(K−1) roots".
-fn too_many_roots(draw: &mut Draw) -> Case {
+fn too_many_roots(draw: &mut Draw, limits: Limits) -> Case {
     let (p, k) = (draw.between(1, 4), draw.between(2, 5));
     let roots = p * (k - 1) + draw.below(3);
     let mut lists = vec![Vec::new(); roots + draw.below(3)];
@@ -69,17 +69,17 @@ fn too_many_roots(draw: &mut Draw) -> Case {
         *list = vec![draw.below(roots) as u32];
     }
     let graph = shapes::weighed(draw, &lists);
-    let mut recorder = Recorder::new(lent_for(draw, graph, p, k), p, k);
+    let mut recorder = Recorder::new(limits, lent_for(draw, graph, p, k), p, k);
     recorder.begin();
     recorder.every_step(draw, 16);
     recorder.case()
 }
 
 /// A run whose predecessor table is damaged and mended again, with a begin in between.
-fn one_defect_after_another(draw: &mut Draw) -> Case {
-    let graph = shapes::any(draw, 12);
-    let (p, k) = any_sizes(draw, &graph);
-    let mut recorder = Recorder::new(lent_for(draw, graph, p, k), p, k);
+fn one_defect_after_another(draw: &mut Draw, limits: Limits) -> Case {
+    let graph = shapes::any_within(draw, limits, 12);
+    let (p, k) = any_sizes(draw, limits, &graph);
+    let mut recorder = Recorder::new(limits, lent_for(draw, graph, p, k), p, k);
     recorder.begin();
     for _ in 0..16 {
         recorder.every_step(draw, 8);
@@ -123,25 +123,27 @@ fn defect(draw: &mut Draw, memory: &Memory) -> Option<(List, usize, u32)> {
     })
 }
 
-/// N, E, P and K at their limits and beyond, roots and weights too.
-pub fn limits(draw: &mut Draw) -> Case {
+/// N, E, P and K at their limits and beyond, roots and weights too; then with a list of another length.
+pub fn limits(draw: &mut Draw, limits: Limits) -> Case {
+    let Limits { workers, slots, .. } = limits;
     let (p, k): (usize, usize) = draw.pick(&[
         (1, 2),
-        (16, 64),
-        (1, 64),
-        (16, 2),
+        (workers, slots),
+        (1, slots),
+        (workers, 2),
         (0, 2),
-        (17, 2),
+        (workers + 1, 2),
         (1, 1),
         (1, 0),
-        (16, 65),
+        (workers, slots + 1),
         (2, 3),
     ]);
-    let room = (p * k.saturating_sub(1)).min(MAX_TASKS);
-    let n = draw.pick(&[room, room + 1, room.saturating_sub(1), MAX_TASKS, MAX_TASKS + 1, 3]);
+    let (tasks, edges) = (limits.tasks(), limits.edges());
+    let room = (p * k.saturating_sub(1)).min(tasks);
+    let n = draw.pick(&[room, room + 1, room.saturating_sub(1), tasks, tasks + 1, 3]);
     let weight = draw.pick(&[0, 65_535, 65_536, u32::MAX]);
     let e = if draw.below(4) == 0 {
-        draw.between(MAX_EDGES, MAX_EDGES + 1)
+        draw.between(edges, edges + 1)
     } else {
         0
     };
@@ -152,10 +154,22 @@ pub fn limits(draw: &mut Draw) -> Case {
     if let Some(last) = memory.weights.last_mut() {
         *last = weight;
     }
-    let mut recorder = Recorder::new(memory, p, k);
+    let mut recorder = Recorder::new(limits, memory, p, k);
     recorder.begin();
     // with P 0 there is no worker below P
     recorder.step(0, Step::Fetch);
     recorder.every_step(draw, 16);
+    // 2 comes before 1
+    let list = draw.pick(&List::ALL);
+    let right = recorder.memory.length(list);
+    let length = draw.pick(&[0, right.saturating_sub(1), right + 1]);
+    recorder.call(Call::Lend {
+        list,
+        length,
+        word: fill,
+    });
+    recorder.begin();
+    recorder.step(0, Step::Fetch);
+    recorder.every_step(draw, 4);
     recorder.case()
 }

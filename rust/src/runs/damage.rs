@@ -4,6 +4,7 @@
 use super::honest::{Manner, Recorder};
 use super::{graphs, lent_for, small_sizes, Case};
 use crate::draw::Draw;
+use crate::engine::Limits;
 use crate::memory::{List, Memory, Step, CURSOR, HELD, PHASE, POINTER, READ, ROW_WORDS};
 
 /// Lists whose words the steps read come more often.
@@ -30,10 +31,10 @@ const LISTS: [List; 18] = [
 
 /// A run of up to `most` tasks: a few accepted steps, damage, steps by all workers, and mostly the words put back; at the end
 /// of the run another begin.
-pub fn between_calls(draw: &mut Draw, most: usize) -> Case {
-    let graph = graphs::any(draw, most);
-    let (p, k) = small_sizes(draw, &graph);
-    let mut recorder = Recorder::new(lent_for(draw, graph, p, k), p, k);
+pub fn between_calls(draw: &mut Draw, limits: Limits, most: usize) -> Case {
+    let graph = graphs::any_within(draw, limits, most);
+    let (p, k) = small_sizes(draw, limits, &graph);
+    let mut recorder = Recorder::new(limits, lent_for(draw, graph, p, k), p, k);
     recorder.begin();
     let manner = Manner::drawn(draw);
     for _ in 0..draw.between(4, 24) {
@@ -59,13 +60,13 @@ pub fn between_calls(draw: &mut Draw, most: usize) -> Case {
 }
 
 /// Worker 0 has filled all its rings and meets 11; damage that comes before it or behind it, and its Release again.
-pub fn at_full_rings(draw: &mut Draw) -> Case {
+pub fn at_full_rings(draw: &mut Draw, limits: Limits) -> Case {
     let (p, k) = (draw.between(1, 4), draw.between(2, 3));
     let full = p * (k - 1);
     let root = vec![Vec::new()];
     let successors = vec![vec![0]; full + draw.between(1, 3)];
     let graph = graphs::weighed(draw, &[root, successors].concat());
-    let mut recorder = Recorder::new(lent_for(draw, graph, p, k), p, k);
+    let mut recorder = Recorder::new(limits, lent_for(draw, graph, p, k), p, k);
     recorder.begin();
     for step in [Step::Fetch, Step::Start, Step::Complete] {
         recorder.step(0, step);
@@ -94,14 +95,14 @@ pub fn at_full_rings(draw: &mut Draw) -> Case {
 }
 
 /// No begin: every word is drawn, mostly within its limits, then steps by all workers.
-pub fn everywhere(draw: &mut Draw) -> Case {
-    let graph = graphs::any(draw, 12);
-    let (p, k) = small_sizes(draw, &graph);
+pub fn everywhere(draw: &mut Draw, limits: Limits) -> Case {
+    let graph = graphs::any_within(draw, limits, 12);
+    let (p, k) = small_sizes(draw, limits, &graph);
     let mut memory = lent_for(draw, graph, p, k);
     if memory.n() > 0 {
         draw_all(draw, &mut memory, p, k);
     }
-    let mut recorder = Recorder::new(memory, p, k);
+    let mut recorder = Recorder::new(limits, memory, p, k);
     for _ in 0..draw.between(1, 6) {
         recorder.every_step(draw, 64);
         damage(draw, &mut recorder);

@@ -1,7 +1,8 @@
 //! Graphs of many shapes as lists of predecessors.
 
 use crate::draw::Draw;
-use crate::model::{Graph, Table, MAX_EDGES, MAX_TASKS};
+use crate::engine::Limits;
+use crate::model::{Graph, Table};
 use crate::trials::random::{acyclic, add_edge, Lists};
 
 #[derive(Clone, Copy, Debug)]
@@ -27,14 +28,24 @@ const SHAPES: [Shape; 7] = [
 
 /// A graph that begin accepts, but perhaps for its number of roots: any shape, up to `most` tasks, weights up to the limit.
 pub fn any(draw: &mut Draw, most: usize) -> Graph {
-    let lists = shaped_up_to(draw, most);
+    any_within(draw, Limits::ENGINE, most)
+}
+
+/// The same with no more edges than these limits take.
+pub fn any_within(draw: &mut Draw, limits: Limits, most: usize) -> Graph {
+    let lists = shaped_within(draw, limits, most);
     weighed(draw, &lists)
 }
 
 /// The predecessors of each task, up to `most` tasks of any shape.
 pub fn shaped_up_to(draw: &mut Draw, most: usize) -> Lists {
+    shaped_within(draw, Limits::ENGINE, most)
+}
+
+/// The same with no more edges than these limits take.
+pub fn shaped_within(draw: &mut Draw, limits: Limits, most: usize) -> Lists {
     let n = draw.between(0, most);
-    shaped(draw, n)
+    shaped(draw, n, limits.edges())
 }
 
 /// The graph of the lists with weights that are small, equal, large, or 0.
@@ -48,19 +59,20 @@ pub fn weighed(draw: &mut Draw, lists: &Lists) -> Graph {
 }
 
 /// A few shapes with N at its limit and E at or near its own.
-pub fn largest(draw: &mut Draw) -> Graph {
-    let n = MAX_TASKS;
+pub fn largest(draw: &mut Draw, limits: Limits) -> Graph {
+    let (n, most) = (limits.tasks(), limits.edges());
     let lists = match draw.below(4) {
         // so wide that a run fills rings
-        0 => layers(draw, n, n / 16, MAX_EDGES),
-        1 => shaped(draw, n),
+        0 => layers(draw, n, n / 16, most),
+        1 => shaped(draw, n, most),
         2 => chain(draw, n),
-        _ => full(draw, n),
+        _ => full(draw, n, most),
     };
     weighed(draw, &lists)
 }
 
-fn shaped(draw: &mut Draw, n: usize) -> Lists {
+/// That many tasks, and at most so many edges.
+fn shaped(draw: &mut Draw, n: usize, most: usize) -> Lists {
     if n < 2 {
         return vec![Vec::new(); n];
     }
@@ -70,15 +82,15 @@ fn shaped(draw: &mut Draw, n: usize) -> Lists {
         Shape::FanIn => fan(draw, n, |lists, hub, task| add_edge(lists, task, hub)),
         Shape::Layers => {
             let width = draw.between(1, n);
-            let edges = draw.between(n, (4 * n).min(MAX_EDGES));
+            let edges = draw.between(n.min(most), (4 * n).min(most));
             layers(draw, n, width, edges)
         }
         Shape::Dense => {
-            let edges = (n * (n - 1) / 2).min(MAX_EDGES);
+            let edges = (n * (n - 1) / 2).min(most);
             acyclic(draw, n, edges)
         }
         Shape::Sparse => {
-            let edges = draw.below(2 * n).min(MAX_EDGES);
+            let edges = draw.below(2 * n).min(most);
             acyclic(draw, n, edges)
         }
         Shape::Loose => vec![Vec::new(); n],
@@ -128,12 +140,12 @@ fn layers(draw: &mut Draw, n: usize, width: usize, edges: usize) -> Lists {
     lists
 }
 
-/// Exactly as many edges as there may be: each task after the eight before it, and some after the ninth.
-fn full(draw: &mut Draw, n: usize) -> Lists {
+/// Exactly as many edges as there may be: each task after as many of those just before it, and some after one more.
+fn full(draw: &mut Draw, n: usize, most: usize) -> Lists {
     let order = shuffled(draw, n);
     let mut lists = vec![Vec::new(); n];
     let pairs = (1..n).flat_map(|back| (back..n).map(move |late| (late - back, late)));
-    for (early, late) in pairs.take(MAX_EDGES) {
+    for (early, late) in pairs.take(most) {
         add_edge(&mut lists, order[early], order[late]);
     }
     lists

@@ -2,7 +2,7 @@
 
 use super::{any_sizes, graphs, lent_for, small_sizes, Call, Case};
 use crate::draw::Draw;
-use crate::engine::{self, MAX_SLOTS, MAX_WORKERS, MODEL};
+use crate::engine::{self, Limits, MODEL};
 use crate::memory::{List, Memory, Step};
 use crate::model::{Graph, Refusal};
 use crate::trials::random::Lists;
@@ -36,8 +36,10 @@ impl Manner {
     }
 }
 
-/// Records calls while the model makes them, so that the next call can be chosen.
+/// Records calls while the model makes them, so that the next call can be chosen. Calls with another P or K have it at or near
+/// these limits.
 pub struct Recorder {
+    limits: Limits,
     pub start: Memory,
     pub memory: Memory,
     pub p: usize,
@@ -46,8 +48,9 @@ pub struct Recorder {
 }
 
 impl Recorder {
-    pub fn new(memory: Memory, p: usize, k: usize) -> Recorder {
+    pub fn new(limits: Limits, memory: Memory, p: usize, k: usize) -> Recorder {
         Recorder {
+            limits,
             start: memory.clone(),
             memory,
             p,
@@ -129,7 +132,7 @@ impl Recorder {
         let worker = draw.below(p) as u32;
         let beyond = draw.pick(&[p as u32, p as u32 + 1, 65_535, 1 << 31, u32::MAX]);
         let step = draw.pick(&Step::ALL);
-        let (other_p, other_k) = others(draw, p, k);
+        let (other_p, other_k) = others(draw, self.limits, p, k);
         let call = match draw.below(8) {
             0 => Call::Begin { p: other_p, k: other_k },
             1 => Call::Step {
@@ -164,9 +167,10 @@ impl Recorder {
 }
 
 /// Another P or K, or both, within the limits and beyond.
-fn others(draw: &mut Draw, p: usize, k: usize) -> (usize, usize) {
-    let other_p = draw.pick(&[0, p - 1, p + 1, MAX_WORKERS, MAX_WORKERS + 1, k, usize::MAX]);
-    let other_k = draw.pick(&[0, 1, k - 1, k + 1, MAX_SLOTS, MAX_SLOTS + 1, p, usize::MAX]);
+fn others(draw: &mut Draw, limits: Limits, p: usize, k: usize) -> (usize, usize) {
+    let Limits { workers, slots, .. } = limits;
+    let other_p = draw.pick(&[0, p - 1, p + 1, workers, workers + 1, k, usize::MAX]);
+    let other_k = draw.pick(&[0, 1, k - 1, k + 1, slots, slots + 1, p, usize::MAX]);
     let pair = draw.pick(&[(other_p, k), (p, other_k), (other_p, other_k)]);
     if pair == (p, k) {
         (p, k + 1)
@@ -176,32 +180,32 @@ fn others(draw: &mut Draw, p: usize, k: usize) -> (usize, usize) {
 }
 
 /// A run of a graph of any shape with up to `most` tasks.
-pub fn any(draw: &mut Draw, most: usize) -> Case {
-    let graph = graphs::any(draw, most);
-    run_of(draw, graph)
+pub fn any(draw: &mut Draw, limits: Limits, most: usize) -> Case {
+    let graph = graphs::any_within(draw, limits, most);
+    run_of(draw, limits, graph)
 }
 
 /// A run with N at its limit, and E at or near its own.
-pub fn largest(draw: &mut Draw) -> Case {
-    let graph = graphs::largest(draw);
-    run_of(draw, graph)
+pub fn largest(draw: &mut Draw, limits: Limits) -> Case {
+    let graph = graphs::largest(draw, limits);
+    run_of(draw, limits, graph)
 }
 
 /// A run of a graph with these edges: its weights and the order of each task's predecessors are drawn.
-pub fn run_of_lists(draw: &mut Draw, lists: &Lists) -> Case {
+pub fn run_of_lists(draw: &mut Draw, limits: Limits, lists: &Lists) -> Case {
     let mut lists = lists.clone();
     lists.iter_mut().for_each(|list| draw.shuffle(list));
     let graph = graphs::weighed(draw, &lists);
-    run_of(draw, graph)
+    run_of(draw, limits, graph)
 }
 
 /// Mostly one whole run; sometimes some of it, and another begin.
-fn run_of(draw: &mut Draw, graph: Graph) -> Case {
+fn run_of(draw: &mut Draw, limits: Limits, graph: Graph) -> Case {
     let (p, k) = match draw.below(3) {
-        0 => small_sizes(draw, &graph),
-        _ => any_sizes(draw, &graph),
+        0 => small_sizes(draw, limits, &graph),
+        _ => any_sizes(draw, limits, &graph),
     };
-    let mut recorder = Recorder::new(lent_for(draw, graph, p, k), p, k);
+    let mut recorder = Recorder::new(limits, lent_for(draw, graph, p, k), p, k);
     recorder.stray(draw);
     if !recorder.begin() {
         recorder.every_step(draw, 16);

@@ -1,5 +1,5 @@
 //! Lists of calls for an engine, drawn from a seed: honest runs with refused calls among them, words damaged between the
-//! calls, wrong lengths, bad graphs, arbitrary words.
+//! calls, wrong lengths, bad graphs, arbitrary words. Sizes keep to a caller's limits, or go just beyond them.
 
 mod bad;
 mod damage;
@@ -7,7 +7,7 @@ pub mod graphs;
 mod honest;
 
 use crate::draw::Draw;
-use crate::engine::{Engine, MAX_SLOTS, MAX_WORKERS};
+use crate::engine::{Engine, Limits};
 use crate::memory::{List, Memory, Outcome, Step};
 use crate::model::{Answer, Graph, Refusal};
 
@@ -104,51 +104,57 @@ fn lent_for(draw: &mut Draw, graph: Graph, p: usize, k: usize) -> Memory {
     Memory::sized(graph.weights, graph.preds.starts, graph.preds.words, p, k, fill)
 }
 
-/// "P from 1 to 16", "K from 2 to 64": small ones and the limits often, mostly with room for all roots.
-fn any_sizes(draw: &mut Draw, graph: &Graph) -> (usize, usize) {
-    let (p, k) = (draw.between(1, 16), draw.between(2, 64));
-    let p = draw.pick(&[1, 2, 3, 4, 16, p, p]);
-    let k = draw.pick(&[2, 2, 3, 4, 5, 64, k, k]);
-    enlarged(draw, graph, (p, k))
+/// "P from 1 to 16", "K from 2 to 64", or to smaller limits: small ones and the limits often, mostly with room for all roots.
+fn any_sizes(draw: &mut Draw, limits: Limits, graph: &Graph) -> (usize, usize) {
+    let (p, k) = (draw.between(1, limits.workers), draw.between(2, limits.slots));
+    let p = draw.pick(&[1, 2, 3, 4, limits.workers, p, p]);
+    let k = draw.pick(&[2, 2, 3, 4, 5, limits.slots, k, k]);
+    enlarged(draw, limits, graph, (p, k))
 }
 
 /// Few rings and slots, which are soon full, and in which a damaged word is soon read; mostly with room for all roots.
-fn small_sizes(draw: &mut Draw, graph: &Graph) -> (usize, usize) {
-    let sizes = draw.pick(&[(1, 2), (1, 2), (1, 3), (2, 2), (2, 2), (2, 4), (3, 2), (3, 3), (5, 8)]);
-    enlarged(draw, graph, sizes)
+fn small_sizes(draw: &mut Draw, limits: Limits, graph: &Graph) -> (usize, usize) {
+    let largest = (limits.workers.min(5), limits.slots.min(8));
+    let sizes = draw.pick(&[(1, 2), (1, 2), (1, 3), (2, 2), (2, 2), (2, 4), (3, 2), (3, 3), largest]);
+    enlarged(draw, limits, graph, sizes)
 }
 
 /// Mostly enlarged until there is room for all roots.
-fn enlarged(draw: &mut Draw, graph: &Graph, (mut p, mut k): (usize, usize)) -> (usize, usize) {
+fn enlarged(draw: &mut Draw, limits: Limits, graph: &Graph, (mut p, mut k): (usize, usize)) -> (usize, usize) {
     let starts = graph.preds.starts.windows(2);
     let roots = starts.filter(|pair| pair[0] == pair[1]).count();
     if draw.below(8) == 0 {
         return (p, k);
     }
-    while roots > p * (k - 1) && (p, k) != (MAX_WORKERS, MAX_SLOTS) {
-        p = (p + 1).min(MAX_WORKERS);
-        k = (k + 1).min(MAX_SLOTS);
+    while roots > p * (k - 1) && (p, k) != (limits.workers, limits.slots) {
+        p = (p + 1).min(limits.workers);
+        k = (k + 1).min(limits.slots);
     }
     (p, k)
 }
 
 /// The case of this seed. Every sixteen seeds hold each kind; the largest graphs come once in 64.
 pub fn next_case(seed: u64) -> Case {
+    next_case_within(Limits::ENGINE, seed)
+}
+
+/// The same for a caller with these limits; some graphs have more tasks than the preview takes.
+pub fn next_case_within(limits: Limits, seed: u64) -> Case {
     let mut draw = Draw::new(seed);
     let draw = &mut draw;
     match seed % 16 {
-        0 => honest::any(draw, 2),
-        1..=4 => honest::any(draw, 30),
-        6 => honest::any(draw, 200),
-        7 if seed % 64 == 7 => honest::largest(draw),
-        7 => honest::any(draw, 100),
-        8..=9 => damage::between_calls(draw, 10),
-        10 => damage::at_full_rings(draw),
-        11 => damage::between_calls(draw, 60),
-        12 => damage::everywhere(draw),
-        13 => bad::lengths(draw),
-        5 | 14 => bad::graphs(draw),
-        _ => bad::limits(draw),
+        0 => honest::any(draw, limits, 2),
+        1..=4 => honest::any(draw, limits, 30),
+        6 => honest::any(draw, limits, 200),
+        7 if seed % 64 == 7 => honest::largest(draw, limits),
+        7 => honest::any(draw, limits, 100),
+        8..=9 => damage::between_calls(draw, limits, 10),
+        10 => damage::at_full_rings(draw, limits),
+        11 => damage::between_calls(draw, limits, 60),
+        12 => damage::everywhere(draw, limits),
+        13 => bad::lengths(draw, limits),
+        5 | 14 => bad::graphs(draw, limits),
+        _ => bad::limits(draw, limits),
     }
 }
 
@@ -156,7 +162,14 @@ pub fn next_case(seed: u64) -> Case {
 ///
 /// "Two runs are of one graph if N and the edges agree."
 pub fn runs_of_one_graph(seed: u64, most: usize, count: usize) -> Vec<Case> {
+    runs_of_one_graph_within(Limits::ENGINE, seed, most, count)
+}
+
+/// The same for a caller with these limits.
+pub fn runs_of_one_graph_within(limits: Limits, seed: u64, most: usize, count: usize) -> Vec<Case> {
     let mut draw = Draw::new(seed);
-    let lists = graphs::shaped_up_to(&mut draw, most);
-    (0..count).map(|_| honest::run_of_lists(&mut draw, &lists)).collect()
+    let lists = graphs::shaped_within(&mut draw, limits, most);
+    (0..count)
+        .map(|_| honest::run_of_lists(&mut draw, limits, &lists))
+        .collect()
 }
