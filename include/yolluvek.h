@@ -11,9 +11,13 @@
  * docs/RULE.md says which worker a released task goes to, docs/REFUSALS.md what to do about each refusal.
  * yolluvek_job.h has the same calls on a job in one block of memory, with a few arguments instead of all the lists.
  *
+ * A preview, for a planning window with less memory, makes the same runs by yolluvek_preview_begin and so on, within
+ * smaller limits.
+ *
  * Link libyolluvek.a, which `make install` installs (x86-64 Linux), or the archives that it is merged from:
- * libgraph_export.a, libstg_export.a and libengine_export.a, which `rt staticlib` writes to target/staticlib. Of these
- * the last has begin and the steps, the second the reader and the writer, the first the other calls.
+ * libgraph_export.a, libstg_export.a, libengine_export.a and libpreview_export.a, which `rt staticlib` writes to
+ * target/staticlib. Of these the last has the preview's calls, the third begin and the steps, the second the reader and
+ * the writer, the first the other calls.
  *
  * What is assumed of the pointers:
  *   - each is aligned and good for as many elements as the length after it says; an empty list may have any pointer
@@ -44,6 +48,12 @@ extern "C" {
 #define YOLLUVEK_MIN_SLOTS 2      /* K at least */
 #define YOLLUVEK_MAX_SLOTS 64     /* K at most */
 #define YOLLUVEK_MAX_TEXT 65536   /* bytes of a text at most */
+
+/* Limits of the preview's five calls, in the same places: P at least 1, K at least 2 and weights to 65,535 stay. */
+#define YOLLUVEK_PREVIEW_MAX_TASKS 128 /* N at most */
+#define YOLLUVEK_PREVIEW_MAX_EDGES 512 /* E at most */
+#define YOLLUVEK_PREVIEW_MAX_WORKERS 4 /* P at most, at least 1 */
+#define YOLLUVEK_PREVIEW_MAX_SLOTS 8   /* K at most, at least 2 */
 
 /* Bytes of a buffer that always suffice for the writer's text: no text that it writes is longer. */
 #define YOLLUVEK_MAX_WRITTEN 57349
@@ -355,6 +365,99 @@ yolluvek_step_reply yolluvek_complete(
  * of one after it, and the answer is the task and its new owner.
  */
 yolluvek_step_reply yolluvek_release(
+    const uint32_t *weights, size_t weights_len,
+    const uint32_t *pred_starts, size_t pred_starts_len,
+    const uint32_t *preds, size_t preds_len,
+    const uint32_t *succ_starts, size_t succ_starts_len,
+    const uint32_t *succs, size_t succs_len,
+    uint32_t *degrees, size_t degrees_len,
+    uint32_t *rings, size_t rings_len,
+    uint32_t *ends, size_t ends_len,
+    int32_t *counters, size_t counters_len,
+    const uint32_t *buffers, size_t buffers_len,
+    const uint32_t *executed, size_t executed_len,
+    uint32_t *run, size_t run_len,
+    yolluvek_row *rows, size_t rows_len,
+    size_t p, size_t k, uint32_t worker);
+
+/*
+ * The preview: begin and the four steps with smaller limits, for a planning window that lends less memory. It takes N
+ * to 128, E to 512, P to 4 and K to 8 (YOLLUVEK_PREVIEW_MAX_TASKS and so on). The lists, their lengths and the replies
+ * are those of yolluvek_begin and of the steps; so the lists are as short as N, E, P and K make them.
+ *
+ * Beyond these limits each of the five calls is refused with 2, detail 0, before anything else is judged, lengths and
+ * the worker too. Within them each is the engine's own call, with its answer and its words: a run may be begun by one
+ * and stepped by the other, in any turn. Weights to 65,535, P from 1 and K from 2 stay. The scratch words that a call
+ * has on the stack are the core's, sized by the engine's limits, and are no fewer here.
+ *
+ * The lookup and the writer have no preview; they take the preview's lists as any other. yolluvek_check_graph with
+ * YOLLUVEK_PREVIEW_MAX_TASKS and YOLLUVEK_PREVIEW_MAX_EDGES checks a graph for it.
+ */
+yolluvek_reply yolluvek_preview_begin(
+    const uint32_t *weights, size_t weights_len,
+    const uint32_t *pred_starts, size_t pred_starts_len,
+    const uint32_t *preds, size_t preds_len,
+    uint32_t *succ_starts, size_t succ_starts_len,
+    uint32_t *succs, size_t succs_len,
+    uint32_t *degrees, size_t degrees_len,
+    uint32_t *rings, size_t rings_len,
+    uint32_t *ends, size_t ends_len,
+    int32_t *counters, size_t counters_len,
+    uint32_t *buffers, size_t buffers_len,
+    uint32_t *executed, size_t executed_len,
+    uint32_t *run, size_t run_len,
+    yolluvek_row *rows, size_t rows_len,
+    size_t p, size_t k);
+
+yolluvek_step_reply yolluvek_preview_fetch(
+    const uint32_t *weights, size_t weights_len,
+    const uint32_t *pred_starts, size_t pred_starts_len,
+    const uint32_t *preds, size_t preds_len,
+    const uint32_t *succ_starts, size_t succ_starts_len,
+    const uint32_t *succs, size_t succs_len,
+    const uint32_t *degrees, size_t degrees_len,
+    const uint32_t *rings, size_t rings_len,
+    uint32_t *ends, size_t ends_len,
+    int32_t *counters, size_t counters_len,
+    const uint32_t *buffers, size_t buffers_len,
+    const uint32_t *executed, size_t executed_len,
+    uint32_t *run, size_t run_len,
+    yolluvek_row *rows, size_t rows_len,
+    size_t p, size_t k, uint32_t worker);
+
+yolluvek_step_reply yolluvek_preview_start(
+    const uint32_t *weights, size_t weights_len,
+    const uint32_t *pred_starts, size_t pred_starts_len,
+    const uint32_t *preds, size_t preds_len,
+    const uint32_t *succ_starts, size_t succ_starts_len,
+    const uint32_t *succs, size_t succs_len,
+    const uint32_t *degrees, size_t degrees_len,
+    const uint32_t *rings, size_t rings_len,
+    const uint32_t *ends, size_t ends_len,
+    const int32_t *counters, size_t counters_len,
+    const uint32_t *buffers, size_t buffers_len,
+    const uint32_t *executed, size_t executed_len,
+    uint32_t *run, size_t run_len,
+    yolluvek_row *rows, size_t rows_len,
+    size_t p, size_t k, uint32_t worker);
+
+yolluvek_step_reply yolluvek_preview_complete(
+    const uint32_t *weights, size_t weights_len,
+    const uint32_t *pred_starts, size_t pred_starts_len,
+    const uint32_t *preds, size_t preds_len,
+    const uint32_t *succ_starts, size_t succ_starts_len,
+    const uint32_t *succs, size_t succs_len,
+    const uint32_t *degrees, size_t degrees_len,
+    const uint32_t *rings, size_t rings_len,
+    const uint32_t *ends, size_t ends_len,
+    const int32_t *counters, size_t counters_len,
+    uint32_t *buffers, size_t buffers_len,
+    uint32_t *executed, size_t executed_len,
+    uint32_t *run, size_t run_len,
+    yolluvek_row *rows, size_t rows_len,
+    size_t p, size_t k, uint32_t worker);
+
+yolluvek_step_reply yolluvek_preview_release(
     const uint32_t *weights, size_t weights_len,
     const uint32_t *pred_starts, size_t pred_starts_len,
     const uint32_t *preds, size_t preds_len,

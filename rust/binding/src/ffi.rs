@@ -10,7 +10,7 @@
 //!
 //! Each list is a vector, a field or a slice, which gives the first, the empty ones too. Those that a call writes are
 //! borrowed mutably, each from an owner of its own, which gives the second and, during a call, the third; between the
-//! calls of a run the lists are private to a `Job`, which lends them to these calls alone.
+//! calls of a run the lists are private to a `JobOf`, which lends them to these calls alone.
 
 use crate::ids::{TaskId, WorkerId};
 use crate::memory::{Entry, Memory, Row, Run};
@@ -346,3 +346,69 @@ run_calls! {
         worker: WorkerId,
     ) -> StepReply;
 }
+
+// The preview's calls: the engine's parameters and replies.
+run_calls! {
+    /// Begin by the preview, with P and K.
+    preview_begin = yolluvek_preview_begin(
+        succ_starts: mut, succs: mut, degrees: mut, rings: mut,
+        ends: mut, counters: mut, buffers: mut, executed: mut,
+    ) -> Reply;
+
+    /// Fetch by the preview, with P, K and the worker.
+    preview_fetch = yolluvek_preview_fetch(
+        succ_starts: const, succs: const, degrees: const, rings: const,
+        ends: mut, counters: mut, buffers: const, executed: const,
+        worker: WorkerId,
+    ) -> StepReply;
+
+    /// Start by the preview, with P, K and the worker.
+    preview_start = yolluvek_preview_start(
+        succ_starts: const, succs: const, degrees: const, rings: const,
+        ends: const, counters: const, buffers: const, executed: const,
+        worker: WorkerId,
+    ) -> StepReply;
+
+    /// Complete by the preview, with P, K and the worker.
+    preview_complete = yolluvek_preview_complete(
+        succ_starts: const, succs: const, degrees: const, rings: const,
+        ends: const, counters: const, buffers: mut, executed: mut,
+        worker: WorkerId,
+    ) -> StepReply;
+
+    /// Release by the preview, with P, K and the worker.
+    preview_release = yolluvek_preview_release(
+        succ_starts: const, succs: const, degrees: mut, rings: mut,
+        ends: mut, counters: mut, buffers: const, executed: const,
+        worker: WorkerId,
+    ) -> StepReply;
+}
+
+/// A step, with P, K and the worker.
+pub(crate) type StepCall = fn(&mut Memory, usize, usize, WorkerId) -> StepReply;
+
+/// Begin and the steps of one caller.
+#[derive(Clone, Copy)]
+pub(crate) struct Calls {
+    pub begin: fn(&mut Memory, usize, usize) -> Reply,
+    pub fetch: StepCall,
+    pub start: StepCall,
+    pub complete: StepCall,
+    pub release: StepCall,
+}
+
+pub(crate) const ENGINE: Calls = Calls {
+    begin,
+    fetch,
+    start,
+    complete,
+    release,
+};
+
+pub(crate) const PREVIEW: Calls = Calls {
+    begin: preview_begin,
+    fetch: preview_fetch,
+    start: preview_start,
+    complete: preview_complete,
+    release: preview_release,
+};

@@ -1,5 +1,6 @@
 //! A job: a task graph and the memory of its run.
 
+use crate::callers::{Caller, Engine, Planner};
 use crate::ffi;
 use crate::ids::{TaskId, WorkerId};
 use crate::memory::Memory;
@@ -8,6 +9,7 @@ use crate::reply::{self, Reply};
 use crate::step::{Call, Outcome, Released, Step};
 use crate::tables::Tables;
 use std::hash::{Hash, Hasher};
+use std::marker::PhantomData;
 
 /// Which neighbours of a task.
 #[derive(Clone, Copy, Debug, PartialEq, Eq, Hash)]
@@ -72,31 +74,81 @@ pub enum Side {
 /// The graph, the workers and the slots of a job stay as they are; for others, make another job, of
 /// [`into_tables`](Job::into_tables) perhaps. Two jobs are equal if all their memory is, whatever log they keep, so a
 /// copy made before a refused call equals the job after it.
+pub type Job = JobOf<Engine>;
+
+/// A job with smaller limits, for a planning window that has less memory: at most
+/// [128](crate::limits::PREVIEW_MAX_TASKS) tasks, [512](crate::limits::PREVIEW_MAX_EDGES) edges,
+/// [4](crate::limits::PREVIEW_MAX_WORKERS) workers and [8](crate::limits::PREVIEW_MAX_SLOTS) slots, and no memory for
+/// more than these.
+///
+/// It has all calls and views that a [`Job`] has ([`JobOf`] lists them) but the neighbour lookup. Within its limits every
+/// call is the job's own: the same answer, and the same words written. Beyond them begin and every step are refused with
+/// 2 before anything else, and the [`Limit`](crate::limits::Limit) names the preview's. Weights to 65,535, workers from 1
+/// and slots from 2 stay, as does the stack that a call uses, which is sized by the engine's limits.
+///
+/// ```
+/// use yolluvek::{Job, Preview, Refusal, Step};
+///
+/// // tasks 1 and 2 wait for task 0, and task 3 for both
+/// let text = b"2\n0 0 0\n1 5 1 0\n2 3 1 0\n3 0 2 1 2\n";
+/// let mut preview = Preview::from_text(text, 2, 4)?;
+/// preview.begin()?;
+/// while !preview.is_finished() {
+///     for worker in preview.worker_ids() {
+///         // a turn is the first of these that is accepted, or nothing
+///         let turn = [Step::Release, Step::Fetch, Step::Start, Step::Complete];
+///         turn.into_iter().find(|&step| preview.step(step, worker).is_ok());
+///     }
+/// }
+/// assert_eq!(preview.accepted(), 16);
+/// let record: Vec<(u32, u32)> = preview
+///     .record()
+///     .iter()
+///     .map(|entry| (entry.task.number(), entry.worker.number()))
+///     .collect();
+/// assert_eq!(record, [(0, 0), (2, 1), (1, 0), (3, 0)]);
+///
+/// // five workers are too many for a preview, and not for a job
+/// let mut preview = Preview::from_tables(preview.into_tables(), 5, 4);
+/// let refusal = preview.begin().unwrap_err();
+/// assert_eq!((refusal.number(), refusal.detail()), (2, 0));
+/// assert_eq!(
+///     refusal.to_string(),
+///     "the number of workers, 5, is beyond the preview's limit: 1 to 4"
+/// );
+/// let mut job = Job::from_tables(preview.into_tables(), 5, 4);
+/// job.begin()?;
+/// # Ok::<(), Refusal>(())
+/// ```
+pub type Preview = JobOf<Planner>;
+
+/// What a [`Job`] and a [`Preview`] share: a task graph with the memory of its run, and the calls of one caller on it.
 #[derive(Clone, Debug)]
-pub struct Job {
+pub struct JobOf<C: Caller> {
     pub(crate) memory: Memory,
     pub(crate) workers: usize,
     pub(crate) slots: usize,
     pub(crate) begun: bool,
     /// The calls of this run, where they are kept.
     log: Option<Vec<Call>>,
+    caller: PhantomData<C>,
 }
 
-impl PartialEq for Job {
-    fn eq(&self, other: &Job) -> bool {
+impl<C: Caller> PartialEq for JobOf<C> {
+    fn eq(&self, other: &JobOf<C>) -> bool {
         self.state() == other.state()
     }
 }
 
-impl Eq for Job {}
+impl<C: Caller> Eq for JobOf<C> {}
 
-impl Hash for Job {
+impl<C: Caller> Hash for JobOf<C> {
     fn hash<H: Hasher>(&self, to: &mut H) {
         self.state().hash(to);
     }
 }
 
-impl Job {
+impl<C: Caller> JobOf<C> {
     /// Reads a job from a text of the Standard Task Graph Set, for this number of workers and of slots in each ring.
     ///
     /// # Errors
@@ -115,9 +167,9 @@ impl Job {
     /// assert_eq!(refusal.to_string(), "the text ends before line 3");
     /// # Ok::<(), Refusal>(())
     /// ```
-    pub fn from_text(text: &[u8], workers: usize, slots: usize) -> Result<Job, Refusal> {
+    pub fn from_text(text: &[u8], workers: usize, slots: usize) -> Result<JobOf<C>, Refusal> {
         let tables = Tables::from_text(text)?;
-        Ok(Job::from_tables(tables, workers, slots))
+        Ok(JobOf::from_tables(tables, workers, slots))
     }
 
     /// Makes a job of tables, for this number of workers and of slots in each ring. Nothing is judged here; all of it is by
@@ -139,13 +191,14 @@ impl Job {
     /// let mut job = Job::from_tables(job.into_tables(), 3, 4);
     /// assert_eq!(job.begin(), Ok(()));
     /// ```
-    pub fn from_tables(tables: Tables, workers: usize, slots: usize) -> Job {
-        Job {
-            memory: Memory::sized(tables, workers, slots),
+    pub fn from_tables(tables: Tables, workers: usize, slots: usize) -> JobOf<C> {
+        JobOf {
+            memory: Memory::sized(tables, workers, slots, C::WHOSE),
             workers,
             slots,
             begun: false,
             log: None,
+            caller: PhantomData,
         }
     }
 
@@ -184,8 +237,9 @@ impl Job {
     /// assert_eq!(job.begin(), Ok(()));
     /// ```
     pub fn begin(&mut self) -> Result<(), Refusal> {
-        let reply = ffi::begin(&mut self.memory, self.workers, self.slots);
+        let reply = (C::WHOSE.calls().begin)(&mut self.memory, self.workers, self.slots);
         let asked = Asked::Begin {
+            whose: C::WHOSE,
             tables: &self.memory.tables,
             workers: self.workers,
             slots: self.slots,
@@ -328,14 +382,16 @@ impl Job {
 
     /// The library's reply to a step that it accepts.
     fn taken(&mut self, step: Step, worker: WorkerId) -> Result<Reply, Refusal> {
+        let calls = C::WHOSE.calls();
         let call = match step {
-            Step::Fetch => ffi::fetch,
-            Step::Start => ffi::start,
-            Step::Complete => ffi::complete,
-            Step::Release => ffi::release,
+            Step::Fetch => calls.fetch,
+            Step::Start => calls.start,
+            Step::Complete => calls.complete,
+            Step::Release => calls.release,
         };
         let words = call(&mut self.memory, self.workers, self.slots, worker);
         let asked = Asked::Step {
+            whose: C::WHOSE,
             step,
             tables: &self.memory.tables,
             workers: self.workers,
@@ -354,6 +410,25 @@ impl Job {
         })
     }
 
+    /// The neighbours of a task on one side.
+    pub(crate) fn neighbours(&self, side: Side, task: TaskId) -> Result<&[TaskId], Refusal> {
+        let (number, table) = match side {
+            Side::Predecessors => (0, &self.memory.tables.preds),
+            Side::Successors => (1, &self.memory.succs),
+        };
+        let judged = ffi::judge_lookup(&self.memory, number, task);
+        let asked = Asked::Lookup {
+            side,
+            tables: &self.memory.tables,
+            begun: self.begun,
+        };
+        asked.answered(judged.number, judged.detail)?;
+        reply::part_of(table, ffi::lookup(&self.memory, number, task))
+    }
+}
+
+/// The neighbour lookup, which a preview doesn't have.
+impl Job {
     /// The neighbour lookup: the predecessors of a task as the tables have them, or its successors rising, as that part
     /// of the table itself. Begin writes the successors.
     ///
@@ -375,23 +450,12 @@ impl Job {
     /// # Ok::<(), Refusal>(())
     /// ```
     pub fn lookup(&self, side: Side, task: TaskId) -> Result<&[TaskId], Refusal> {
-        let (number, table) = match side {
-            Side::Predecessors => (0, &self.memory.tables.preds),
-            Side::Successors => (1, &self.memory.succs),
-        };
-        let judged = ffi::judge_lookup(&self.memory, number, task);
-        let asked = Asked::Lookup {
-            side,
-            tables: &self.memory.tables,
-            begun: self.begun,
-        };
-        asked.answered(judged.number, judged.detail)?;
-        reply::part_of(table, ffi::lookup(&self.memory, number, task))
+        self.neighbours(side, task)
     }
 }
 
 /// The log of a run.
-impl Job {
+impl<C: Caller> JobOf<C> {
     /// Keeps a log from now on. A log starts at an accepted begin; switched on in the middle of a run, it starts at the
     /// next one.
     pub fn keep_log(&mut self) {
@@ -428,8 +492,8 @@ impl Job {
 
     /// Makes a job and these calls on it, one after the other; a call that is refused changes nothing. The job keeps its
     /// log.
-    pub fn replay(tables: Tables, workers: usize, slots: usize, calls: &[Call]) -> Job {
-        let mut job = Job::from_tables(tables, workers, slots);
+    pub fn replay(tables: Tables, workers: usize, slots: usize, calls: &[Call]) -> JobOf<C> {
+        let mut job = JobOf::from_tables(tables, workers, slots);
         job.keep_log();
         for &call in calls {
             // refused means untouched, so there is nothing to do about it

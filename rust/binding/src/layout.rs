@@ -1,6 +1,7 @@
 //! The declared layouts, held to the library: what it reads and writes in each word is what the field there says.
 
-use crate::ffi::{self, Part, ReadReply, Reply, StepReply, WriteReply};
+use crate::callers::Whose;
+use crate::ffi::{self, Calls, Part, ReadReply, Reply, StepReply, WriteReply};
 use crate::ids::{TaskId, WorkerId};
 use crate::memory::{Entry, Memory, Row, Run};
 use crate::tables::Tables;
@@ -17,25 +18,28 @@ fn diamond() -> Memory {
         pred_starts: vec![0, 0, 1, 2, 4],
         preds: [0, 0, 1, 2].map(TaskId::new).to_vec(),
     };
-    Memory::sized(tables, P, K)
+    Memory::sized(tables, P, K, Whose::Engine)
 }
 
-type Call = fn(&mut Memory, usize, usize, WorkerId) -> StepReply;
+/// Begin and the steps of the engine, and those of the preview, which are declared alike.
+const CALLERS: [Calls; 2] = [ffi::ENGINE, ffi::PREVIEW];
+
+type Call = ffi::StepCall;
 
 /// A step of worker 0.
 fn by_0(call: Call, memory: &mut Memory) -> StepReply {
     call(memory, P, K, WorkerId::new(0))
 }
 
-fn begun() -> Memory {
+fn begun(by: Calls) -> Memory {
     let mut memory = diamond();
-    assert_eq!(ffi::begin(&mut memory, P, K), Reply { number: 0, detail: 0 });
+    assert_eq!((by.begin)(&mut memory, P, K), Reply { number: 0, detail: 0 });
     memory
 }
 
 /// The diamond after these steps of worker 0.
-fn after(calls: &[Call]) -> Memory {
-    let mut memory = begun();
+fn after(by: Calls, calls: &[Call]) -> Memory {
+    let mut memory = begun(by);
     for &call in calls {
         assert_eq!(by_0(call, &mut memory).number, 0);
     }
@@ -107,26 +111,34 @@ fn sizes_and_places() {
 /// "Everything is zeroed […]; held tasks become NIL", in the row of every worker.
 #[test]
 fn begin_writes_each_row() {
+    CALLERS.into_iter().for_each(begin_writes_each_row_by);
+}
+
+fn begin_writes_each_row_by(by: Calls) {
     let mut memory = diamond();
     memory.rows.fill(row([7, 8, 9, 10, 11, 12]));
-    assert_eq!(ffi::begin(&mut memory, P, K).number, 0);
+    assert_eq!((by.begin)(&mut memory, P, K).number, 0);
     assert_eq!(memory.rows, [row([0, NIL, 0, 0, 0, 0]); P]);
 }
 
 /// Each step writes the fields that its rule names.
 #[test]
 fn steps_write_the_fields_of_a_row() {
+    CALLERS.into_iter().for_each(steps_write_the_fields_of_a_row_by);
+}
+
+fn steps_write_the_fields_of_a_row_by(by: Calls) {
     let other = row([0, NIL, 0, 0, 0, 0]);
-    let mut memory = begun();
+    let mut memory = begun(by);
     let steps: [(Call, [u32; 6]); 5] = [
         // the phase, the held task, and the pointer behind ring 0
-        (ffi::fetch, [1, 0, 1, 0, 0, 0]),
-        (ffi::start, [2, 0, 1, 0, 0, 0]),
+        (by.fetch, [1, 0, 1, 0, 0, 0]),
+        (by.start, [2, 0, 1, 0, 0, 0]),
         // the task joins the buffer
-        (ffi::complete, [0, NIL, 1, 0, 1, 0]),
+        (by.complete, [0, NIL, 1, 0, 1, 0]),
         // the cursor advances; after the second successor the read place does
-        (ffi::release, [0, NIL, 1, 0, 1, 1]),
-        (ffi::release, [0, NIL, 1, 1, 1, 0]),
+        (by.release, [0, NIL, 1, 0, 1, 1]),
+        (by.release, [0, NIL, 1, 1, 1, 0]),
     ];
     for (call, words) in steps {
         assert_eq!(by_0(call, &mut memory).number, 0);
@@ -137,6 +149,10 @@ fn steps_write_the_fields_of_a_row() {
 /// Of a row that one field is damaged in, a step is refused with 8 exactly if its rule reads that field.
 #[test]
 fn steps_read_the_fields_of_a_row() {
+    CALLERS.into_iter().for_each(steps_read_the_fields_of_a_row_by);
+}
+
+fn steps_read_the_fields_of_a_row_by(by: Calls) {
     let damages: [fn(&mut Row); 6] = [
         |row| row.phase = 3,
         |row| row.held = 4,
@@ -145,14 +161,18 @@ fn steps_read_the_fields_of_a_row() {
         |row| row.write = 5,
         |row| row.cursor = 2,
     ];
-    let [fetch, start, complete, release]: [Call; 4] = [ffi::fetch, ffi::start, ffi::complete, ffi::release];
+    let [fetch, start, complete, release]: [Call; 4] = [by.fetch, by.start, by.complete, by.release];
     let steps = [
-        (fetch, begun(), [true, false, true, false, false, false]),
-        (start, after(&[fetch]), [true, false, false, false, false, false]),
-        (complete, after(&[fetch, start]), [true, true, false, true, true, false]),
+        (fetch, begun(by), [true, false, true, false, false, false]),
+        (start, after(by, &[fetch]), [true, false, false, false, false, false]),
+        (
+            complete,
+            after(by, &[fetch, start]),
+            [true, true, false, true, true, false],
+        ),
         (
             release,
-            after(&[fetch, start, complete]),
+            after(by, &[fetch, start, complete]),
             [true, false, false, true, true, true],
         ),
     ];
@@ -187,24 +207,28 @@ fn step_reply(words: [u32; 5]) -> StepReply {
 /// Each field of a step's reply, told apart from the others by its value.
 #[test]
 fn replies_of_steps() {
-    let mut memory = begun();
-    let fetch = ffi::fetch(&mut memory, P, K, WorkerId::new(9));
+    CALLERS.into_iter().for_each(replies_of_steps_by);
+}
+
+fn replies_of_steps_by(by: Calls) {
+    let mut memory = begun(by);
+    let fetch = (by.fetch)(&mut memory, P, K, WorkerId::new(9));
     assert_eq!(fetch, step_reply([7, 9, 0, 0, 0]));
     // "Complete in phase 0"
-    assert_eq!(by_0(ffi::complete, &mut memory), step_reply([9, 0, 0, 0, 0]));
-    assert_eq!(by_0(ffi::fetch, &mut memory), step_reply([0, 0, 1, 0, 0]));
-    assert_eq!(by_0(ffi::start, &mut memory), step_reply([0, 0, 0, 0, 0]));
-    assert_eq!(by_0(ffi::release, &mut memory), step_reply([9, 2, 0, 0, 0]));
-    assert_eq!(by_0(ffi::complete, &mut memory), step_reply([0, 0, 0, 0, 0]));
-    assert_eq!(by_0(ffi::release, &mut memory), step_reply([0, 0, 3, 1, 0]));
-    assert_eq!(by_0(ffi::release, &mut memory), step_reply([0, 0, 3, 2, 1]));
-    let fetch = ffi::fetch(&mut memory, P, K, WorkerId::new(1));
+    assert_eq!(by_0(by.complete, &mut memory), step_reply([9, 0, 0, 0, 0]));
+    assert_eq!(by_0(by.fetch, &mut memory), step_reply([0, 0, 1, 0, 0]));
+    assert_eq!(by_0(by.start, &mut memory), step_reply([0, 0, 0, 0, 0]));
+    assert_eq!(by_0(by.release, &mut memory), step_reply([9, 2, 0, 0, 0]));
+    assert_eq!(by_0(by.complete, &mut memory), step_reply([0, 0, 0, 0, 0]));
+    assert_eq!(by_0(by.release, &mut memory), step_reply([0, 0, 3, 1, 0]));
+    assert_eq!(by_0(by.release, &mut memory), step_reply([0, 0, 3, 2, 1]));
+    let fetch = (by.fetch)(&mut memory, P, K, WorkerId::new(1));
     assert_eq!(fetch, step_reply([0, 0, 1, 2, 0]));
-    for call in [ffi::fetch, ffi::start, ffi::complete] {
+    for call in [by.fetch, by.start, by.complete] {
         assert_eq!(by_0(call, &mut memory).number, 0);
     }
     // task 3 still waits for task 2
-    assert_eq!(by_0(ffi::release, &mut memory), step_reply([0, 0, 2, 1, 0]));
+    assert_eq!(by_0(by.release, &mut memory), step_reply([0, 0, 2, 1, 0]));
     assert_eq!((memory.run.entries, memory.run.accepted), (2, 10));
     let entries = [(0, 0), (1, 0)].map(|(task, worker)| Entry {
         task: TaskId::new(task),
@@ -235,7 +259,7 @@ fn replies_of_the_other_calls() {
     let check = ffi::check_graph(3, 1, weights, starts, &cycle);
     assert_eq!(check, Reply { number: 2, detail: 0 });
 
-    let memory = begun();
+    let memory = begun(ffi::ENGINE);
     let judged = |side, task| ffi::judge_lookup(&memory, side, TaskId::new(task));
     let part = |side, task| ffi::lookup(&memory, side, TaskId::new(task));
     assert_eq!(judged(1, 0), Reply { number: 0, detail: 0 });

@@ -6,6 +6,8 @@
 //! is one step of one worker. `docs/RULE.md` says which worker a released task goes to, in words and with examples. For
 //! another scheduler the graph is saved as such a text again ([`Tables::to_text`]).
 //!
+//! A [`Preview`] is a job with smaller limits, for a planning window that has less memory.
+//!
 //! # Example
 //!
 //! The diamond: tasks 1 and 2 wait for task 0, and task 3 waits for both. Two workers, four slots in a ring. The
@@ -58,19 +60,21 @@
 //!   predecessors.
 //!
 //! Some of that is proved on the condition that nothing but the engine writes its memory. Here this holds by Rust's
-//! types: all that the engine writes is private to a [`Job`] and handed out by shared reference alone, and each call
+//! types: all that the engine writes is private to a job and handed out by shared reference alone, and each call
 //! that writes borrows the job mutably, so that calls come one after the other. To share a job among threads, put it
 //! behind a lock; `examples/threads.rs` does, and says which thread to wake when.
 //!
 //! # Linking
 //!
-//! The build script links the archives `libgraph_export.a`, `libstg_export.a` and `libengine_export.a` (x86-64 Linux),
-//! which `rt staticlib` writes to `target/staticlib` of the repository; the environment variable `YOLLUVEK_LIB` names
-//! another folder. A relative name counts from the folder that cargo is called in, or else from the nearest folder around
-//! this package that has it. A call allocates nothing and uses at most about 41 KB of stack.
+//! The build script links the archives `libgraph_export.a`, `libstg_export.a`, `libengine_export.a` and
+//! `libpreview_export.a` (x86-64 Linux), which `rt staticlib` writes to `target/staticlib` of the repository; the
+//! environment variable `YOLLUVEK_LIB` names another folder. A relative name counts from the folder that cargo is called
+//! in, or else from the nearest folder around this package that has it. A call allocates nothing and uses at most about
+//! 41 KB of stack.
 
 #![deny(missing_docs, unsafe_code)]
 
+mod callers;
 mod dummies;
 #[allow(unsafe_code)]
 mod ffi;
@@ -86,9 +90,10 @@ mod step;
 mod tables;
 mod views;
 
+pub use callers::{Caller, Engine, Planner};
 pub use dummies::Lack;
 pub use ids::{TaskId, WorkerId};
-pub use job::{Job, Side};
+pub use job::{Job, JobOf, Preview, Side};
 pub use memory::Entry;
 pub use refusal::Refusal;
 pub use step::{Call, NextRelease, Outcome, Phase, Released, Step};

@@ -1,5 +1,7 @@
-//! The limits of document 01. Beyond them a call is refused with 2; here they bound what is allocated, and are printed.
+//! The limits of document 01, and those of the preview. Beyond them a call is refused with 2; here they bound what is
+//! allocated, and are printed.
 
+use crate::callers::Whose;
 use crate::ids::TaskId;
 use crate::tables::Tables;
 use std::fmt;
@@ -27,6 +29,18 @@ pub const MAX_TEXT: usize = 65_536;
 
 /// Bytes that always suffice for the text of a graph: no call is refused for a longer one.
 pub const MAX_WRITTEN: usize = 57_349;
+
+/// Tasks of a [preview](crate::Preview)'s graph, at most.
+pub const PREVIEW_MAX_TASKS: usize = 128;
+
+/// Edges of a preview's graph, at most.
+pub const PREVIEW_MAX_EDGES: usize = 512;
+
+/// Workers of a preview, at most; at least 1.
+pub const PREVIEW_MAX_WORKERS: usize = 4;
+
+/// Slots of a preview's ring, at most; at least [`MIN_SLOTS`].
+pub const PREVIEW_MAX_SLOTS: usize = 8;
 
 /// Which limit a call goes beyond, where the job, the tables or the text show it; the first of several.
 #[derive(Clone, Copy, Debug, PartialEq, Eq, Hash)]
@@ -59,6 +73,26 @@ pub enum Limit {
         /// Its weight.
         weight: u32,
     },
+    /// By a preview: more than [`PREVIEW_MAX_TASKS`].
+    PreviewTasks {
+        /// How many there are.
+        tasks: usize,
+    },
+    /// By a preview: more than [`PREVIEW_MAX_EDGES`].
+    PreviewEdges {
+        /// How many there are.
+        edges: usize,
+    },
+    /// By a preview: none, or more than [`PREVIEW_MAX_WORKERS`].
+    PreviewWorkers {
+        /// How many were asked for.
+        workers: usize,
+    },
+    /// By a preview: less than [`MIN_SLOTS`] or more than [`PREVIEW_MAX_SLOTS`].
+    PreviewSlots {
+        /// How many were asked for.
+        slots: usize,
+    },
     /// A text of more than [`MAX_TEXT`] bytes.
     Text {
         /// How many it has.
@@ -79,20 +113,28 @@ impl Limit {
         }
     }
 
-    pub(crate) fn of_sizes(tables: &Tables) -> Option<Limit> {
+    pub(crate) fn of_sizes(tables: &Tables, whose: Whose) -> Option<Limit> {
         let (tasks, edges) = (tables.weights.len(), tables.preds.len());
-        if tasks > MAX_TASKS {
-            return Some(Limit::Tasks { tasks });
+        let (by_tasks, by_edges) = match whose {
+            Whose::Engine => (Limit::Tasks { tasks }, Limit::Edges { edges }),
+            Whose::Preview => (Limit::PreviewTasks { tasks }, Limit::PreviewEdges { edges }),
+        };
+        if tasks > whose.tasks() {
+            return Some(by_tasks);
         }
-        (edges > MAX_EDGES).then_some(Limit::Edges { edges })
+        (edges > whose.edges()).then_some(by_edges)
     }
 
-    pub(crate) fn of_numbers(workers: usize, slots: usize) -> Option<Limit> {
-        if !(1..=MAX_WORKERS).contains(&workers) {
-            return Some(Limit::Workers { workers });
+    pub(crate) fn of_numbers(workers: usize, slots: usize, whose: Whose) -> Option<Limit> {
+        let (by_workers, by_slots) = match whose {
+            Whose::Engine => (Limit::Workers { workers }, Limit::Slots { slots }),
+            Whose::Preview => (Limit::PreviewWorkers { workers }, Limit::PreviewSlots { slots }),
+        };
+        if !(1..=whose.workers()).contains(&workers) {
+            return Some(by_workers);
         }
-        let fits = (MIN_SLOTS..=MAX_SLOTS).contains(&slots);
-        (!fits).then_some(Limit::Slots { slots })
+        let fits = (MIN_SLOTS..=whose.slots()).contains(&slots);
+        (!fits).then_some(by_slots)
     }
 
     pub(crate) fn of_weights(tables: &Tables) -> Option<Limit> {
@@ -124,6 +166,30 @@ impl fmt::Display for Limit {
                 write!(
                     to,
                     "the weight of task {task}, {weight}, is beyond its limit: at most {MAX_WEIGHT}"
+                )
+            }
+            Limit::PreviewTasks { tasks } => {
+                write!(
+                    to,
+                    "{tasks} tasks are beyond the preview's limit: at most {PREVIEW_MAX_TASKS}"
+                )
+            }
+            Limit::PreviewEdges { edges } => {
+                write!(
+                    to,
+                    "{edges} edges are beyond the preview's limit: at most {PREVIEW_MAX_EDGES}"
+                )
+            }
+            Limit::PreviewWorkers { workers } => {
+                write!(
+                    to,
+                    "the number of workers, {workers}, is beyond the preview's limit: 1 to {PREVIEW_MAX_WORKERS}"
+                )
+            }
+            Limit::PreviewSlots { slots } => {
+                write!(
+                    to,
+                    "the number of slots, {slots}, is beyond the preview's limit: {MIN_SLOTS} to {PREVIEW_MAX_SLOTS}"
                 )
             }
             Limit::Text { bytes } => write!(to, "a text of {bytes} bytes is beyond the limit: at most {MAX_TEXT}"),

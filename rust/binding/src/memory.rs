@@ -1,7 +1,7 @@
 //! The lists that a job lends to the engine.
 
+use crate::callers::Whose;
 use crate::ids::{TaskId, WorkerId};
-use crate::limits::{MAX_EDGES, MAX_SLOTS, MAX_TASKS, MAX_WORKERS};
 use crate::tables::Tables;
 
 /// An entry of the record: a task, and the worker that completed it.
@@ -55,7 +55,7 @@ pub(crate) struct Memory {
 }
 
 impl Memory {
-    /// All lists with their stated lengths, where N, E, P and K are within their limits.
+    /// All lists with their stated lengths, where N, E, P and K are within the caller's limits.
     ///
     /// A number beyond its limit counts as the limit here, so that no product is large. Each call that judges lengths
     /// by that number judges the number first and answers 2.
@@ -63,11 +63,11 @@ impl Memory {
     /// Begin writes every word but the tables'. Before that the rows and the successor table hold words that no run
     /// has, so that a job which isn't begun can't be taken for one that is: a step that passes 2, 1 and 7 is refused with 8,
     /// a lookup of successors with 3.
-    pub fn sized(tables: Tables, workers: usize, slots: usize) -> Memory {
-        let n = tables.weights.len().min(MAX_TASKS);
-        let e = tables.preds.len().min(MAX_EDGES);
-        let p = workers.min(MAX_WORKERS);
-        let k = slots.min(MAX_SLOTS);
+    pub fn sized(tables: Tables, workers: usize, slots: usize, whose: Whose) -> Memory {
+        let n = tables.weights.len().min(whose.tasks());
+        let e = tables.preds.len().min(whose.edges());
+        let p = workers.min(whose.workers());
+        let k = slots.min(whose.slots());
         Memory {
             tables,
             succ_starts: vec![UNWRITTEN; n + 1],

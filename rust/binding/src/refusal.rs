@@ -1,5 +1,6 @@
 //! Why a call was refused.
 
+use crate::callers::Whose;
 use crate::dummies::Lack;
 use crate::ids::{TaskId, WorkerId};
 use crate::job::Side;
@@ -177,11 +178,13 @@ pub(crate) enum Asked<'a> {
         begun: bool,
     },
     Begin {
+        whose: Whose,
         tables: &'a Tables,
         workers: usize,
         slots: usize,
     },
     Step {
+        whose: Whose,
         step: Step,
         tables: &'a Tables,
         workers: usize,
@@ -233,15 +236,24 @@ impl Asked<'_> {
         let found = match self {
             Asked::Text { text } => Some(Limit::of_text(text)),
             Asked::Check { tables } | Asked::Save { tables } => {
-                Limit::of_sizes(tables).or_else(|| Limit::of_weights(tables))
+                Limit::of_sizes(tables, Whose::Engine).or_else(|| Limit::of_weights(tables))
             }
-            Asked::Lookup { tables, .. } => Limit::of_sizes(tables),
-            Asked::Begin { tables, workers, slots } => Limit::of_sizes(tables)
-                .or_else(|| Limit::of_numbers(workers, slots))
+            Asked::Lookup { tables, .. } => Limit::of_sizes(tables, Whose::Engine),
+            Asked::Begin {
+                whose,
+                tables,
+                workers,
+                slots,
+            } => Limit::of_sizes(tables, whose)
+                .or_else(|| Limit::of_numbers(workers, slots, whose))
                 .or_else(|| Limit::of_weights(tables)),
             Asked::Step {
-                tables, workers, slots, ..
-            } => Limit::of_sizes(tables).or_else(|| Limit::of_numbers(workers, slots)),
+                whose,
+                tables,
+                workers,
+                slots,
+                ..
+            } => Limit::of_sizes(tables, whose).or_else(|| Limit::of_numbers(workers, slots, whose)),
         };
         found.unwrap_or(Limit::Unknown)
     }
@@ -516,6 +528,20 @@ mod tests {
             .iter()
             .flat_map(|&step| [false, true].map(|begun| (step, begun)));
         let steps = steps.map(|(step, begun)| asked(tables, step, begun));
+        let by_preview = Asked::Step {
+            whose: Whose::Preview,
+            step: Step::Release,
+            tables,
+            workers,
+            slots,
+            begun: true,
+        };
+        let begins = [Whose::Engine, Whose::Preview].map(|whose| Asked::Begin {
+            whose,
+            tables,
+            workers,
+            slots,
+        });
         let sides = [
             (Side::Predecessors, false),
             (Side::Successors, false),
@@ -526,13 +552,14 @@ mod tests {
             Asked::Text { text },
             Asked::Check { tables },
             Asked::Save { tables },
-            Asked::Begin { tables, workers, slots },
+            by_preview,
         ];
-        steps.chain(lookups).chain(others).collect()
+        steps.chain(lookups).chain(begins).chain(others).collect()
     }
 
     fn asked(tables: &Tables, step: Step, begun: bool) -> Asked<'_> {
         Asked::Step {
+            whose: Whose::Engine,
             step,
             tables,
             workers: 2,

@@ -1,13 +1,14 @@
 //! What a job shows of itself.
 
+use crate::callers::Caller;
 use crate::ids::{TaskId, WorkerId};
-use crate::job::{Job, Side};
+use crate::job::{JobOf, Side};
 use crate::memory::{Entry, Row};
 use crate::step::{NextRelease, Phase};
 use crate::tables::Tables;
 
 /// Views, which change nothing.
-impl Job {
+impl<C: Caller> JobOf<C> {
     /// The number of tasks, N.
     pub fn tasks(&self) -> usize {
         self.memory.tables.weights.len()
@@ -169,7 +170,7 @@ impl Job {
     }
 
     /// The tasks that wait in the ring that one worker owns and another, or the same one, fills, oldest first. None if
-    /// there is no such worker or no accepted begin. The ring is full with [`slots`](Job::slots) − 1 tasks.
+    /// there is no such worker or no accepted begin. The ring is full with [`slots`](JobOf::slots) − 1 tasks.
     ///
     /// ```
     /// use yolluvek::{Job, Refusal, Tables, TaskId, WorkerId};
@@ -195,7 +196,7 @@ impl Job {
     }
 
     /// The counter of the ring that one worker owns and another, or the same one, fills. It may be below 0: a fetched
-    /// task's weight leaves the counter that its worker both owns and fills. The sum is right: see [`load`](Job::load).
+    /// task's weight leaves the counter that its worker both owns and fills. The sum is right: see [`load`](JobOf::load).
     /// None if there is no such worker or no accepted begin.
     ///
     /// ```
@@ -293,7 +294,7 @@ impl Job {
     /// ```
     pub fn next_release(&self, worker: WorkerId) -> Option<NextRelease> {
         let &task = self.buffer(worker)?.first()?;
-        let successors = self.lookup(Side::Successors, task).ok()?;
+        let successors = self.neighbours(Side::Successors, task).ok()?;
         let &successor = successors.get(self.row(worker)?.cursor as usize)?;
         Some(NextRelease {
             task,
@@ -325,7 +326,7 @@ impl Job {
     /// assert_eq!(job.words_differing(&before), 2);
     /// # Ok::<(), Refusal>(())
     /// ```
-    pub fn words_differing(&self, other: &Job) -> usize {
+    pub fn words_differing(&self, other: &JobOf<C>) -> usize {
         let (lists, others) = (self.memory.lists(), other.memory.lists());
         let pairs = lists.iter().zip(&others);
         pairs.map(|(list, other)| differing(list, other)).sum()

@@ -5,7 +5,11 @@ use std::collections::BTreeMap;
 use std::fs;
 use std::path::Path;
 
-const EXPORTS: [&str; 3] = ["graph_export", "stg_export", "engine_export"];
+const EXPORTS: [&str; 4] = ["graph_export", "stg_export", "engine_export", "preview_export"];
+
+/// Begin and the steps, by the engine and by the preview.
+const RUN_CALLS: [&str; 5] = ["begin", "fetch", "start", "complete", "release"];
+const CALLERS: [&str; 2] = ["yolluvek_", "yolluvek_preview_"];
 
 fn stored(file: &str) -> String {
     let path = Path::new(env!("CARGO_MANIFEST_DIR")).join("../..").join(file);
@@ -135,11 +139,21 @@ fn declared() -> Functions {
 #[test]
 fn the_functions_are_the_exports() {
     let (exported, declared) = (exported(), declared());
-    assert_eq!(exported.len(), 11);
+    assert_eq!(exported.len(), 16);
     let names = |functions: &Functions| functions.keys().cloned().collect::<Vec<_>>();
     assert_eq!(names(&declared), names(&exported));
     for (name, function) in &exported {
         assert_eq!(&declared[name], function, "{name}");
+    }
+}
+
+/// The preview's calls have the engine's parameters, `const` where theirs are, and the engine's replies.
+#[test]
+fn the_preview_is_declared_as_the_engine() {
+    let declared = declared();
+    for call in RUN_CALLS {
+        let [engine, preview] = CALLERS.map(|caller| &declared[&format!("{caller}{call}")]);
+        assert_eq!(preview, engine, "{call}");
     }
 }
 
@@ -149,8 +163,10 @@ fn the_rust_declarations_write_what_the_exports_do() {
     let exported = exported();
     for file in ["rust/binding/src/ffi.rs", "rust/src/proved_engine.rs"] {
         let stored = stored(file);
-        for step in ["begin", "fetch", "start", "complete", "release"] {
-            let name = format!("yolluvek_{step}");
+        let names = CALLERS
+            .iter()
+            .flat_map(|caller| RUN_CALLS.map(|call| format!("{caller}{call}")));
+        for name in names {
             let named = trimmed(between(&stored, &format!("{name}(\n"), ")"));
             let named: BTreeMap<&str, &str> = named.filter_map(|item| item.split_once(": ")).collect();
             let lists = exported[&name].0.iter().filter(|one| one.of.ends_with('*'));
@@ -221,6 +237,10 @@ fn the_limits_are_the_binding_s() {
     assert_eq!(defined("YOLLUVEK_MAX_WORKERS"), limits::MAX_WORKERS);
     assert_eq!(defined("YOLLUVEK_MIN_SLOTS"), limits::MIN_SLOTS);
     assert_eq!(defined("YOLLUVEK_MAX_SLOTS"), limits::MAX_SLOTS);
+    assert_eq!(defined("YOLLUVEK_PREVIEW_MAX_TASKS"), limits::PREVIEW_MAX_TASKS);
+    assert_eq!(defined("YOLLUVEK_PREVIEW_MAX_EDGES"), limits::PREVIEW_MAX_EDGES);
+    assert_eq!(defined("YOLLUVEK_PREVIEW_MAX_WORKERS"), limits::PREVIEW_MAX_WORKERS);
+    assert_eq!(defined("YOLLUVEK_PREVIEW_MAX_SLOTS"), limits::PREVIEW_MAX_SLOTS);
     assert_eq!(defined("YOLLUVEK_MAX_TEXT"), limits::MAX_TEXT);
     assert_eq!(defined("YOLLUVEK_MAX_WRITTEN"), limits::MAX_WRITTEN);
 }
