@@ -1,7 +1,8 @@
 //! The runs that the engines are measured on: a random graph in layers, from a fixed seed, and the accepted steps of one run;
-//! and the graphs that the writers are measured on.
+//! the run that the preview is measured on, at its limits; and the graphs that the writers are measured on.
 
 use crate::draw::Draw;
+use crate::engine::Limits;
 use crate::frames::LENT;
 use crate::memory::{Memory, Step};
 use crate::model::{word, Graph, Table};
@@ -22,10 +23,15 @@ const MAX_WEIGHT: usize = 65_535;
 /// What the lists hold before begin, which has to write over it.
 const FILL: u32 = 0xfeed_beef;
 
-/// The graph with that many tasks, above 16.
+/// The graph with that many tasks, above 16, and eight edges for each.
 fn graph(tasks: usize) -> Graph {
+    graph_of(tasks, EDGES_PER_TASK * tasks)
+}
+
+/// The graph with that many tasks, above 16, and edges.
+fn graph_of(tasks: usize, edges: usize) -> Graph {
     let mut draw = Draw::new(SEED);
-    let preds = Table::of(&layers(&mut draw, tasks));
+    let preds = Table::of(&layers(&mut draw, tasks, edges));
     let weights = (0..tasks).map(|_| word(draw.between(0, MAX_WEIGHT))).collect();
     Graph { weights, preds }
 }
@@ -34,6 +40,13 @@ fn graph(tasks: usize) -> Graph {
 pub fn memory(tasks: usize, workers: usize) -> Memory {
     let Graph { weights, preds } = graph(tasks);
     Memory::sized(weights, preds.starts, preds.words, workers, SLOTS, FILL)
+}
+
+/// The lent memory of a graph with N, E, P and K at the preview's limits, before begin.
+pub fn preview_memory() -> Memory {
+    let limits = Limits::PREVIEW;
+    let Graph { weights, preds } = graph_of(limits.tasks(), limits.edges());
+    Memory::sized(weights, preds.starts, preds.words, limits.workers, limits.slots, FILL)
 }
 
 /// The same graph with the dummies of a text: its first task has no predecessors, and the last one may have some.
@@ -65,7 +78,7 @@ pub fn saved_from(text: &[u8]) -> Graph {
 }
 
 /// Each task's predecessors: one from the layer before, the others from any layer before.
-fn layers(draw: &mut Draw, tasks: usize) -> Vec<Vec<u32>> {
+fn layers(draw: &mut Draw, tasks: usize, all: usize) -> Vec<Vec<u32>> {
     let first_of_layer = |task: usize| task - task % WIDTH;
     let mut lists: Vec<Vec<u32>> = vec![Vec::new(); tasks];
     for (task, list) in lists.iter_mut().enumerate().skip(WIDTH) {
@@ -73,7 +86,7 @@ fn layers(draw: &mut Draw, tasks: usize) -> Vec<Vec<u32>> {
         list.push(word(draw.between(first - WIDTH, first - 1)));
     }
     let mut edges = tasks - WIDTH;
-    while edges < EDGES_PER_TASK * tasks {
+    while edges < all {
         let task = draw.between(WIDTH, tasks - 1);
         let pred = word(draw.below(first_of_layer(task)));
         if !lists[task].contains(&pred) {
@@ -86,17 +99,17 @@ fn layers(draw: &mut Draw, tasks: usize) -> Vec<Vec<u32>> {
 
 /// The accepted steps of one run: turns go round the workers, and each takes the first accepted of Release, Fetch, Start,
 /// Complete, or nothing.
-pub fn accepted_steps(mut memory: Memory, workers: usize) -> Vec<(u32, Step)> {
+pub fn accepted_steps(mut memory: Memory, workers: usize, slots: usize) -> Vec<(u32, Step)> {
     let due = 3 * memory.n() + memory.e();
     let mut lent = Lent::of(&mut memory);
-    plain_engine::begin(&mut lent, workers, SLOTS).expect("the graph is sound and has few roots");
+    plain_engine::begin(&mut lent, workers, slots).expect("the graph is sound and has few roots");
     let mut steps = Vec::with_capacity(due);
     for worker in (0..word(workers)).cycle() {
         if steps.len() == due {
             break;
         }
         let mut order = [Step::Release, Step::Fetch, Step::Start, Step::Complete].into_iter();
-        let taken = order.find(|&step| plain_engine::step(&mut lent, workers, SLOTS, worker, step).is_ok());
+        let taken = order.find(|&step| plain_engine::step(&mut lent, workers, slots, worker, step).is_ok());
         steps.extend(taken.map(|step| (worker, step)));
     }
     steps
@@ -104,10 +117,17 @@ pub fn accepted_steps(mut memory: Memory, workers: usize) -> Vec<(u32, Step)> {
 
 /// The run as a list of calls: begin and the accepted steps.
 pub fn case(tasks: usize, workers: usize) -> Case {
-    let memory = memory(tasks, workers);
-    let (p, k) = (workers, SLOTS);
+    case_of(memory(tasks, workers), workers, SLOTS)
+}
+
+/// The preview's run as a list of calls.
+pub fn preview_case() -> Case {
+    case_of(preview_memory(), Limits::PREVIEW.workers, Limits::PREVIEW.slots)
+}
+
+fn case_of(memory: Memory, p: usize, k: usize) -> Case {
     let begin = Call::Begin { p, k };
-    let steps = accepted_steps(memory.clone(), workers).into_iter();
+    let steps = accepted_steps(memory.clone(), p, k).into_iter();
     let steps = steps.map(|(worker, step)| Call::Step { p, k, worker, step });
     let calls = std::iter::once(begin).chain(steps).collect();
     Case { memory, p, k, calls }

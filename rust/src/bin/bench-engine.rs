@@ -56,7 +56,7 @@ fn main() {
     let mut proved = memory(tasks, workers);
     let mut plain = proved.clone();
     let mut native = proved.clone();
-    let steps = accepted_steps(plain.clone(), workers);
+    let steps = accepted_steps(plain.clone(), workers, SLOTS);
 
     assert_eq!(proved_engine::begin(&mut Lent::of(&mut proved), workers, SLOTS), Ok(()));
     assert_eq!(plain_export::begin(&mut Lent::of(&mut plain), workers, SLOTS), Ok(()));

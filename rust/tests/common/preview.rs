@@ -1,8 +1,9 @@
 //! A preview beside the model and beside an engine, whatever preview and engine they are.
 
-use engine_model::beside::{compare_all, Side, ANSWERS, STEP_ANSWERS};
+use engine_model::beside::{compare, compare_all, Side, ANSWERS, STEP_ANSWERS};
 use engine_model::damages;
 use engine_model::engine::{Engine, Limits};
+use engine_model::measured;
 use engine_model::memory::Memory;
 use engine_model::mixed::{self, Both};
 use engine_model::model::{Answer, Refusal};
@@ -85,4 +86,16 @@ pub fn mixed_runs_of_one_graph(engines: &Both<Engine>, count: u64) {
         }
     }
     assert!(pairs >= count, "{pairs} pairs of runs");
+}
+
+/// The run that costs are compared on, N, E, P and K at the preview's limits: every call is accepted, by each caller.
+pub fn the_measured_run(sides: &Both<Side>) {
+    let case = measured::preview_case();
+    assert_eq!((case.memory.n(), case.memory.e(), case.p, case.k), (128, 512, 4, 8));
+    for side in [&sides.engine, &sides.preview] {
+        let counts = compare(&case, side, 0).unwrap_or_else(|parted| panic!("{parted}"));
+        // begin and the 3N + E steps
+        assert_eq!(counts[0], 1 + 3 * 128 + 512);
+        assert_eq!(counts[0], case.calls.len());
+    }
 }
