@@ -1,6 +1,9 @@
-//! The refused calls in short, for docs/REFUSALS.md: what each number means, and which calls can answer it.
+//! The refused calls in short, for docs/REFUSALS.md: what each number means, and which calls can answer it; and the limits of
+//! number 2, the engine's and the preview's.
 
+use crate::engine::{Limits, MIN_SLOTS};
 use crate::memory::Step;
+use crate::model::MAX_WEIGHT;
 use crate::pages::{table, Block};
 
 /// The calls that can be refused.
@@ -12,6 +15,7 @@ pub enum Caller {
     Check,
     /// The lookup, through its judging call.
     Lookup,
+    /// Begin and the steps, by the engine or by the preview.
     Begin,
     Fetch,
     Start,
@@ -96,10 +100,41 @@ const fn row(number: u32, meaning: &'static str, detail: &'static str, callers: 
 pub fn blocks() -> Vec<Block> {
     let head = ["No.", "Meaning", "Detail", "Answered by"].map(String::from);
     let rows: Vec<Vec<String>> = ROWS.iter().map(Row::cells).collect();
-    vec![Block {
+    let numbers = Block {
         name: "numbers",
         text: table(&head, &rows),
-    }]
+    };
+    vec![numbers, limits()]
+}
+
+/// What the engine takes, and what the preview takes.
+fn limits() -> Block {
+    let head = ["", "from", "engine to", "preview to"].map(String::from);
+    let (engine, preview) = (Limits::ENGINE, Limits::PREVIEW);
+    let weight = MAX_WEIGHT as usize;
+    let rows = [
+        ("N, the tasks", 0, engine.tasks(), preview.tasks()),
+        ("E, the edges", 0, engine.edges(), preview.edges()),
+        ("P, the workers", 1, engine.workers, preview.workers),
+        ("K, the slots of a ring", MIN_SLOTS, engine.slots, preview.slots),
+        ("a weight, at begin", 0, weight, weight),
+    ];
+    let cells = |(of, from, engine, preview): (&str, usize, usize, usize)| {
+        let numbers = [from, engine, preview].map(grouped);
+        [&[String::from(of)][..], &numbers].concat()
+    };
+    Block {
+        name: "limits",
+        text: table(&head, &rows.map(cells)),
+    }
+}
+
+/// A number below a million with its comma: 1,024.
+fn grouped(number: usize) -> String {
+    match number {
+        0..=999 => number.to_string(),
+        _ => format!("{},{:03}", number / 1_000, number % 1_000),
+    }
 }
 
 impl Row {

@@ -1,13 +1,13 @@
 //! docs/REFUSALS.md: the calls that it names for a number answer it, and no others do.
 
-use engine_model::engine::MODEL;
+use engine_model::engine::{Engine, Limits, MODEL, PREVIEW};
 use engine_model::exports::MAX_WRITTEN;
 use engine_model::frames;
 use engine_model::model::{check, link, Answer, Lent};
 use engine_model::pages;
 use engine_model::reader;
 use engine_model::refusals::{Caller, ROWS};
-use engine_model::runs::{next_case, Call, Case, Reply};
+use engine_model::runs::{next_case, next_case_within, Call, Case, Reply};
 use engine_model::text::{GraphTrial, LookupTrial, Trial};
 use engine_model::{saves, texts, trials, writer};
 use std::collections::BTreeSet;
@@ -56,11 +56,11 @@ fn check_graphs_and_look_up(answered: &mut Answered) {
 }
 
 /// Begin and the steps of these cases.
-fn run(answered: &mut Answered, cases: impl Iterator<Item = Case>) {
+fn run(engine: &Engine, answered: &mut Answered, cases: impl Iterator<Item = Case>) {
     for case in cases {
         let mut memory = case.memory;
         for call in case.calls {
-            match (call, call.make(&MODEL, &mut memory)) {
+            match (call, call.make(engine, &mut memory)) {
                 (Call::Begin { .. }, Reply::Begun(answer)) => note(answered, Caller::Begin, answer),
                 (Call::Step { step, .. }, Reply::Stepped(answer)) => note(answered, step.into(), answer.map(|_| ())),
                 _ => {}
@@ -99,10 +99,30 @@ fn the_calls_named_for_a_number_are_those_that_answer_it() {
     read_texts(&mut answered);
     save_graphs(&mut answered);
     check_graphs_and_look_up(&mut answered);
-    run(&mut answered, (0..1_600).map(next_case));
+    run(&MODEL, &mut answered, (0..1_600).map(next_case));
     let named = ROWS
         .iter()
         .flat_map(|row| row.callers.iter().map(|&caller| (row.number, caller)));
+    assert_eq!(answered, named.collect());
+}
+
+/// What is named for begin and the steps is named for the preview's too.
+#[test]
+fn the_preview_answers_what_begin_and_the_steps_do() {
+    let mut answered = Answered::new();
+    let cases = (0..1_600).map(|seed| next_case_within(Limits::PREVIEW, seed));
+    run(&PREVIEW, &mut answered, cases);
+    let named = ROWS
+        .iter()
+        .flat_map(|row| row.callers.iter().map(|&caller| (row.number, caller)));
+    let of_a_run = [
+        Caller::Begin,
+        Caller::Fetch,
+        Caller::Start,
+        Caller::Complete,
+        Caller::Release,
+    ];
+    let named = named.filter(|(_, caller)| of_a_run.contains(caller));
     assert_eq!(answered, named.collect());
 }
 
@@ -124,7 +144,7 @@ fn honest_runs_meet_neither_8_nor_12() {
         Case { calls, ..case }
     };
     let honest = (20_000..20_800).map(next_case).filter(Case::is_honest).filter(begun);
-    run(&mut answered, honest.map(from_begin).inspect(|_| cases += 1));
+    run(&MODEL, &mut answered, honest.map(from_begin).inspect(|_| cases += 1));
     assert!(cases >= 200, "{cases} cases");
     assert!(answered.iter().any(|&(number, _)| number == 11));
     assert!(
