@@ -163,11 +163,11 @@ fn lines(files: &[PathBuf]) -> usize {
 #[test]
 fn what_is_counted() {
     let counts = [
-        ("7,100 lines of code", 7_100, lines(&files("src", "rt"))),
-        ("5,700 lines of definitions", 5_700, lines(&files("specs", "antt"))),
-        ("40,500 lines of proof", 40_500, lines(&files("proofs", "antt"))),
-        ("about 235 wrong programs", 235, files("must-fail", "edit").len()),
-        ("about 65 crates", 65, entries(&file("crates")).len()),
+        ("7,400 lines of code", 7_400, lines(&files("src", "rt"))),
+        ("5,800 lines of definitions", 5_800, lines(&files("specs", "antt"))),
+        ("41,500 lines of proof", 41_500, lines(&files("proofs", "antt"))),
+        ("about 240 wrong programs", 240, files("must-fail", "edit").len()),
+        ("about 66 crates", 66, entries(&file("crates")).len()),
     ];
     let page = text(FRONT);
     for (told, about, counted) in counts {
