@@ -2,7 +2,9 @@
 #ifndef CHECK_H
 #define CHECK_H
 
+#include <stdint.h>
 #include <stdio.h>
+#include <stdlib.h>
 
 static int failures;
 
@@ -14,6 +16,16 @@ static inline void check(int holds, const char *fact, const char *file, int line
         failures++;
         printf("%s:%d: fails: %s\n", file, line, fact);
     }
+}
+
+static inline uint32_t *words_for(size_t words)
+{
+    uint32_t *block = (uint32_t *)malloc(words * sizeof *block);
+    if (block == NULL) {
+        printf("no memory\n");
+        exit(EXIT_FAILURE);
+    }
+    return block;
 }
 
 #endif

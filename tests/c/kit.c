@@ -45,16 +45,6 @@ static yolluvek_tables tables;
 
 /* ---- helpers ---- */
 
-static uint32_t *words_for(size_t words)
-{
-    uint32_t *block = (uint32_t *)malloc(words * sizeof *block);
-    if (block == NULL) {
-        printf("no memory\n");
-        exit(EXIT_FAILURE);
-    }
-    return block;
-}
-
 static uint32_t *copied(const yolluvek_job *job)
 {
     uint32_t *copy = words_for(job->words);

@@ -51,16 +51,6 @@ static const step_call turn[2][4] = {
 
 enum { ENGINE = 0, PREVIEW = 1 };
 
-static uint32_t *words_for(size_t words)
-{
-    uint32_t *block = (uint32_t *)malloc(words * sizeof *block);
-    if (block == NULL) {
-        printf("no memory\n");
-        exit(EXIT_FAILURE);
-    }
-    return block;
-}
-
 /* A job whose edges lead from near tasks to later ones, spread over all tasks; every weight is 1. */
 static yolluvek_job made(size_t n, size_t e, size_t p, size_t k)
 {

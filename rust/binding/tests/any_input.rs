@@ -1,9 +1,13 @@
 //! No input makes a call panic: odd texts, tables and numbers, each held to the model where that says what is answered.
 
+#[path = "common/odd.rs"]
+mod odd;
+
 use engine_model::frames::{texts, LENT};
 use engine_model::model::Graph;
 use engine_model::saves;
 use engine_model::{reader, texts as generator, writer};
+use odd::WORDS;
 use yolluvek::limits::{MAX_TEXT, MAX_WRITTEN};
 use yolluvek::{Job, Refusal, Side, Tables, TaskId, WorkerId};
 
@@ -21,7 +25,6 @@ const NUMBERS: [usize; 12] = [
     usize::MAX - 1,
     usize::MAX,
 ];
-const WORDS: [u32; 9] = [0, 1, 2, 3, 65_535, 65_536, 1 << 31, u32::MAX - 1, u32::MAX];
 
 /// Every call and view, with odd numbers, before and after begin; a refusal prints.
 fn make_every_call(job: &mut Job) {
@@ -170,27 +173,12 @@ fn stored_and_further_texts() {
 /// Few words in all places, lists of every short length, every pair of numbers.
 #[test]
 fn odd_tables() {
-    let lists = |longest: usize| -> Vec<Vec<u32>> {
-        let filled = (0..=longest).flat_map(|length| WORDS.map(|word| vec![word; length]));
-        filled.chain([vec![0, 1, 2], vec![0, 0, 1, 2], vec![2, 1, 0]]).collect()
-    };
-    let mut place = 0;
-    for weights in lists(2) {
-        for pred_starts in lists(3) {
-            for preds in lists(2) {
-                place += 1;
-                let tables = Tables {
-                    weights: weights.clone(),
-                    pred_starts: pred_starts.clone(),
-                    preds: preds.iter().copied().map(TaskId::new).collect(),
-                };
-                let (workers, slots) = (NUMBERS[place % NUMBERS.len()], NUMBERS[place / 7 % NUMBERS.len()]);
-                let judged = tables.check();
-                let mut job = Job::from_tables(tables, workers, slots);
-                make_every_call(&mut job);
-                assert!(judged.is_ok() || !job.is_begun());
-            }
-        }
+    for (place, tables) in odd::tables() {
+        let (workers, slots) = (NUMBERS[place % NUMBERS.len()], NUMBERS[place / 7 % NUMBERS.len()]);
+        let judged = tables.check();
+        let mut job = Job::from_tables(tables, workers, slots);
+        make_every_call(&mut job);
+        assert!(judged.is_ok() || !job.is_begun());
     }
 }
 

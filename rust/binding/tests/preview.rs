@@ -1,11 +1,15 @@
 //! A preview: each of its limits with the refusal and its words, beside a job's answer; any input; and drawn previews beside the
 //! model at the preview's limits and beside a job.
 
+#[path = "common/odd.rs"]
+mod odd;
+
 use engine_model::draw::Draw;
 use engine_model::engine::{self, Limits};
 use engine_model::memory::{Memory, ROW_WORDS};
 use engine_model::model::Graph;
 use engine_model::runs::graphs;
+use odd::WORDS;
 use yolluvek::limits::Limit;
 use yolluvek::{Job, Outcome, Preview, Refusal, Released, Step, Tables, TaskId, WorkerId};
 
@@ -174,7 +178,6 @@ fn no_memory_beyond_the_limits() {
 }
 
 const NUMBERS: [usize; 12] = [0, 1, 2, 4, 5, 8, 9, 16, 64, 1 << 32, usize::MAX - 1, usize::MAX];
-const WORDS: [u32; 9] = [0, 1, 2, 3, 65_535, 65_536, 1 << 31, u32::MAX - 1, u32::MAX];
 
 /// Every call and view, with odd numbers, before and after begin; a refusal prints.
 fn make_every_call(preview: &mut Preview) {
@@ -206,24 +209,9 @@ fn make_every_call(preview: &mut Preview) {
 /// No input makes a call panic: few words in all places, lists of every short length, odd numbers.
 #[test]
 fn any_input() {
-    let lists = |longest: usize| -> Vec<Vec<u32>> {
-        let filled = (0..=longest).flat_map(|length| WORDS.map(|word| vec![word; length]));
-        filled.chain([vec![0, 1, 2], vec![0, 0, 1, 2], vec![2, 1, 0]]).collect()
-    };
-    let mut place = 0;
-    for weights in lists(2) {
-        for pred_starts in lists(3) {
-            for preds in lists(2) {
-                place += 1;
-                let tables = Tables {
-                    weights: weights.clone(),
-                    pred_starts: pred_starts.clone(),
-                    preds: preds.into_iter().map(TaskId::new).collect(),
-                };
-                let (workers, slots) = (NUMBERS[place % NUMBERS.len()], NUMBERS[place / 7 % NUMBERS.len()]);
-                make_every_call(&mut Preview::from_tables(tables, workers, slots));
-            }
-        }
+    for (place, tables) in odd::tables() {
+        let (workers, slots) = (NUMBERS[place % NUMBERS.len()], NUMBERS[place / 7 % NUMBERS.len()]);
+        make_every_call(&mut Preview::from_tables(tables, workers, slots));
     }
     for text in [&b""[..], b"1022\n", b"0\n0 0 0\n1 0 1 0\n", b"2\n0 0 0\n"] {
         if let Ok(mut preview) = Preview::from_text(text, 4, 8) {
