@@ -1,18 +1,19 @@
 -- PROMISE: the preview's limits in one table, each answer beside the engine's.
-use Prim.Native.Nat.{ℕ, zero, suc, _+_, _-_, _<_}
+use Prim.Native.Nat.{ℕ, suc, _+_, _-_, _<_}
 use mathlib.Core.Path.{_≡_, refl, sym, ap, _∙_}
 use mathlib.Core.Bool.{true, _&&_}
 use mathlib.Core.Logic.{inl, inr}
 use mathlib.Core.List.{List, [], _∷_}
 use native.Mathlib.Omega.{arith}
 use native.Mathlib.Decide.{ℕ-discrete, decLe, decLt}
-use lib.ListN.{length, getD, take, replicate, length-replicate, getD-replicate}
-use lib.Seq.{drop-nil}
+use lib.ListN.{length, getD, replicate, length-replicate, getD-replicate}
+use lib.Seq.{take-nil, drop-nil}
 use Rattle.lists.specs.Decided.{firstBelow}
 use Rattle.lists.specs.Lists.{occ, occOf, joined, tabulate, allOf}
 use Rattle.lists.specs.Sums.{sumTo, sumToZ}
 use Rattle.lists.specs.Circles.{after, around}
 use Rattle.lists.proofs.Occurrences.{occ-nil}
+use Rattle.lists.proofs.Prefixes.{zeros}
 use Rattle.lists.proofs.Told.{neither, told-yes}
 use Rattle.task.specs.Types.{engine, preview, capped}
 use Rattle.task.specs.Phases.{nextPhase}
@@ -75,15 +76,6 @@ abbrev pub begunRoot : ℕ → ℕ → Mem
 begunRoot p k = fresh p k (root p k)
 
 -- Within the limits more than 28 such tasks are more than P·(K−1) roots: proved, as a search for cycles among 128 tasks can't be computed.
-zeros : (n t : ℕ) → _≡_ {A = ℕ} (getD (replicate n 0) t 0) 0
-zeros zero t = refl
-zeros (suc n) zero = refl
-zeros (suc n) (suc t) = zeros n t
-
-take-nil : (n : ℕ) → take {A = ℕ} n [] ≡ []
-take-nil zero = refl
-take-nil (suc n) = refl
-
 module _ (n : ℕ) where
   abbrev here : Graph
   here = graphIn (loose n)

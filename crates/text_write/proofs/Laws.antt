@@ -13,6 +13,7 @@ use lib.Seq.{drop-cons, drop-length, take-length}
 use Rattle.lists.specs.Sums.{sumTo, sumOf}
 use Rattle.lists.proofs.Prefixes.{take-more}
 use Rattle.lists.proofs.Sums.{sum-suc, sumOf-nil, sumOf-snoc}
+use Rattle.lists.proofs.Told.{and-true}
 use Rattle.task.specs.Types.{engine}
 use Rattle.task.specs.Refusals.{wrongLength, noDummies, answerSays}
 use Rattle.task.specs.declared.Answer.{Answer}
@@ -33,10 +34,6 @@ use Rattle.text_put.specs.Appending.{Appends}
 use Rattle.text_put.proofs.Laws.{nothing-put, appends-then}
 
 -- The dummies.
-first-true : (a b : Bool) → (a && b) ≡ true → a ≡ true
-first-true true b e = refl
-first-true false b e = e
-
 module _ (w s : List ℕ) where
   pub few-tasks : length w < 2 → false ≡ dummiesFit w s
   unfolding dummiesFit
@@ -48,7 +45,7 @@ module _ (w s : List ℕ) where
 
   pub two-tasks : {b : Bool} → b ≡ dummiesFit w s → not b ≡ false → 2 ≤ length w
   unfolding dummiesFit
-  two-tasks {b} e h = leb-true 2 (length w) (first-true (leb 2 (length w)) _ (sym e ∙ not-false b h))
+  two-tasks {b} e h = leb-true 2 (length w) (and-true (leb 2 (length w)) _ (sym e ∙ not-false b h) .0)
 
 -- The measures.
 pub no-lines : (w s : List ℕ) → _≡_ {A = ℕ} 0 (sumTo 0 (lineSize w s))
