@@ -1,7 +1,7 @@
 -- Laws over plain lists and numbers that the functions' proofs cite.
 use Prim.Native.Nat.{ℕ, suc, _+_, _-_, _*_, _≤_, _<_}
-use mathlib.Core.Path.{_≡_, sym, ap, _∙_}
-use mathlib.Core.List.{List, [], _∷_, _++_, append-assoc, append-nil}
+use mathlib.Core.Path.{_≡_, ap}
+use mathlib.Core.List.{List, [], _∷_}
 use native.Mathlib.Omega.{arith}
 use native.Mathlib.Nat.{sub-zero}
 use lib.ListN.{length, getD}
@@ -11,7 +11,7 @@ use Rattle.layout.proofs.Digits.{digits-few}
 use Rattle.desk_rule.specs.Printed.{pairLine}
 use Rattle.desk_rule.specs.Output.{entryLines}
 use Rattle.text_put.specs.Appending.{Appends}
-use Rattle.text_put.proofs.Laws.{nothing-put, appends-then}
+use Rattle.text_put.proofs.Laws.{appends-then, Underway, none-done, next-piece, all-done}
 
 -- a word has at most ten digits
 pub ten-digits : (n : ℕ) → n < 4294967296 → length (digitsOf n) ≤ 10
@@ -25,33 +25,24 @@ unfolding pairLine
 pair-put first second h k p s q e =
     (appends-then p (appends-then s (appends-then q e)), omega (arith, p .end, s .end, q .end, e .end, ten-digits first h, ten-digits second k))
 
--- The lines of the first x of n entries put; those of the others are to come.
-pub record Underway (at n : ℕ) (executed before : List ℕ) (x : ℕ) (out : List ℕ) (end : ℕ) : Type 0 where
-  pub done : List ℕ
-  pub put : Appends at done before out end
-  pub whole : entryLines executed n 0 ≡ done ++ entryLines executed (n - x) x
-
+-- The lines of n entries put, x of them done.
 module _ (at n : ℕ) (executed before : List ℕ) where
-  pub no-entries : Underway at n executed before 0 before at
-  no-entries = record { done = []; put = nothing-put at before; whole = rw (sub-zero n) }
+  abbrev pub EntriesPut : ℕ → List ℕ → ℕ → Type 0
+  EntriesPut = Underway (entryLines executed n 0) (λ x. entryLines executed (n - x) x) at before
 
-  module _ (x : ℕ) (out : List ℕ) (end : ℕ) (u : Underway at n executed before x out end) where
+  pub no-entries : EntriesPut 0 before at
+  no-entries = none-done _ (λ x. entryLines executed (n - x) x) at before (rw (sub-zero n))
+
+  module _ (x : ℕ) (out : List ℕ) (end : ℕ) (u : EntriesPut x out end) where
     pub next-entry : (t w : ℕ) (new : List ℕ) (r : ℕ) → x < n → t ≡ getD executed (2 * x) 0 → w ≡ getD executed (2 * x + 1) 0
-        → Appends end (pairLine t w) out new r → Underway at n executed before (x + 1) new r
+        → Appends end (pairLine t w) out new r → EntriesPut (x + 1) new r
     unfolding entryLines
-    next-entry t w new r h e f p =
+    next-entry t w new r h e f =
         let left : n - x ≡ suc (n - (x + 1)) = omega (arith, h) in
-        record {
-          done = u .done ++ pairLine t w;
-          put = appends-then (u .put) p;
-          whole =
-              u .whole
-              ∙ ap (λ (k : ℕ). u .done ++ entryLines executed k x) left
-              ∙ rw (← e, ← f) (sym (append-assoc (u .done) (pairLine t w) (entryLines executed (n - (x + 1)) (x + 1))));
-        }
+        next-piece _ _ _ _ _ _ _ u (pairLine t w) (x + 1) (rw (e, f) (ap (λ (k : ℕ). entryLines executed k x) left)) new r
 
     pub all-entries : n ≡ x → Appends at (entryLines executed n 0) before out end
     unfolding entryLines
     all-entries h =
         let none : n - x ≡ 0 = omega (arith, h) in
-        rw (rw (none, append-nil (u .done)) at (u .whole)) (u .put)
+        all-done _ _ _ _ _ _ _ u (ap (λ (k : ℕ). entryLines executed k x) none)

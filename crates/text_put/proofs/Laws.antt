@@ -36,6 +36,31 @@ appends-then {at} {mid} {end} {first} {second} {before} {between} p q =
       rest = q .rest ∙ drop-later mid end between before (omega (arith, q .end)) (p .rest);
     }
 
+-- A text put piece by piece: what is done, and the rest at a place of its making, which is to come.
+pub record Underway (text : List ℕ) (rest : ℕ → List ℕ) (at : ℕ) (before : List ℕ) (i : ℕ) (out : List ℕ) (end : ℕ) : Type 0 where
+  pub done : List ℕ
+  pub put : Appends at done before out end
+  pub whole : text ≡ done ++ rest i
+
+module _ (text : List ℕ) (rest : ℕ → List ℕ) (at : ℕ) (before : List ℕ) where
+  pub none-done : text ≡ rest 0 → Underway text rest at before 0 before at
+  none-done e = record { done = []; put = nothing-put at before; whole = e }
+
+  module _ (i : ℕ) (out : List ℕ) (end : ℕ) (u : Underway text rest at before i out end) where
+    module _ (piece : List ℕ) (j : ℕ) (e : rest i ≡ piece ++ rest j) where
+      piece-whole : text ≡ (u .done ++ piece) ++ rest j
+      piece-whole = u .whole ∙ ap (λ (l : List ℕ). u .done ++ l) e ∙ sym (append-assoc (u .done) piece (rest j))
+
+      pub piece-room : at + length text ≤ length before → end + length piece ≤ length out
+      piece-room room =
+          omega (arith, room, u .put .size, u .put .end, ap length piece-whole, length-append (u .done ++ piece) (rest j), length-append (u .done) piece)
+
+      pub next-piece : (new : List ℕ) (r : ℕ) → Appends end piece out new r → Underway text rest at before j new r
+      next-piece new r p = record { done = u .done ++ piece; put = appends-then (u .put) p; whole = piece-whole }
+
+    pub all-done : rest i ≡ [] → Appends at text before out end
+    all-done e = rw (rw (e, append-nil (u .done)) at (u .whole)) (u .put)
+
 -- The first i of some bytes put.
 module _ (at : ℕ) (bytes before : List ℕ) where
   pub no-bytes : Appends at (take 0 bytes) before before (at + 0)

@@ -2,7 +2,7 @@
 use Prim.Native.Nat.{ℕ, suc, _+_, _-_, _≤_, _<_}
 use mathlib.Core.Path.{_≡_, refl, sym, ap, _∙_}
 use mathlib.Core.Bool.{Bool, true, false, not, _&&_}
-use mathlib.Core.List.{List, [], _∷_, _++_, append-assoc, append-nil}
+use mathlib.Core.List.{List, [], _∷_, _++_, append-assoc}
 use native.Mathlib.Omega.{arith}
 use native.Mathlib.Nat.{sub-zero}
 use native.Mathlib.Numerals.{add-one}
@@ -31,7 +31,7 @@ use Rattle.layout.specs.Plain.{spaced, lineText, rowsText, tasksAt, textOf, lin
 use Rattle.layout.specs.Writer.{dummiesFit, writeAnswer, savedAs, writeText}
 use Rattle.layout.proofs.Sizes.{text-short}
 use Rattle.text_put.specs.Appending.{Appends}
-use Rattle.text_put.proofs.Laws.{nothing-put, appends-then}
+use Rattle.text_put.proofs.Laws.{appends-then, Underway, none-done, piece-room, next-piece, all-done}
 
 -- The dummies.
 module _ (w s : List ℕ) where
@@ -73,49 +73,31 @@ next-pred preds i e h k =
 pub all-preds : (preds : List ℕ) (i : ℕ) {size : ℕ} → size ≡ sumOf predSize (take i preds) → i ≡ length preds → size ≡ sumOf predSize preds
 all-preds preds i e h = e ∙ rw h (ap (sumOf predSize) (take-length preds))
 
--- Numbers put with a space before each: the first i of them; those of the others are to come.
-pub record Spacing (at : ℕ) (numbers before : List ℕ) (i : ℕ) (out : List ℕ) (end : ℕ) : Type 0 where
-  pub done : List ℕ
-  pub put : Appends at done before out end
-  pub whole : spaced numbers ≡ done ++ spaced (drop i numbers)
-
+-- Numbers put with a space before each, i of them done.
 module _ (at : ℕ) (numbers before : List ℕ) where
-  pub none-spaced : Spacing at numbers before 0 before at
-  none-spaced = record { done = []; put = nothing-put at before; whole = refl }
+  abbrev pub Spacing : ℕ → List ℕ → ℕ → Type 0
+  Spacing = Underway (spaced numbers) (λ k. spaced (drop k numbers)) at before
 
-  module _ (i : ℕ) (out : List ℕ) (end : ℕ) (u : Spacing at numbers before i out end) where
-    next-whole : i < length numbers → spaced numbers ≡ (u .done ++ (space ∷ digitsOf (getD numbers i 0))) ++ spaced (drop (i + 1) numbers)
+  pub none-spaced : Spacing 0 before at
+  none-spaced = none-done (spaced numbers) (λ k. spaced (drop k numbers)) at before refl
+
+  module _ (i : ℕ) (out : List ℕ) (end : ℕ) (u : Underway (spaced numbers) (λ k. spaced (drop k numbers)) at before i out end) where
+    due : i < length numbers → spaced (drop i numbers) ≡ (space ∷ digitsOf (getD numbers i 0)) ++ spaced (drop (i + 1) numbers)
     unfolding spaced
-    next-whole h =
-        let e : drop i numbers ≡ getD numbers i 0 ∷ drop (i + 1) numbers =
-        drop-cons numbers i 0 h ∙ ap (λ (k : ℕ). getD numbers i 0 ∷ drop k numbers) (sym (add-one i)) in
-        u .whole
-        ∙ ap (λ (l : List ℕ). u .done ++ spaced l) e
-        ∙ sym (append-assoc (u .done) (space ∷ digitsOf (getD numbers i 0)) (spaced (drop (i + 1) numbers)))
+    due h = ap spaced (drop-cons numbers i 0 h ∙ ap (λ (k : ℕ). getD numbers i 0 ∷ drop k numbers) (sym (add-one i)))
 
     pub space-room : i < length numbers → at + length (spaced numbers) ≤ length before
         → end + length (space ∷ digitsOf (getD numbers i 0)) ≤ length out
-    space-room h room =
-        omega (
-          arith,
-          room,
-          u .put .size,
-          u .put .end,
-          ap length (next-whole h),
-          length-append (u .done ++ (space ∷ digitsOf (getD numbers i 0))) (spaced (drop (i + 1) numbers)),
-          length-append (u .done) (space ∷ digitsOf (getD numbers i 0)),
-        )
+    space-room h = piece-room _ _ _ _ _ _ _ u (space ∷ digitsOf (getD numbers i 0)) (i + 1) (due h)
 
-    pub next-spaced : (new : List ℕ) (r : ℕ) → i < length numbers → Appends end (space ∷ digitsOf (getD numbers i 0)) out new r
-        → Spacing at numbers before (i + 1) new r
-    next-spaced new r h p =
-        record { done = u .done ++ (space ∷ digitsOf (getD numbers i 0)); put = appends-then (u .put) p; whole = next-whole h }
+    pub next-spaced : (new : List ℕ) (r : ℕ) → i < length numbers → Appends end (space ∷ digitsOf (getD numbers i 0)) out new r → Spacing (i + 1) new r
+    next-spaced new r h = next-piece _ _ _ _ _ _ _ u (space ∷ digitsOf (getD numbers i 0)) (i + 1) (due h) new r
 
     pub all-spaced : i ≡ length numbers → Appends at (spaced numbers) before out end
     unfolding spaced
     all-spaced h =
         let none : drop i numbers ≡ [] = rw h (drop-length numbers) in
-        rw (rw (none, append-nil (u .done)) at (u .whole)) (u .put)
+        all-done _ _ _ _ _ _ _ u (ap spaced none)
 
 -- A task's line: its number, its time, the count, the predecessors, LF.
 module _ (t time : ℕ) (preds : Numbers) where
@@ -161,53 +143,40 @@ module _ (t time : ℕ) (preds : Numbers) where
       → Appends ended (lf ∷ []) four after end → Appends at (lineText (taskRow t (task time preds))) before after end
   line-put n m c p e = rw (← line-parts) (appends-then n (appends-then m (appends-then c (appends-then p e))))
 
--- The lines of the first t tasks put; those of the others are to come.
-pub record Underway (at : ℕ) (w s p before : List ℕ) (t : ℕ) (out : List ℕ) (end : ℕ) : Type 0 where
-  pub done : List ℕ
-  pub put : Appends at done before out end
-  pub whole : rowsText (taskRows 0 (tasksAt (tables w s p) (length w) 0)) ≡ done ++ rowsText (taskRows t (tasksAt (tables w s p) (length w - t) t))
-
+-- The lines of the tasks put, t of them done.
 module _ (at : ℕ) (w s p before : List ℕ) where
-  pub no-tasks : Underway at w s p before 0 before at
-  no-tasks = record { done = []; put = nothing-put at before; whole = rw (sub-zero (length w)) }
+  abbrev pub linesFrom : ℕ → List ℕ
+  linesFrom t = rowsText (taskRows t (tasksAt (tables w s p) (length w - t) t))
 
-  module _ (t : ℕ) (out : List ℕ) (end : ℕ) (u : Underway at w s p before t out end) where
+  abbrev pub TasksPut : ℕ → List ℕ → ℕ → Type 0
+  TasksPut = Underway (rowsText (taskRows 0 (tasksAt (tables w s p) (length w) 0))) linesFrom at before
+
+  pub no-tasks : TasksPut 0 before at
+  no-tasks = none-done _ linesFrom at before (rw (sub-zero (length w)))
+
+  module _ (t : ℕ) (out : List ℕ) (end : ℕ) (u : TasksPut t out end) where
     abbrev lineAt : List ℕ
     lineAt = lineText (taskRow t (task (getD w t 0) (part s p t)))
 
-    abbrev later : List ℕ
-    later = rowsText (taskRows (t + 1) (tasksAt (tables w s p) (length w - (t + 1)) (t + 1)))
-
-    tasks-whole : t < length w → rowsText (taskRows 0 (tasksAt (tables w s p) (length w) 0)) ≡ (u .done ++ lineAt) ++ later
+    line-due : t < length w → linesFrom t ≡ lineAt ++ linesFrom (t + 1)
     unfolding rowsText tasksAt
-    tasks-whole h =
+    line-due h =
         let left : length w - t ≡ suc (length w - (t + 1)) = omega (arith, h) in
-        u .whole
-        ∙ ap (λ (k : ℕ). u .done ++ rowsText (taskRows t (tasksAt (tables w s p) k t))) left
-        ∙ ap (λ (k : ℕ). u .done ++ (lineAt ++ rowsText (taskRows k (tasksAt (tables w s p) (length w - (t + 1)) k)))) (sym (add-one t))
-        ∙ sym (append-assoc (u .done) lineAt later)
+        ap (λ (k : ℕ). rowsText (taskRows t (tasksAt (tables w s p) k t))) left
+        ∙ ap (λ (k : ℕ). lineAt ++ rowsText (taskRows k (tasksAt (tables w s p) (length w - (t + 1)) k))) (sym (add-one t))
 
     pub task-room : t < length w → at + length (rowsText (taskRows 0 (tasksAt (tables w s p) (length w) 0))) ≤ length before
         → end + length lineAt ≤ length out
-    task-room h room =
-        omega (
-          arith,
-          room,
-          u .put .size,
-          u .put .end,
-          ap length (tasks-whole h),
-          length-append (u .done ++ lineAt) later,
-          length-append (u .done) lineAt,
-        )
+    task-room h = piece-room _ _ _ _ _ _ _ u lineAt (t + 1) (line-due h)
 
-    pub next-task : (new : List ℕ) (r : ℕ) → t < length w → Appends end lineAt out new r → Underway at w s p before (t + 1) new r
-    next-task new r h q = record { done = u .done ++ lineAt; put = appends-then (u .put) q; whole = tasks-whole h }
+    pub next-task : (new : List ℕ) (r : ℕ) → t < length w → Appends end lineAt out new r → TasksPut (t + 1) new r
+    next-task new r h = next-piece _ _ _ _ _ _ _ u lineAt (t + 1) (line-due h) new r
 
     pub all-tasks : t ≡ length w → Appends at (rowsText (taskRows 0 (tasksAt (tables w s p) (length w) 0))) before out end
     unfolding rowsText tasksAt
     all-tasks h =
         let none : length w - t ≡ 0 = omega (arith, h) in
-        rw (rw (none, append-nil (u .done)) at (u .whole)) (u .put)
+        all-done _ _ _ _ _ _ _ u (ap (λ (k : ℕ). rowsText (taskRows t (tasksAt (tables w s p) k t))) none)
 
 -- The text: its first line, and the lines of its tasks.
 module _ (w s p : List ℕ) where

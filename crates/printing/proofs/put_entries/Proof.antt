@@ -1,12 +1,12 @@
 -- The lines of the first x entries are put, each of at most 22 bytes.
 use Prim.Native.Nat.{_+_, _-_, _*_, _≤_}
 use native.Mathlib.Omega.{arith}
-use Rattle.printing.proofs.Laws.{Underway, no-entries, next-entry, all-entries}
+use Rattle.printing.proofs.Laws.{EntriesPut, no-entries, next-entry, all-entries}
 use Rattle.printing.proofs.put_entries.Statement.{statement}
 use Rattle.printing.proofs.put_entries.Tie as tie
 
 abbrev Inv-loop : tie.InvT-loop
-Inv-loop out₀ at executed n end₀ x₀ out end x = (x ≤ n) × (end ≤ at + x * 22) × Underway at n executed out₀ x out end
+Inv-loop out₀ at executed n end₀ x₀ out end x = (x ≤ n) × (end ≤ at + x * 22) × EntriesPut at n executed out₀ x out end
 
 abbrev μ-loop : tie.MeasureT-loop
 μ-loop out₀ at executed n end₀ x₀ out end x = n - x

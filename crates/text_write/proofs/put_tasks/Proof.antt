@@ -5,12 +5,12 @@ use lib.ListN.{length}
 use Rattle.graph.specs.Graph.{part}
 use Rattle.graph.specs.Conditions.{Good}
 use Rattle.graph.proofs.Parts.{length-part}
-use Rattle.text_write.proofs.Laws.{Underway, no-tasks, task-room, next-task, all-tasks}
+use Rattle.text_write.proofs.Laws.{TasksPut, no-tasks, task-room, next-task, all-tasks}
 use Rattle.text_write.proofs.put_tasks.Statement.{statement}
 use Rattle.text_write.proofs.put_tasks.Tie as tie
 
 abbrev Inv-loop : tie.InvT-loop
-Inv-loop out₀ at weights starts preds end₀ t₀ out end t = (t ≤ length weights) × Underway at weights starts preds out₀ t out end
+Inv-loop out₀ at weights starts preds end₀ t₀ out end t = (t ≤ length weights) × TasksPut at weights starts preds out₀ t out end
 
 abbrev μ-loop : tie.MeasureT-loop
 μ-loop out₀ at weights starts preds end₀ t₀ out end t = length weights - t
