@@ -12,7 +12,7 @@ use Rattle.lists.proofs.Blocks.{length-tabulate, joined-only, occ-all}
 use Rattle.lists.proofs.Decided.{tally-le-one}
 use Rattle.lists.proofs.Occurrences.{occ-nil}
 use Rattle.lists.proofs.Told.{cond-either}
-use Rattle.lists.proofs.Sums.{sum-same}
+use Rattle.lists.proofs.Sums.{sum-same, sumOf-nil}
 use Rattle.task.specs.Refusals.{answerSays, accepted}
 use Rattle.task.specs.declared.Limits.{Limits}
 use Rattle.task.specs.declared.Row.{Row}
@@ -126,6 +126,7 @@ module _ (p k : ℕ) (m b : Mem) (positive : 0 < p) (sound : Sound (graphIn m)) 
         degree = λ t. ap (λ (l : List ℕ). getD l t 0) degrees-laid ∙ degree-read (graphIn m) sound t;
         done = ap tasksOf laid-record;
         steps = refl;
+        dues = rw laid-record (sumOf-nil (λ t. length (successorsOf (stateOf p k b) t)));
       }
 
 module _ (limits : Limits) (p k : ℕ) (m : Mem) (e : answerSays (begin limits p k m .answer) ≡ accepted) where

@@ -10,7 +10,7 @@ use Rattle.lists.specs.Lists.{occ, tabulate, allOf}
 use Rattle.lists.proofs.Blocks.{is-tabulate, length-all}
 use Rattle.lists.proofs.Decided.{stable, tally-yes, tally-pos}
 use Rattle.lists.proofs.Occurrences.{occ-hit}
-use Rattle.lists.proofs.Sums.{sum-prefix}
+use Rattle.lists.proofs.Sums.{sum-prefix, sumOf-same}
 use Rattle.task.specs.Types.{nil}
 use Rattle.task.specs.Rows.{Acceptance}
 use Rattle.task.specs.declared.Limits.{Limits}
@@ -18,6 +18,7 @@ use Rattle.task.specs.declared.Step.{Step}
 use Rattle.task.specs.declared.Step.the-variants.{Fetch, Start, Complete, Release}
 use Rattle.graph.specs.Graph.{Graph, Edge}
 use Rattle.graph.specs.Conditions.{Sound}
+use Rattle.graph.specs.Successors.{succsOf}
 use Rattle.graph.proofs.Accepted.{rank, rank-rises, fits-sound}
 use Rattle.graph.proofs.Parts.{edge-of, few-preds}
 use Rattle.graph.proofs.Reversed.{all-edges}
@@ -25,14 +26,15 @@ use Rattle.exchange.specs.Exchange.{Allows}
 use Rattle.exchange.specs.Pairs.{eachOnce}
 use Rattle.exchange.proofs.Theorem.{exchange-tasks}
 use Rattle.rules.specs.Memory.{Mem, tasks, edges, graphIn, degreeIn, rowIn, entriesIn, acceptedIn}
-use Rattle.algorithm1.specs.State.{State, threadOf, waitingFor}
+use Rattle.algorithm1.specs.State.{State, successorsOf, threadOf, waitingFor}
 use Rattle.algorithm1.specs.Reading.{recordIn, stateOf}
 use Rattle.algorithm1.proofs.Readings.{degree-at, phase-at}
 use Rattle.system.specs.Stages.{Hand, idle, running, inHand}
 use Rattle.system.specs.System as system
 use Rattle.system.specs.System.{Ready, toStart, toComplete, toFetch, toRelease}
-use Rattle.system.proofs.Counting.{held-few, below-all}
-use Rattle.system.proofs.Finished.{finished-record, finished-steps}
+use Rattle.system.proofs.Counting.{held-few}
+use Rattle.system.proofs.Finished.{finished-record}
+use Rattle.system.proofs.Plain.{Plain, plain-steps, plain-below}
 use Rattle.system.proofs.Progress.{progress, held-wanted, waiting-wanted, pending-blocked}
 use Rattle.runs.specs.Calls.{Run, KeptBy, memoryOf}
 use Rattle.runs.specs.Counters.{handOf}
@@ -73,6 +75,12 @@ module _ (r : Run) where
 
   pub invariant-run : system.Invariant ℕ-discrete (itemsOf graph) p (systemIn p k now)
   invariant-run = honest-run r .known .invariant
+
+  plain-run : Plain ℕ-discrete (itemsOf graph) p (systemIn p k now)
+  unfolding meaning
+  plain-run =
+      sumOf-same ℕ-discrete (λ t. length (successorsOf state t)) (λ t. length (succsOf graph t)) (systemIn p k now .stages .done)
+      (λ t h. ap length (honest-run r .sane .successors t))
 
   -- the tasks recorded, and the same from the lent words
   abbrev pub recorded : List ℕ
@@ -149,7 +157,7 @@ module _ (r : Run) where
     finished-count =
         omega (
           arith,
-          finished-steps ℕ-discrete (itemsOf graph) p (allOf (tasks now)) (all-listed graph) {s = systemIn p k now} invariant-run all-recorded,
+          plain-steps ℕ-discrete (itemsOf graph) p (allOf (tasks now)) (all-listed graph) {s = systemIn p k now} invariant-run plain-run all-recorded,
           length-all (tasks now),
           all-edges graph run-sound,
         )
@@ -164,7 +172,7 @@ module _ (r : Run) where
     low =
         omega (
           arith,
-          below-all ℕ-discrete (itemsOf graph) p (allOf (tasks now)) (all-listed graph) {s = systemIn p k now} invariant-run some-missing,
+          plain-below ℕ-discrete (itemsOf graph) p (allOf (tasks now)) (all-listed graph) {s = systemIn p k now} invariant-run plain-run some-missing,
           length-all (tasks now),
           all-edges graph run-sound,
         )

@@ -7,7 +7,7 @@ use native.Mathlib.Decide.{decLt}
 use lib.ListN.{length, drop}
 use Rattle.lists.specs.Decided.{tally}
 use Rattle.lists.specs.Lists.{occ}
-use Rattle.lists.specs.Sums.{sumTo}
+use Rattle.lists.specs.Sums.{sumTo, sumOf}
 use Rattle.lists.proofs.Blocks.{length-tabulate}
 use Rattle.lists.proofs.Squares.{Even, square-even}
 use Rattle.task.specs.Entries.{Entry}
@@ -37,7 +37,7 @@ unfoldable pub tasksOf : List Entry → List ℕ
 tasksOf [] = []
 tasksOf (e ∷ es) = e .task ∷ tasksOf es
 
--- with the number of steps accepted so far
+-- with the number of steps accepted so far; all successors of a recorded task have fallen due
 unfoldable pub meaning : ℕ → ℕ → State → system.State ℕ
 meaning p steps s =
     record {
@@ -45,6 +45,7 @@ meaning p steps s =
       pending = λ i. pendingOf s (threadOf s i);
       degree = degreeOf s;
       steps = steps;
+      dues = sumOf (λ t. length (successorsOf s t)) (tasksOf (s .executed));
     }
 
 -- P rows of P places, P threads

@@ -13,6 +13,7 @@ use Rattle.lists.specs.Squares.{withCell}
 use Rattle.lists.proofs.Prefixes.{occ-snoc, inside}
 use Rattle.lists.proofs.Occurrences.{occ-cons, occ-joined}
 use Rattle.lists.proofs.Squares.{Even, even-with}
+use Rattle.lists.proofs.Sums.{sumOf-snoc}
 use Rattle.task.specs.Types.{nil}
 use Rattle.task.specs.Entries.{entryOf}
 use Rattle.task.specs.declared.Step.{Step}
@@ -23,7 +24,8 @@ use Rattle.algorithm1.specs.State.{Thread, threadWith, State, degreeOf, success
 use Rattle.algorithm1.specs.Algorithm.{holding, executing, completed, Fetches, Starts, Completes, Passes, Lowers, Allocates, lowers, allocates, Lines, Does}
 use Rattle.algorithm1.proofs.Memories.{first-lt}
 use Rattle.system.specs.System as system
-use Rattle.runs.proofs.Invariant.{itemsOf, pendingOf, meaning, Buffered, Sane}
+use Rattle.system.proofs.Plain.{completes-all}
+use Rattle.runs.proofs.Invariant.{itemsOf, pendingOf, tasksOf, meaning, Buffered, Sane}
 use Rattle.runs.proofs.Hands.{hand-idle, hand-fetched, hand-running}
 use Rattle.runs.proofs.Waiting.{waiting-other, waiting-own}
 use Rattle.runs.proofs.Meaning.{tasks-snoc, pending-completed, buffered-completed, Goes, passes-goes, Acts, thread-each, hand-moves, hand-stays}
@@ -82,7 +84,7 @@ module _ (g : Graph) (p i : ℕ) (worker : i < p) (s s′ : State) (sane : Sane 
                       (hand-fetched (holding p (f .list) (f .task) (threadOf s i)) refl);
                   done = rw (f .after);
                 };
-            keeps = record { pending = pending-stays (fetch-acts worker (sane .shaped) f) refl; degree = λ a. rw (f .after); steps = refl };
+            keeps = record { pending = pending-stays (fetch-acts worker (sane .shaped) f) refl; degree = λ a. rw (f .after); steps = refl; dues = rw (f .after) };
           })
         where
           queues : s′ .queues ≡ withCell (s .queues) i (f .list) (f .rest)
@@ -110,14 +112,14 @@ module _ (g : Graph) (p i : ℕ) (worker : i < p) (s s′ : State) (sane : Sane 
                       (hand-running (executing (threadOf s i)) refl);
                   done = rw (f .after);
                 };
-            keeps = record { pending = pending-stays (start-acts worker (sane .shaped) f) refl; degree = λ a. rw (f .after); steps = refl };
+            keeps = record { pending = pending-stays (start-acts worker (sane .shaped) f) refl; degree = λ a. rw (f .after); steps = refl; dues = rw (f .after) };
           })
 
       complete-steps : Completes i s s′ o → Steps
       unfolding meaning waitingFor
       complete-steps f =
           system.complete i (threadOf s i .held)
-          (record {
+          (completes-all ℕ-discrete (itemsOf g) p (record {
             finishes =
                 record {
                   waiting = λ j. rw (f .after);
@@ -133,7 +135,12 @@ module _ (g : Graph) (p i : ℕ) (worker : i < p) (s s′ : State) (sane : Sane 
                 ∙ ap (λ (l : List ℕ). pendingOf s (threadOf s i) ++ l) (sane .successors (threadOf s i .held)));
             degree = λ x. rw (f .after);
             steps = refl;
-          })
+            dues = rw (f .after, tasks-snoc (s .executed) (entryOf (threadOf s i .held) i)) (omega (
+              arith,
+              sumOf-snoc (λ t. length (successorsOf s t)) (tasksOf (s .executed)) (threadOf s i .held),
+              ap length (sane .successors (threadOf s i .held)),
+            ));
+          }))
 
       -- d_T falls by one
       falls : (T left : ℕ) → s′ .degrees ≡ set (s .degrees) T (degreeOf s T - 1) → 1 ≤ degreeOf s T → degreeOf s T - 1 ≡ left
@@ -147,9 +154,11 @@ module _ (g : Graph) (p i : ℕ) (worker : i < p) (s s′ : State) (sane : Sane 
           }
 
       -- T's release is due no more
-      releases : {T : ℕ} {r : Thread} → Acts p i s s′ r → Passes i s T r → system.Releases ℕ-discrete (itemsOf g) p i T (meaning p n s) (meaning p (suc n) s′)
+      releases : {T : ℕ} {r : Thread} → Acts p i s s′ r → Passes i s T r → s′ .executed ≡ s .executed
+          → system.Releases ℕ-discrete (itemsOf g) p i T (meaning p n s) (meaning p (suc n) s′)
       unfolding meaning
-      releases {r = r} a f = record { rest = pendingOf s r; pending = pending-moves a (passes-goes f .pending) refl; steps = refl }
+      releases {r = r} a f e =
+          record { rest = pendingOf s r; pending = pending-moves a (passes-goes f .pending) refl; steps = refl; dues = rw (e, a .successors) }
 
       lower-steps : Lowers i s s′ o → Steps
       unfolding meaning waitingFor
@@ -162,7 +171,7 @@ module _ (g : Graph) (p i : ℕ) (worker : i < p) (s s′ : State) (sane : Sane 
                   hand = hand-stays (lower-acts worker (sane .shaped) f) (passes-goes (f .pass) .hand);
                   done = rw (f .after);
                 };
-            releases = releases (lower-acts worker (sane .shaped) f) (f .pass);
+            releases = releases (lower-acts worker (sane .shaped) f) (f .pass) (rw (f .after));
             left = degreeOf s (f .task) - 1;
             blocked = omega (arith, f .some);
             falls = falls (f .task) (degreeOf s (f .task) - 1) (rw (f .after)) (f .pass .waits) refl;
@@ -180,7 +189,7 @@ module _ (g : Graph) (p i : ℕ) (worker : i < p) (s s′ : State) (sane : Sane 
                   hand = hand-stays (allocate-acts worker (sane .shaped) f) (passes-goes (f .pass) .hand);
                   done = rw (f .after);
                 };
-            releases = releases (allocate-acts worker (sane .shaped) f) (f .pass);
+            releases = releases (allocate-acts worker (sane .shaped) f) (f .pass) (rw (f .after));
             falls = falls (f .task) 0 (rw (f .after)) (f .pass .waits) (f .zero);
           })
         where

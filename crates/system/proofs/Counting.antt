@@ -59,15 +59,15 @@ module _ {A : Type 0} (same : Discrete A) (G : Items A) (P : ℕ) (all : List A)
       )
 
   -- a run that isn't finished has made fewer steps than a finished one
-  pub below-all : {s : State A} → Invariant same G P s → length (s .stages .done) < length all
-      → s .steps < 3 * length all + sumOf (λ u. length (G .succs u)) all
-  below-all {s} v h =
+  pub below-all : {s : State A} → Invariant same G P s → length (s .stages .done) < length all → (most : ℕ) → s .dues ≤ most
+      → s .steps < 3 * length all + most
+  below-all {s} v h most few =
       omega (
         arith,
         h,
         v .count,
         held-few v,
-        weight-within (λ u. length (G .succs u)) v,
+        few,
         sum-le P (λ i. phase (s .stages .hand i)) (λ i. 2 * length (inHand (s .stages .hand i))) (λ i l. phase-le (s .stages .hand i)),
         sum-twice P (λ i. length (inHand (s .stages .hand i))),
       )

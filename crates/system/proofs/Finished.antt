@@ -5,9 +5,8 @@ use mathlib.Core.List.{List, []}
 use native.Mathlib.Omega.{arith}
 use lib.ListN.{length}
 use Rattle.lists.specs.Lists.{occOf}
-use Rattle.lists.specs.Sums.{sumOf}
 use Rattle.lists.proofs.Occurrences.{occ-hit, occ-none}
-use Rattle.lists.proofs.Sums.{sum-zero, sum-prefix, sumOf-both, occ-full}
+use Rattle.lists.proofs.Sums.{sum-zero, sum-prefix, occ-full}
 use Rattle.system.specs.Stages.{Hand, idle, fetched, running, inHand, phase, places}
 use Rattle.system.specs.System.{Items, State, Invariant}
 
@@ -41,7 +40,7 @@ module _ {A : Type 0} (same : Discrete A) (G : Items A) (P : ℕ) (all : List A)
   finished-pending i h =
       occ-none same (s .pending i) (λ a. omega (arith, v .degree a, finished-degree a, sum-prefix P (λ j. occOf same a (s .pending j)) i h))
 
-  pub finished-steps : s .steps ≡ 3 * length all + sumOf (λ u. length (G .succs u)) all
+  pub finished-steps : s .steps ≡ 3 * length all + s .dues
   finished-steps =
       omega (
         arith,
@@ -49,5 +48,4 @@ module _ {A : Type 0} (same : Discrete A) (G : Items A) (P : ℕ) (all : List A)
         full,
         sum-zero P (λ i. length (s .pending i)) (λ i h. rw (finished-pending i h)),
         sum-zero P (λ i. phase (s .stages .hand i)) (λ i h. rw (finished-hand i h)),
-        sumOf-both same (λ u. length (G .succs u)) (s .stages .done) all (λ a. omega (arith, finished-record a, each a)),
       )

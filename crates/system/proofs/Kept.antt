@@ -3,14 +3,15 @@ use Prim.Native.Nat.{ℕ, suc, _+_, _<_, min}
 use mathlib.Core.Path.{_≡_, refl}
 use mathlib.Core.List.{[], _∷_, _++_}
 use native.Mathlib.Omega.{arith}
+use native.Mathlib.Decide.{decLt}
 use lib.ListN.{length, length-append}
 use Rattle.lists.specs.Lists.{occOf, placeOf}
-use Rattle.lists.specs.Sums.{sumTo, sumOf}
+use Rattle.lists.specs.Sums.{sumTo}
 use Rattle.lists.proofs.Occurrences.{occ-hit, occ-miss, occ-append}
-use Rattle.lists.proofs.Sums.{sum-zero, sum-kept, sumOf-single, sumOf-append}
+use Rattle.lists.proofs.Sums.{sum-zero, sum-kept}
 use Rattle.lists.proofs.Positions.{place-member, place-left, place-right}
 use Rattle.lists.proofs.Decided.{tally-yes, tally-no}
-use Rattle.system.specs.Stages.{inHand, phase, places}
+use Rattle.system.specs.Stages.{inHand, phase, Stages, places, Finishes}
 use Rattle.system.specs.System.{Items, Reversed, State, missing, Invariant, Keeps, Fetches, Starts, Completes, Falls, Releases, Lowers, Places, Step, fetch, start, complete, lower, place, Begins}
 use Rattle.system.proofs.Stages.{sum-replaced, enters-places, takes-places, runs-places, finishes-places, stays-places}
 use Rattle.system.proofs.Records.{missing-nil, missing-snoc, missing-none}
@@ -25,7 +26,7 @@ module _ {A : Type 0} (same : Discrete A) (G : Items A) (P : ℕ) where
     stage = λ x. rw (p x, k .degree x) (v .stage x);
     degree = λ x. rw (d, k .degree x) (omega (arith, v .degree x, sum-kept (occOf same x) P (k .pending)));
     order = λ u x. rw d (v .order u x);
-    count = rw d (omega (arith, v .count, k .steps, h, sum-kept length P (k .pending)));
+    count = rw d (omega (arith, v .count, k .steps, k .dues, h, sum-kept length P (k .pending)));
   }
 
   fetch-keeps : {i : ℕ} {a : A} {s s′ : State A} → Fetches same G P i a s s′ → Invariant same G P s → Invariant same G P s′
@@ -43,7 +44,7 @@ module _ {A : Type 0} (same : Discrete A) (G : Items A) (P : ℕ) where
     stage = λ y. omega (arith, g y, v .stage y);
     degree = λ y. go y (same y x);
     order = λ u y. rw d (v .order u y);
-    count = rw d (omega (arith, v .count, p .steps, sum-kept phase P h, sum-replaced length (p .pending)));
+    count = rw d (omega (arith, v .count, p .steps, p .dues, sum-kept phase P h, sum-replaced length (p .pending)));
   }
     where
       go : (y : A) → Dec (y ≡ x) → s′ .degree y ≡ missing same (G .preds y) (s′ .stages .done) + sumTo P (λ j. occOf same y (s′ .pending j))
@@ -65,16 +66,29 @@ module _ {A : Type 0} (same : Discrete A) (G : Items A) (P : ℕ) where
       go y (no m) = omega (arith, enters-places same P (f .enters) y, tally-no (same y x) m, f .falls .others y m)
 
   module _ (laws : Reversed same G) where
+    -- an item that completes was in a hand, so it is an item of the job, neither recorded nor blocked
+    pub running-fresh : {i : ℕ} {a : A} {s : State A} {after : Stages A} → Finishes same P i a (s .stages) after → Invariant same G P s
+        → (G .want a ≡ 1) × (occOf same a (s .stages .done) ≡ 0) × (missing same (G .preds a) (s .stages .done) ≡ 0)
+    unfolding places
+    running-fresh {i} {a} {s} f v = (
+      omega (arith, held, v .stage a, laws .one a),
+      omega (arith, held, v .stage a, laws .one a),
+      omega (arith, held, v .stage a, v .degree a, laws .one a),
+    )
+      where
+        held : 0 < sumTo P (λ j. occOf same a (inHand (s .stages .hand j)))
+        held = omega (arith, sum-replaced (λ r. occOf same a (inHand r)) (f .hand), occ-hit same a a [] refl)
+
     complete-keeps : {i : ℕ} {a : A} {s s′ : State A} → Completes same G P i a s s′ → Invariant same G P s → Invariant same G P s′
     unfolding places occOf
     complete-keeps {i} {a} {s} {s′} f v = record {
-      stage = λ x. rw (finishes-places same P (f .finishes) x, f .degree x) (v .stage x);
+      stage = λ x. omega (arith, finishes-places same P (f .finishes) x, as-blocked x, v .stage x);
       degree = λ x. rw (f .finishes .done) (omega (
         arith,
         v .degree x,
         f .degree x,
         sum-replaced (occOf same x) (f .pending),
-        occ-append same x (f .old) (G .succs a),
+        occ-append same x (f .old) (f .due),
         laws .reverse a x,
         missing-snoc same (G .preds x) (s .stages .done) a fresh,
       ));
@@ -85,19 +99,25 @@ module _ {A : Type 0} (same : Discrete A) (G : Items A) (P : ℕ) where
         f .steps,
         sum-replaced phase (f .finishes .hand),
         sum-replaced length (f .pending),
-        length-append (f .old) (G .succs a),
+        length-append (f .old) (f .due),
         length-append (s .stages .done) (a ∷ []),
-        sumOf-append (λ u. length (G .succs u)) (s .stages .done) (a ∷ []),
-        sumOf-single (λ u. length (G .succs u)) a,
+        f .dues,
       ));
     }
       where
-        -- the item is in a hand, so it is neither recorded nor blocked
+        -- what was blocked stays so, and no degree rises
+        as-blocked : (x : A) → min 1 (s′ .degree x) ≡ min 1 (s .degree x)
+        as-blocked x = go (decLt 0 (s .degree x))
+          where
+            go : Dec (0 < s .degree x) → min 1 (s′ .degree x) ≡ min 1 (s .degree x)
+            go (yes h) = omega (arith, h, f .blocked x h)
+            go (no n) = omega (arith, n, f .degree x, f .within x)
+
         fresh : occOf same a (s .stages .done) ≡ 0
-        fresh = omega (arith, v .stage a, laws .one a, sum-replaced (λ r. occOf same a (inHand r)) (f .finishes .hand), occ-hit same a a [] refl)
+        fresh = running-fresh (f .finishes) v .1
 
         ready : missing same (G .preds a) (s .stages .done) ≡ 0
-        ready = omega (arith, v .stage a, v .degree a, laws .one a, sum-replaced (λ r. occOf same a (inHand r)) (f .finishes .hand), occ-hit same a a [] refl)
+        ready = running-fresh (f .finishes) v .2
 
         after : (u x : A) → 0 < occOf same u (G .preds x) → 0 < occOf same x (s .stages .done ++ (a ∷ [])) → Dec (x ≡ a)
             → placeOf same u (s .stages .done ++ (a ∷ [])) < placeOf same x (s .stages .done ++ (a ∷ []))
@@ -119,12 +139,12 @@ module _ {A : Type 0} (same : Discrete A) (G : Items A) (P : ℕ) where
     step-keeps (place i o x f) = place-keeps f
 
   pub begins-keeps : {s : State A} → Begins same G P s → Invariant same G P s
-  unfolding places occOf sumOf
+  unfolding places occOf
   begins-keeps {s} b = record {
     stage = λ a. rw (b .done, b .degree a) (omega (arith, b .waiting a, sum-zero P (λ i. occOf same a (inHand (s .stages .hand i))) (λ i l. rw (b .hand i))));
     degree = λ a. rw (b .done, b .degree a) (omega (arith, missing-nil same (G .preds a), sum-zero P (λ i. occOf same a (s .pending i)) (λ i l. rw (b .pending i))));
     order = λ u a h m. absurd (omega (arith, rw (b .done) at m));
-    count = rw (b .done, b .steps) (omega (
+    count = rw (b .done, b .steps, b .dues) (omega (
       arith,
       sum-zero P (λ i. length (s .pending i)) (λ i l. rw (b .pending i)),
       sum-zero P (λ i. phase (s .stages .hand i)) (λ i l. rw (b .hand i)),

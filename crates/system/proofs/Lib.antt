@@ -4,3 +4,5 @@ pub mod Kept
 pub mod Counting
 pub mod Finished
 pub mod Progress
+pub mod Rules
+pub mod Plain

@@ -132,7 +132,7 @@ module _ {A : Type 0} (same : Discrete A) (G : Items A) where
     step-degree : {s s′ : State A} → Step same G P s s′ → (a : A) → s′ .degree a ≤ s .degree a
     step-degree (fetch i b f) a = omega (arith, f .keeps .degree a)
     step-degree (start i b f) a = omega (arith, f .keeps .degree a)
-    step-degree (complete i b f) a = omega (arith, f .degree a)
+    step-degree (complete i b f) a = omega (arith, f .degree a, f .within a)
     step-degree (lower i x f) a = falls-degree (f .falls) a
     step-degree (place i o x f) a = falls-degree (f .falls) a
 
