@@ -1,6 +1,6 @@
 -- The plain job, in which all successors of an item fall due as it completes: its Complete, and how many steps its runs have.
 use Prim.Native.Nat.{ℕ, _+_, _*_, _<_}
-use mathlib.Core.Path.{_≡_, refl}
+use mathlib.Core.Path.{_≡_}
 use mathlib.Core.List.{List}
 use native.Mathlib.Omega.{arith}
 use lib.ListN.{length}

@@ -1,0 +1,4 @@
+pub mod Examples
+pub mod Copies
+pub mod Weak
+pub mod Runs
