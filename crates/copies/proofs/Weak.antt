@@ -19,7 +19,7 @@ use Rattle.graph.proofs.Reversed.{length-succWords}
 use Rattle.system.specs.System.{State, missing, Invariant, Completes}
 use Rattle.system.proofs.Kept.{running-fresh}
 use Rattle.system.proofs.Records.{missing-nil, missing-snoc, missing-find}
-use Rattle.copies.specs.Copies.{Copy, copy, sameCopy, taskCopies, nextCopies, isCopy, ifAny, copiesOf, NoneTwice}
+use Rattle.copies.specs.Copies.{Copy, copy, sameCopy, taskCopies, nextCopies, isCopy, copiesOf, NoneTwice}
 use Rattle.copies.specs.Weak.{allRecorded, lastDue, owed, CompletesCopy}
 use Rattle.copies.proofs.Copies.{ifAny-some, copies-other, copies-among, some-copies, copy-task, preds-are, copies-reversed}
 
@@ -70,6 +70,16 @@ module _ (g : Graph) where
   due-early done c n =
       ap (λ (b : Bool). cond b (copiesOf g .succs c) []) (no-holds (ℕ-discrete (missing sameCopy (taskCopies g (c .task)) (done ++ (c ∷ []))) 0) n)
 
+  share-due : (done : List Copy) (c : Copy) → isCopy g c ≡ 1 → length (lastDue g done c) ≡ share (done ++ (c ∷ [])) (c .task)
+  unfolding share lastDue copiesOf nextCopies
+  share-due done c e =
+      length-cond last (copiesOf g .succs c)
+      ∙ ap (λ (l : List Copy). cond last (length l) 0) (ifAny-some (isCopy g c) (nextCopies g (c .task)) (omega (arith, e)))
+      ∙ ap (λ (n : ℕ). cond last n 0) (length-map (succsOf g (c .task)) (λ x. copy x (c .task)))
+    where
+      last : Bool
+      last = allRecorded g (done ++ (c ∷ [])) (c .task)
+
   module _ (sound : Sound g) where
     -- every task has a copy, so none is complete at first
     pub owed-nil : owed g [] ≡ 0
@@ -79,15 +89,13 @@ module _ (g : Graph) where
 
     pub owed-more : (done : List Copy) (c : Copy) → isCopy g c ≡ 1 → occOf sameCopy c done ≡ 0
         → owed g (done ++ (c ∷ [])) ≡ length (lastDue g done c) + owed g done
-    unfolding owed share lastDue copiesOf nextCopies
+    unfolding owed share
     owed-more done c e fresh =
         omega (
           arith,
           sum-at (g .tasks) (share done) (share (done ++ (c ∷ []))) (c .task) (copy-task g sound c (omega (arith, e))) (share-other done c fresh),
           share-none done (c .task) (omega (arith, missing-less done c e fresh)),
-          length-cond (allRecorded g (done ++ (c ∷ [])) (c .task)) (ifAny (isCopy g c) (nextCopies g (c .task))),
-          ap (λ (l : List Copy). cond (allRecorded g (done ++ (c ∷ [])) (c .task)) (length l) 0) (ifAny-some (isCopy g c) (nextCopies g (c .task)) (omega (arith, e))),
-          ap (λ (n : ℕ). cond (allRecorded g (done ++ (c ∷ [])) (c .task)) n 0) (length-map (succsOf g (c .task)) (λ x. copy x (c .task))),
+          share-due done c e,
         )
 
     all-successors : sumTo (g .tasks) (λ t. length (succsOf g t)) ≡ edgeCount g
@@ -109,7 +117,9 @@ module _ (g : Graph) where
     owed-all done each = sum-same (g .tasks) (λ t. length (succsOf g t)) (share done) (λ t h. share-full done t (none t)) ∙ all-successors
       where
         none : (t : ℕ) → missing sameCopy (taskCopies g t) done ≡ 0
-        none t = stable (ℕ-discrete (missing sameCopy (taskCopies g t) done) 0) (λ n. found (missing-find sameCopy (taskCopies g t) done (omega (arith, n))))
+        none t =
+            stable (ℕ-discrete (missing sameCopy (taskCopies g t) done) 0)
+            (λ n. found (missing-find sameCopy (taskCopies g t) done (omega (arith, n))))
           where
             found : (c : Copy) × (0 < occOf sameCopy c (taskCopies g t)) × (occOf sameCopy c done ≡ 0) → ⊥
             found (c, h, z) = omega (arith, z, each c, copies-among g c t h .1)

@@ -1,4 +1,5 @@
--- The rule by which a weak job's releases fall due: with a task's last copy, then all at once.
+-- Weak jobs, the weak dependency of source document 000: a task runs once for each finished predecessor, as a copy, and is complete with its last
+-- copy. With this one all its releases fall due.
 use Prim.Native.Nat.{ℕ, suc, _+_}
 use mathlib.Core.Path.{_≡_}
 use mathlib.Core.Bool.{Bool, cond}
