@@ -15,7 +15,7 @@ use Rattle.task.specs.declared.Row.{Row}
 use Rattle.graph.specs.Graph.{part}
 use Rattle.graph.specs.Check.{sizesFit}
 use Rattle.ring.specs.Ring.{slotAt, endsAt, storeEnds, sound, empty, full, headOn, tailOn, count, queue}
-use Rattle.choice.specs.Least.{load, loads, leastFrom, least, target}
+use Rattle.choice.specs.Least.{load, leastFrom, least}
 use Rattle.choice.specs.Search.{search}
 use Rattle.rules.specs.Memory.{Mem, memOf, allSteps, allEntries}
 use Rattle.rules.specs.Sizes.{numbersFit, othersFit, lengthsFit}
@@ -125,7 +125,7 @@ pub record Examples : Type 0 where
 
 -- begin's words and the run's last ones are known from the rules' examples
 pub examples : Examples
-unfolding tabulate allOf square sumToZ after around capped nextPhase part sizesFit slotAt endsAt storeEnds sound empty full headOn tailOn count queue load loads leastFrom least target search allSteps allEntries numbersFit othersFit lengthsFit countersFit updated written counted carriedOut scan fetchTask fetchFrom fetchRule startRule completeInner completeRule releasedRow findRoom releaseTo releaseReady releaseRule ruleOf stepPlan step turn turns bufferIn threadIn recordIn stateOf
+unfolding tabulate allOf square sumToZ after around capped nextPhase part sizesFit slotAt endsAt storeEnds sound empty full headOn tailOn count queue load leastFrom least search allSteps allEntries numbersFit othersFit lengthsFit countersFit updated written counted carriedOut scan fetchTask fetchFrom fetchRule startRule completeInner completeRule releasedRow findRoom releaseTo releaseReady releaseRule ruleOf stepPlan step turn turns bufferIn threadIn recordIn stateOf
 examples =
     record {
       begins = ap deskState (desk.examples .laidOut);

@@ -18,7 +18,7 @@ use Rattle.task.specs.declared.Step.the-variants.{Release}
 use Rattle.task.specs.declared.StepOutcome.{StepOutcome}
 use Rattle.ring.specs.Ring.{capacity, slotAt, Sound, Full, tailOn, queue, appendedAt}
 use Rattle.ring.proofs.Queues.{queue-full, queue-most, queue-append, queue-append-other}
-use Rattle.choice.specs.Least.{Target}
+use Rattle.choice.proofs.Least.{least-same}
 use Rattle.rules.specs.Memory.{Mem, tasks, ringNumber, endsIn, ringsIn, weightIn, degreeIn, rowIn, succCount, oldest, successor}
 use Rattle.rules.specs.Sizes.{Lengths, Fits}
 use Rattle.rules.specs.Updates.{Update, putAccepted, updated, written}
@@ -26,7 +26,7 @@ use Rattle.rules.specs.Tables.{StopsAt, offeredEnds}
 use Rattle.rules.specs.Moves as moves
 use Rattle.rules.specs.Moves.{Advances, next, last, Releasing, waiting, placed}
 use Rattle.algorithm1.specs.State.{Thread, successorsOf, queueOf, threadOf}
-use Rattle.algorithm1.specs.Algorithm.{First, passed, Passes, LeastLoaded, lowers, allocates, Lines}
+use Rattle.algorithm1.specs.Algorithm.{First, passed, Passes, lowers, allocates, Lines}
 use Rattle.algorithm1.specs.Reading.{queueIn, successorsIn, stateOf}
 use Rattle.algorithm1.proofs.Readings.{state-same, degree-at, successors-at, queue-at, thread-at, workload-at, length-successors, successor-at, phase-at}
 use Rattle.algorithm1.proofs.Memories.{between, between-first, threadFrom, thread-from, places-fit, state-after, rings-put, ends-room, counters-put, stops-first, first-lt}
@@ -96,15 +96,6 @@ module _ (p k i : ℕ) (m : Mem) (worker : i < p) (o : ℕ) (owner : o < p) (sou
               (ends-room p o i owner worker k m lengths),
         )
 
--- "j = arg min_{t=1…P} (W_t)"
-least-loaded : (p k j : ℕ) (m : Mem) → Target p (m .counters) j → LeastLoaded p (stateOf p k m) j
-least-loaded p k j m f =
-    record {
-      thread = f .worker;
-      least = λ h l. rw (workload-at p k m j (f .worker), workload-at p k m h l) (f .least h l);
-      lowest = λ h b l. rw (workload-at p k m j (f .worker), workload-at p k m h b) (f .lowest h l);
-    }
-
 -- "If Q_i^j is full", another thread's list "in a round robin fashion"
 first-room : (p k i : ℕ) (m : Mem) → i < p → (j distance : ℕ) → StopsAt p k (Full k) (offeredEnds p i m j) distance
     → First p (λ h. length (queueOf (stateOf p k m) h i) < capacity k) j ((j + distance) % p)
@@ -140,7 +131,7 @@ module _ (limits : Limits) (p k i : ℕ) (m : Mem) (fits : Fits limits p k m) (w
         pass = passes p k i m worker (fits .lengths) (f .row) phase (f .common);
         zero = omega (arith, f .ready);
         target = f .target;
-        least = least-loaded p k (f .target) m (f .least);
+        least = least-same (workload-at p k m) (f .least);
         owner = f .owner;
         room = room;
         after =

@@ -5,13 +5,13 @@ use mathlib.Core.Path.{_≡_}
 use native.Mathlib.Omega.{arith}
 use native.Mathlib.Nat.{le-antisymm}
 use native.Mathlib.Decide.{decLe}
-use lib.Signed.{clashℤ}
 use Rattle.lists.proofs.Decided.{stable}
 use Rattle.task.specs.declared.Step.{Step}
 use Rattle.task.specs.declared.Step.the-variants.{Fetch, Start, Complete, Release}
 use Rattle.task.specs.declared.StepOutcome.{StepOutcome}
+use Rattle.choice.proofs.Least.{least-one}
 use Rattle.algorithm1.specs.State.{Thread, State}
-use Rattle.algorithm1.specs.Algorithm.{First, Fetches, Passes, LeastLoaded, Releases, lowers, allocates, Lines, Does}
+use Rattle.algorithm1.specs.Algorithm.{First, Fetches, Passes, Releases, lowers, allocates, Lines, Does}
 
 -- the first of the numbers from `start` upward, modulo P
 distance-le : {p : ℕ} {Is : ℕ → Type 0} {start x y : ℕ} (f : First p Is start x) (g : First p Is start y) → f .distance ≤ g .distance
@@ -19,13 +19,6 @@ distance-le f g = stable (decLe (f .distance) (g .distance)) (λ n. f .before (g
 
 pub first-one : {p : ℕ} {Is : ℕ → Type 0} {start x y : ℕ} → First p Is start x → First p Is start y → x ≡ y
 first-one f g = let same = le-antisymm (distance-le f g) (distance-le g f) in cc
-
--- "j = arg min_{t=1…P} (W_t)"
-least-le : {p : ℕ} {s : State} {i j : ℕ} → LeastLoaded p s i → LeastLoaded p s j → i ≤ j
-least-le {p} {s} {i} {j} f g = stable (decLe i j) (λ n. clashℤ (f .lowest j (g .thread) (omega arith)) (g .least i (f .thread)))
-
-pub least-one : {p : ℕ} {s : State} {i j : ℕ} → LeastLoaded p s i → LeastLoaded p s j → i ≡ j
-least-one f g = le-antisymm (least-le f g) (least-le g f)
 
 -- line 6: T and the thread after it
 passes-one : {i : ℕ} {s : State} {T U : ℕ} {r q : Thread} → Passes i s T r → Passes i s U q → (T ≡ U) × (r ≡ q)

@@ -12,7 +12,6 @@ use mathlib.Core.List.{List, [], _∷_, _++_}
 use lib.ListN.{length, getD, set}
 use lib.Dec.{eqb}
 use lib.IntN.{pos, _+ℤ_, _-ℤ_}
-use lib.Signed.{_≤ℤ_, _<ℤ_}
 use Rattle.lists.specs.Squares.{withCell}
 use Rattle.task.specs.Types.{nil}
 use Rattle.task.specs.Entries.{entryOf}
@@ -21,6 +20,7 @@ use Rattle.task.specs.declared.Step.the-variants.{Fetch, Start, Complete, Relea
 use Rattle.task.specs.declared.StepOutcome.{StepOutcome}
 use Rattle.task.specs.declared.StepOutcome.the-variants.{Moved, Fetched, Released}
 use Rattle.task.specs.declared.ReleaseOutcome.the-variants.{DegreeLeft, Placed}
+use Rattle.choice.specs.Least.{Least}
 use Rattle.algorithm1.specs.State.{Thread, threadWith, State, stateWith, weightOf, degreeOf, successorsOf, queueOf, counterOf, workload, threadOf}
 
 -- "in a round robin fashion": of the numbers below P, from `start` upward, modulo P, x is the first that is as `Is` says
@@ -136,21 +136,16 @@ pub record Lowers (i : ℕ) (s s′ : State) (o : StepOutcome) : Type 0 where
   pub after : s′ ≡ lowered i task next s
   pub outcome : o ≡ Released (DegreeLeft (degreeOf s task - 1))
 
--- line 9: "where j = arg min_{t=1…P} (W_t)"; "both take the least counter over 1..P, here it is workers 0..P−1", "the lowest number on equal sums"
-pub record LeastLoaded (p : ℕ) (s : State) (j : ℕ) : Type 0 where
-  pub thread : j < p
-  pub least : (h : ℕ) → h < p → workload p s j ≤ℤ workload p s h
-  pub lowest : (h : ℕ) → h < p → h < j → workload p s j <ℤ workload p s h
-
 -- line 8: "if d_T = 0"
 pub record Allocates (p capacity i : ℕ) (s s′ : State) (o : StepOutcome) : Type 0 where
   pub task : ℕ
   pub next : Thread
   pub pass : Passes i s task next
   pub zero : _≡_ {A = ℕ} (degreeOf s task - 1) 0
-  -- line 9: "fetch T from GL and append it to LL_j", the least loaded thread's list
+  -- line 9: "fetch T from GL and append it to LL_j where j = arg min_{t=1…P} (W_t)"; "both take the least counter over 1..P, here it is workers
+  -- 0..P−1", "the lowest number on equal sums"
   pub target : ℕ
-  pub least : LeastLoaded p s target
+  pub least : Least (λ h. h < p) (workload p s) target
   -- Thread i fills Q_j^i; "If Q_i^j is full, Thread j inserts tasks into Q_k^j, 0 ≤ k < P and k ≠ i, in a round robin fashion" (i and j change roles there); "s is
   -- appended to the first ring filled by i that isn't full, owners taken j, j+1, … modulo P"
   pub owner : ℕ

@@ -1,129 +1,139 @@
--- The owner with the least sum, and the target: they have their properties, and nothing else has them.
-use Prim.Native.Nat.{ℕ, zero, suc, _≤_, _<_}
-use mathlib.Core.Path.{_≡_, refl, sym, ap, _∙_}
+-- The least of the candidates: what is computed from their list has the property, and nothing else has it.
+use Prim.Native.Nat.{ℕ, zero, suc, _+_, _≤_, _<_}
+use mathlib.Core.Path.{_≡_, refl}
 use mathlib.Core.Bool.{true, false}
 use mathlib.Core.List.{List, [], _∷_}
 use native.Mathlib.Omega.{arith}
 use native.Mathlib.Nat.{le-antisymm}
-use native.Mathlib.Decide.{decLe}
-use lib.ListN.{length, getD}
-use lib.IntN.{ℤ, pos}
+use native.Mathlib.Decide.{ℕ-discrete, decLt, decLe}
+use lib.ListN.{length}
+use lib.IntN.{ℤ}
 use lib.Signed.{ltZ, _≤ℤ_, _<ℤ_, ≤ℤ-refl, <ℤ-≤ℤ-trans, clashℤ}
-use Rattle.lists.specs.Lists.{tabulate, allOf}
-use Rattle.lists.proofs.Decided.{stable}
+use Rattle.lists.specs.Decided.{tally}
+use Rattle.lists.specs.Lists.{occ, allOf, Rising}
+use Rattle.lists.proofs.Decided.{stable, tally-yes, tally-no}
 use Rattle.lists.proofs.Told.{Told, told-true, told-false}
-use Rattle.lists.proofs.Blocks.{getD-tabulate, length-all, all-at}
+use Rattle.lists.proofs.Occurrences.{occ-nil, occ-cons, occ-hit, occ-miss, occ-insert}
+use Rattle.lists.proofs.Blocks.{length-all, all-at, occ-all}
 use Rattle.lists.proofs.Integers.{ltZ-told, ≤ℤ-of-<ℤ, ≤ℤ-trans, ≤ℤ-<ℤ-trans}
-use Rattle.choice.specs.Least.{load, loads, sumAt, leastFrom, least, Least, Target, target}
+use Rattle.choice.specs.Least.{Least, Listed, leastFrom, least}
 
-module _ (sums : List ℤ) where
+-- no two numbers have the property
+least-le : {Candidate : ℕ → Type 0} {sum : ℕ → ℤ} {i j : ℕ} → Least Candidate sum i → Least Candidate sum j → i ≤ j
+least-le {i = i} {j = j} f g = stable (decLe i j) (λ n. clashℤ (f .lowest j (g .candidate) (omega arith)) (g .atMost i (f .candidate)))
+
+pub least-one : {Candidate : ℕ → Type 0} {sum : ℕ → ℤ} {i j : ℕ} → Least Candidate sum i → Least Candidate sum j → i ≡ j
+least-one f g = le-antisymm (least-le f g) (least-le g f)
+
+-- only the candidates' sums count
+pub least-same : {Candidate : ℕ → Type 0} {sum sum′ : ℕ → ℤ} {j : ℕ} → ((h : ℕ) → Candidate h → sum′ h ≡ sum h)
+    → Least Candidate sum j → Least Candidate sum′ j
+least-same {j = j} e f =
+    record {
+      candidate = f .candidate;
+      atMost = λ h c. rw (e j (f .candidate), e h c) (f .atMost h c);
+      lowest = λ h c l. rw (e j (f .candidate), e h c) (f .lowest h c l);
+    }
+
+module _ (sum : ℕ → ℤ) where
   -- one look at the next candidate: only a smaller sum replaces the best so far
   module _ (best j : ℕ) (js : List ℕ) where
-    pub least-replaces : ltZ (sumAt sums j) (sumAt sums best) ≡ true → leastFrom sums best (j ∷ js) ≡ leastFrom sums j js
+    pub least-replaces : ltZ (sum j) (sum best) ≡ true → leastFrom best (j ∷ js) sum ≡ leastFrom j js sum
     unfolding leastFrom
     least-replaces e = rw e
 
-    pub least-keeps : ltZ (sumAt sums j) (sumAt sums best) ≡ false → leastFrom sums best (j ∷ js) ≡ leastFrom sums best js
+    pub least-keeps : ltZ (sum j) (sum best) ≡ false → leastFrom best (j ∷ js) sum ≡ leastFrom best js sum
     unfolding leastFrom
     least-keeps e = rw e
 
-  -- the best so far is replaced by the next candidate
-  replaced : (best j : ℕ) (js : List ℕ) (r : ℕ) → sumAt sums j <ℤ sumAt sums best → Least sums (j ∷ js) r → Least sums (best ∷ j ∷ js) r
-  replaced best j js r h l =
-      record { place = suc (l .place); inside = omega (arith, l .inside); there = l .there; atMost = at-most; before = earlier }
+  -- the least of a list's members
+  abbrev LeastIn : List ℕ → ℕ → Type 0
+  LeastIn owners = Least (λ h. 0 < occ h owners) sum
+
+  -- another member, x, whose sum is greater, or as great with a higher number
+  least-beside : (x r : ℕ) (l k : List ℕ) → ((h : ℕ) → occ h k ≡ tally (ℕ-discrete h x) + occ h l)
+      → sum r ≤ℤ sum x → (x < r → sum r <ℤ sum x) → LeastIn l r → LeastIn k r
+  least-beside x r l k added le lt f =
+      record {
+        candidate = omega (arith, f .candidate, added r);
+        atMost = λ h c. at-most h c (ℕ-discrete h x);
+        lowest = λ h c b. lower h c b (ℕ-discrete h x);
+      }
     where
-      first : sumAt sums r <ℤ sumAt sums best
-      first = ≤ℤ-<ℤ-trans (l .atMost 0 (omega arith)) h
+      at-most : (h : ℕ) → 0 < occ h k → Dec (h ≡ x) → sum r ≤ℤ sum h
+      at-most h c (yes e) = rw e le
+      at-most h c (no n) = f .atMost h (omega (arith, added h, tally-no (ℕ-discrete h x) n))
 
-      at-most : (n : ℕ) → n < length (best ∷ j ∷ js) → sumAt sums r ≤ℤ sumAt sums (getD (best ∷ j ∷ js) n 0)
-      at-most zero m = ≤ℤ-of-<ℤ first
-      at-most (suc n) m = l .atMost n (omega arith)
+      lower : (h : ℕ) → 0 < occ h k → h < r → Dec (h ≡ x) → sum r <ℤ sum h
+      lower h c b (yes e) = rw e (lt (omega arith))
+      lower h c b (no n) = f .lowest h (omega (arith, added h, tally-no (ℕ-discrete h x) n)) b
 
-      earlier : (n : ℕ) → n < suc (l .place) → sumAt sums r <ℤ sumAt sums (getD (best ∷ j ∷ js) n 0)
-      earlier zero m = first
-      earlier (suc n) m = l .before n (omega arith)
-
-  -- the best so far is kept
-  kept : (best j : ℕ) (js : List ℕ) (r : ℕ) → sumAt sums best ≤ℤ sumAt sums j → Least sums (best ∷ js) r → Least sums (best ∷ j ∷ js) r
-  kept best j js r h l = go (l .place) refl
+  least-from : (best : ℕ) (js : List ℕ) → Rising (best ∷ js) → LeastIn (best ∷ js) (leastFrom best js sum)
+  unfolding leastFrom
+  least-from best [] rising =
+      record {
+        candidate = omega (arith, occ-hit ℕ-discrete best best [] refl);
+        atMost = λ h c. rw (only h c) (≤ℤ-refl (sum best));
+        lowest = λ h c l. absurd (omega (arith, only h c));
+      }
     where
-      at-most : (n : ℕ) → n < length (best ∷ j ∷ js) → sumAt sums r ≤ℤ sumAt sums (getD (best ∷ j ∷ js) n 0)
-      at-most zero m = l .atMost 0 (omega arith)
-      at-most (suc zero) m = ≤ℤ-trans (l .atMost 0 (omega arith)) h
-      at-most (suc (suc n)) m = l .atMost (suc n) (omega arith)
-
-      earlier : (q : ℕ) → l .place ≡ suc q → (n : ℕ) → n < suc (suc q) → sumAt sums r <ℤ sumAt sums (getD (best ∷ j ∷ js) n 0)
-      earlier q e zero m = l .before 0 (omega arith)
-      earlier q e (suc zero) m = <ℤ-≤ℤ-trans (l .before 0 (omega arith)) h
-      earlier q e (suc (suc n)) m = l .before (suc n) (omega arith)
-
-      go : (q : ℕ) → l .place ≡ q → Least sums (best ∷ j ∷ js) r
-      go zero e = record { place = 0; inside = omega arith; there = rw e at (l .there); atMost = at-most; before = λ n m. absurd (omega arith) }
-      go (suc q) e =
-          record { place = suc (suc q); inside = omega (arith, l .inside); there = rw e at (l .there); atMost = at-most; before = earlier q e }
-
-  pub least-is : (j : ℕ) (js : List ℕ) → Least sums (j ∷ js) (least sums (j ∷ js))
-  unfolding least leastFrom
-  least-is j [] =
-      record { place = 0; inside = omega arith; there = refl; atMost = at-most; before = λ n m. absurd (omega arith) }
+      only : (h : ℕ) → 0 < occ h (best ∷ []) → h ≡ best
+      only h c = stable (ℕ-discrete h best) (λ n. omega (arith, occ-miss ℕ-discrete h best [] n, occ-nil ℕ-discrete h))
+  least-from best (j ∷ js) rising =
+      go (ltZ-told (sum j) (sum best)) (least-from j js (λ a b l m. rising (suc a) (suc b) (omega arith) (omega arith))) (least-from best js without)
     where
-      at-most : (n : ℕ) → n < 1 → sumAt sums j ≤ℤ sumAt sums (getD (j ∷ []) n 0)
-      at-most zero m = ≤ℤ-refl (sumAt sums j)
-      at-most (suc n) m = absurd (omega arith)
-  least-is best (j ∷ js) = go (ltZ-told (sumAt sums j) (sumAt sums best)) (least-is j js) (least-is best js)
-    where
-      go : Told (ltZ (sumAt sums j) (sumAt sums best)) (sumAt sums j <ℤ sumAt sums best) (sumAt sums best ≤ℤ sumAt sums j)
-          → Least sums (j ∷ js) (leastFrom sums j js) → Least sums (best ∷ js) (leastFrom sums best js)
-          → Least sums (best ∷ j ∷ js) (leastFrom sums best (j ∷ js))
-      go (told-true e h) l k = rw (least-replaces best j js e) (replaced best j js (leastFrom sums j js) h l)
-      go (told-false e h) l k = rw (least-keeps best j js e) (kept best j js (leastFrom sums best js) h k)
+      without : Rising (best ∷ js)
+      without a zero l m = absurd (omega arith)
+      without zero (suc b) l m = rising 0 (suc (suc b)) (omega arith) (omega arith)
+      without (suc a) (suc b) l m = rising (suc (suc a)) (suc (suc b)) (omega arith) (omega arith)
 
-  -- of at least one worker
-  least-worker : (n : ℕ) → 0 < n → Least sums (allOf n) (least sums (allOf n))
-  unfolding allOf tabulate
-  least-worker zero h = absurd (omega arith)
-  least-worker (suc n) h = least-is 0 (tabulate n suc)
+      first : (x : ℕ) (l : List ℕ) → 0 < occ x (x ∷ l)
+      first x l = omega (arith, occ-hit ℕ-discrete x x l refl)
 
-  module _ (owners : List ℕ) where
-    place-le : (i j : ℕ) (l : Least sums owners i) (k : Least sums owners j) → l .place ≤ k .place
-    place-le i j l k =
-        stable (decLe (l .place) (k .place))
-        (λ n. clashℤ (rw (k .there) at (l .before (k .place) (omega arith))) (rw (l .there) at (k .atMost (l .place) (l .inside))))
+      go : Told (ltZ (sum j) (sum best)) (sum j <ℤ sum best) (sum best ≤ℤ sum j)
+          → LeastIn (j ∷ js) (leastFrom j js sum) → LeastIn (best ∷ js) (leastFrom best js sum) → LeastIn (best ∷ j ∷ js) (leastFrom best (j ∷ js) sum)
+      go (told-true e h) f g =
+          let less = ≤ℤ-<ℤ-trans (f .atMost j (first j js)) h in
+          rw (least-replaces best j js e)
+          (least-beside best (leastFrom j js sum) (j ∷ js) (best ∷ j ∷ js) (λ x. occ-cons ℕ-discrete x best (j ∷ js)) (≤ℤ-of-<ℤ less) (λ _. less) f)
+      -- on equal sums the best so far has the lower number, since the list rises
+      go (told-false e h) f g =
+          rw (least-keeps best j js e)
+          (least-beside j (leastFrom best js sum) (best ∷ js) (best ∷ j ∷ js) (λ x. occ-insert ℕ-discrete x j (best ∷ []) js)
+          (≤ℤ-trans (g .atMost best (first best js)) h)
+          (λ l. <ℤ-≤ℤ-trans (g .lowest best (first best js) (omega (arith, rising 0 1 (omega arith) (omega arith)))) h) g)
 
-    pub least-unique : (i j : ℕ) → Least sums owners i → Least sums owners j → i ≡ j
-    least-unique i j l k = sym (l .there) ∙ ap (λ (n : ℕ). getD owners n 0) (le-antisymm (place-le i j l k) (place-le j i k l)) ∙ k .there
+-- of at least one candidate the one computed, and no other
+pub least-is : {Candidate : ℕ → Type 0} (sum : ℕ → ℤ) (owners : List ℕ) → Listed Candidate owners → 0 < length owners
+    → Least Candidate sum (least owners sum) × ((j : ℕ) → Least Candidate sum j → j ≡ least owners sum)
+unfolding least
+least-is sum [] l some = absurd (omega arith)
+least-is {Candidate} sum (x ∷ xs) l some = (computed, λ j f. least-one f computed)
+  where
+    inside : Least (λ h. 0 < occ h (x ∷ xs)) sum (leastFrom x xs sum)
+    inside = least-from sum x xs (l .rising)
 
-module _ (p : ℕ) where
-  module _ (counters : List ℤ) where
-    pub loads-at : (j : ℕ) → j < p → getD (loads p counters) j (pos 0) ≡ load p counters j
-    unfolding loads
-    loads-at j h = getD-tabulate p (load p counters) (pos 0) j h
+    computed : Least Candidate sum (leastFrom x xs sum)
+    computed =
+        record {
+          candidate = l .members (leastFrom x xs sum) .0 (inside .candidate);
+          atMost = λ h c. inside .atMost h (l .members h .1 c);
+          lowest = λ h c b. inside .lowest h (l .members h .1 c) b;
+        }
 
-    -- the least of all workers is the target
-    least-target : (j : ℕ) → Least (loads p counters) (allOf p) j → Target p counters j
-    least-target j l = record { worker = omega (arith, place-worker, l .inside, length-all p); least = at-most; lowest = lower }
-      where
-        place-worker : l .place ≡ j
-        place-worker = sym (all-at p (l .place) (omega (arith, l .inside, length-all p))) ∙ l .there
+-- the plain rule's candidates: all workers, of which there is one
+pub all-listed : (p : ℕ) → Listed (λ h. h < p) (allOf p)
+all-listed p =
+    record {
+      rising = λ a b l m.
+          let end : b < p = omega (arith, length-all p) in
+          omega (arith, l, all-at p a (omega arith), all-at p b end);
+      members = λ h. (
+        λ c. stable (decLt h p) (λ n. omega (arith, occ-all p h, tally-no (decLt h p) n)),
+        λ b. omega (arith, occ-all p h, tally-yes (decLt h p) b),
+      );
+    }
 
-        sum-of : (h : ℕ) → h < p → sumAt (loads p counters) (getD (allOf p) h 0) ≡ load p counters h
-        sum-of h m = rw (all-at p h m) (loads-at h m)
-
-        sum-here : sumAt (loads p counters) j ≡ load p counters j
-        sum-here = loads-at j (omega (arith, place-worker, l .inside, length-all p))
-
-        at-most : (h : ℕ) → h < p → load p counters j ≤ℤ load p counters h
-        at-most h m = rw (sum-of h m, sum-here) at (l .atMost h (omega (arith, length-all p)))
-
-        lower : (h : ℕ) → h < j → load p counters j <ℤ load p counters h
-        lower h m = rw (sum-of h (omega (arith, place-worker, l .inside, length-all p)), sum-here) at (l .before h (omega (arith, place-worker)))
-
-    pub target-is : 0 < p → Target p counters (target p counters)
-    unfolding target
-    target-is h = least-target (target p counters) (least-worker (loads p counters) p h)
-
-    target-le : (i j : ℕ) → Target p counters i → Target p counters j → i ≤ j
-    target-le i j s t = stable (decLe i j) (λ n. clashℤ (s .lowest j (omega arith)) (t .least i (s .worker)))
-
-    pub target-unique : (i j : ℕ) → Target p counters i → Target p counters j → i ≡ j
-    target-unique i j s t = le-antisymm (target-le i j s t) (target-le j i t s)
+pub least-worker : (p : ℕ) (sum : ℕ → ℤ) → 0 < p
+    → Least (λ h. h < p) sum (least (allOf p) sum) × ((j : ℕ) → Least (λ h. h < p) sum j → j ≡ least (allOf p) sum)
+least-worker p sum some = least-is sum (allOf p) (all-listed p) (omega (arith, length-all p))

@@ -18,14 +18,14 @@ use Rattle.lists.specs.Lists.{allOf}
 use Rattle.lists.proofs.Blocks.{length-all, all-at}
 use Rattle.rules.specs.Words.{countersFit}
 use Rattle.counters.specs.Choice.{Loads}
-use Rattle.choice.specs.Least.{load, loads, sumAt, leastFrom, least, target}
-use Rattle.choice.proofs.Least.{least-replaces, least-keeps, loads-at}
+use Rattle.choice.specs.Least.{load, leastFrom, least}
+use Rattle.choice.proofs.Least.{least-replaces, least-keeps}
 
 -- The best of the workers before j and its sum: from it and the later ones comes the target.
 pub record Best (w : Width) (p : ℕ) (counters : List ℤ) (j best sum : ℕ) : Type 0 where
   pub worker : best < p
   pub sum-is : toZ w sum ≡ load p counters best
-  pub rest : target p counters ≡ leastFrom (loads p counters) best (drop j (allOf p))
+  pub rest : least (allOf p) (load p counters) ≡ leastFrom best (drop j (allOf p)) (load p counters)
 
 module _ (w : Width) (p : ℕ) (counters : List ℤ) where
   -- the workers from j on
@@ -33,8 +33,8 @@ module _ (w : Width) (p : ℕ) (counters : List ℤ) where
   from j h = drop-cons (allOf p) j 0 (omega (arith, length-all p)) ∙ ap (λ (x : ℕ). x ∷ drop (suc j) (allOf p)) (all-at p j h)
 
   pub best-first : (s : ℤ) → SFits w s → s ≡ load p counters 0 → 0 < p → Best w p counters 1 0 (ofZ w s)
-  unfolding target least
-  best-first s k e h = record { worker = h; sum-is = toZ-ofZ w s k ∙ e; rest = ap (least (loads p counters)) (from 0 h) }
+  unfolding least
+  best-first s k e h = record { worker = h; sum-is = toZ-ofZ w s k ∙ e; rest = ap (λ (js : List ℕ). least js (load p counters)) (from 0 h) }
 
   module _ (j best sum : ℕ) (b : Best w p counters j best sum) where
     -- worker j and its sum, just computed
@@ -45,18 +45,18 @@ module _ (w : Width) (p : ℕ) (counters : List ℤ) where
       new-sum : toZ w (ofZ w s) ≡ load p counters j
       new-sum = toZ-ofZ w s is-sum ∙ e
 
-      compared : ltZ (sumAt (loads p counters) j) (sumAt (loads p counters) best) ≡ ltZ (toZ w (ofZ w s)) (toZ w sum)
-      compared = rw (new-sum, b .sum-is, loads-at p counters j inside, loads-at p counters best (b .worker))
+      compared : ltZ (load p counters j) (load p counters best) ≡ ltZ (toZ w (ofZ w s)) (toZ w sum)
+      compared = rw (new-sum, b .sum-is)
 
-      looked : target p counters ≡ leastFrom (loads p counters) best (j ∷ later)
-      looked = rw add-one (b .rest ∙ ap (leastFrom (loads p counters) best) (from j inside))
+      looked : least (allOf p) (load p counters) ≡ leastFrom best (j ∷ later) (load p counters)
+      looked = rw add-one (b .rest ∙ ap (λ (js : List ℕ). leastFrom best js (load p counters)) (from j inside))
 
       pub best-replaced : ltZ (toZ w (ofZ w s)) (toZ w sum) ≡ true → Best w p counters (j + 1) j (ofZ w s)
       best-replaced t =
           record {
             worker = inside;
             sum-is = new-sum;
-            rest = looked ∙ least-replaces (loads p counters) best j later (compared ∙ t);
+            rest = looked ∙ least-replaces (load p counters) best j later (compared ∙ t);
           }
 
       pub best-kept : ltZ (toZ w (ofZ w s)) (toZ w sum) ≡ false → Best w p counters (j + 1) best sum
@@ -64,10 +64,10 @@ module _ (w : Width) (p : ℕ) (counters : List ℤ) where
           record {
             worker = b .worker;
             sum-is = b .sum-is;
-            rest = looked ∙ least-keeps (loads p counters) best j later (compared ∙ t);
+            rest = looked ∙ least-keeps (load p counters) best j later (compared ∙ t);
           }
 
-    pub best-whole : p ≤ j → best ≡ target p counters
+    pub best-whole : p ≤ j → best ≡ least (allOf p) (load p counters)
     unfolding leastFrom
     best-whole h = rw (b .rest, drop-of-length-le (allOf p) {i = j} (omega (arith, length-all p)))
 

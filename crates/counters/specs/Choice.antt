@@ -6,7 +6,8 @@ use mathlib.Core.List.{List}
 use lib.IntN.{ℤ, pos, negsuc}
 use lib.Signed.{mag, leZ}
 use lib.ListN.{length, getD, drop}
-use Rattle.choice.specs.Least.{load, target}
+use Rattle.lists.specs.Lists.{allOf}
+use Rattle.choice.specs.Least.{load, least}
 use Rattle.rules.specs.Words.{countersFit}
 use Rattle.counters.specs.declared.Choice.{Choice}
 use Rattle.counters.specs.declared.Choice.the-variants.{Damaged, Target}
@@ -25,4 +26,4 @@ Loads p counters j sum fits =
 
 abbrev pub Chosen : ℕ → List ℤ → Choice → Type 0
 Chosen p counters Damaged = countersFit counters ≡ false
-Chosen p counters (Target worker) = (countersFit counters ≡ true) × (worker .0 ≡ target p counters)
+Chosen p counters (Target worker) = (countersFit counters ≡ true) × (worker .0 ≡ least (allOf p) (load p counters))

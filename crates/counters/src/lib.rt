@@ -7,7 +7,8 @@ ghost use lib.IntN.{pos, _+ℤ_, _-ℤ_};
 ghost use lib.Signed.{mag};
 ghost use Rattle.task.specs.Types.{engine};
 ghost use Rattle.rules.specs.Words.{counterFits};
-ghost use Rattle.choice.specs.Least.{load, target};
+ghost use Rattle.lists.specs.Lists.{allOf};
+ghost use Rattle.choice.specs.Least.{load, least};
 ghost use Rattle.counters.specs.Choice.{smallCounter, Small, Loads, Chosen};
 use task::WorkerId;
 
@@ -146,7 +147,7 @@ fn narrow_load(counters: &[i32], p: usize, worker: WorkerId) -> i32
 // The same target, with sums of 32 bits and no test of a range.
 fn choose_narrow(counters: &[i32], p: usize) -> WorkerId
     requires { ⌜ (length (now counters) ≡ p * p) × ((1 ≤ p) × ((p ≤ engine .workers) × Small (now counters))) ⌝ }
-    ensures { λ r. ⌜ r .0 ≡ target p (now (counters .entry)) ⌝ }
+    ensures { λ r. ⌜ r .0 ≡ least (allOf p) (load p (now (counters .entry))) ⌝ }
 {
     let mut best = WorkerId(0);
     let mut least = narrow_load(counters, p, WorkerId(0));

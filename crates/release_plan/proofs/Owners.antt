@@ -8,13 +8,14 @@ use native.Mathlib.Nat.{mod-lt}
 use lib.ListN.{length, getD}
 use lib.IntN.{ℤ, pos}
 use Rattle.lists.proofs.Told.{and-true}
+use Rattle.lists.specs.Lists.{allOf}
 use Rattle.lists.specs.Circles.{around}
 use Rattle.ring.specs.Ring.{Sound, Full, sound, full, endsAt}
 use Rattle.ring.proofs.Ends.{full-told}
-use Rattle.choice.specs.Least.{target}
+use Rattle.choice.specs.Least.{load, least}
 use Rattle.choice.specs.Search.{at, search}
 use Rattle.choice.specs.Search as rules
-use Rattle.choice.proofs.Least.{target-is}
+use Rattle.choice.proofs.Least.{least-worker}
 use Rattle.rules.specs.Memory.{Mem}
 use Rattle.rules.specs.Words.{counterFits, countersFit}
 use Rattle.rules.specs.Steps.{findRoom, releaseTo, releaseReady}
@@ -54,11 +55,11 @@ module _ (p k i j : ℕ) (e : List ℕ) where
 
 module _ (p : ℕ) (c : List ℤ) (x : Choice) (hx : Chosen p c x) where
   module _ (j : WorkerId) (t : x ≡ choice.Target j) where
-    chosen : (countersFit c ≡ true) × (j .0 ≡ target p c)
+    chosen : (countersFit c ≡ true) × (j .0 ≡ least (allOf p) (load p c))
     chosen = rw t at hx
 
     pub target-below : 0 < p → j .0 < p
-    target-below h = rw (chosen .1) (target-is p c h .worker)
+    target-below h = rw (chosen .1) (least-worker p (load p c) h .0 .candidate)
 
   module _ (k i s : ℕ) (e : List ℕ) where
     pub owner-damaged : x ≡ choice.Damaged → Owned p k i s e c (Refused 8 0)

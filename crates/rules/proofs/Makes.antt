@@ -19,8 +19,8 @@ use Rattle.task.specs.declared.StepOutcome.{StepOutcome}
 use Rattle.lists.specs.Circles.{after}
 use Rattle.graph.specs.Conditions.{Good}
 use Rattle.ring.specs.Ring.{headOn, tailOn}
-use Rattle.choice.specs.Least.{target}
-use Rattle.choice.proofs.Least.{target-is, target-unique}
+use Rattle.choice.specs.Least.{load}
+use Rattle.choice.proofs.Least.{least-worker}
 use Rattle.rules.specs.Memory.{Mem, tasks, edges, ringNumber, headWord, counterIn, degreeIn, succCount, rowIn, held, acceptedIn, successor}
 use Rattle.rules.specs.Sizes.{Fits}
 use Rattle.rules.specs.Words.{acceptedFits}
@@ -89,7 +89,7 @@ module _ (p k i : ℕ) (m : Mem) (low : acceptedIn m < 3 * tasks m + edges m) wh
         releasing-passes p k i m (f .row) (f .common),
         eq-eqb _ _ (f .ready),
         told-pass (counters-told (m .counters) (p * p) c) (f .counters),
-        target-unique p (m .counters) (target p (m .counters)) (f .target) (target-is p (m .counters) (omega (arith, f .least .worker))) (f .least),
+        sym (least-worker p (load p (m .counters)) (omega (arith, f .least .candidate)) .1 (f .target) (f .least)),
         room-stops p k i (f .target) m (f .distance) (f .stop),
         sym (f .ownerIs),
         le-leb _ _ (f .light),

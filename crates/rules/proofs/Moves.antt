@@ -20,10 +20,11 @@ use Rattle.task.specs.declared.Step.the-variants.{Fetch, Start, Complete, Relea
 use Rattle.task.specs.declared.StepOutcome.{StepOutcome}
 use Rattle.task.specs.declared.StepAnswer.{StepAnswer}
 use Rattle.task.specs.declared.StepAnswer.the-variants.{Refused, Accepted}
+use Rattle.lists.specs.Lists.{allOf}
 use Rattle.lists.specs.Circles.{after, around}
 use Rattle.ring.specs.Ring.{Empty, Full, headOn, tailOn}
-use Rattle.choice.specs.Least.{target}
-use Rattle.choice.proofs.Least.{target-is}
+use Rattle.choice.specs.Least.{load, least}
+use Rattle.choice.proofs.Least.{least-worker}
 use Rattle.choice.specs.Search.{Found, unsound, none, at}
 use Rattle.rules.specs.Memory.{Mem, tasks, edges, ringNumber, headWord, counterIn, degreeIn, succCount, firstSucc, pastSucc, rowIn, held, entriesIn, acceptedIn, oldest, successor}
 use Rattle.rules.specs.Sizes.{Fits}
@@ -142,8 +143,12 @@ module _ (m : Mem) where
     row = releasedRow (succCount m (oldest m i)) (rowIn m i)
 
     module _ (some : 0 < p) (e : length (m .counters) ≡ p * p) where
+      -- "target j"
+      abbrev j : ℕ
+      j = least (allOf p) (load p (m .counters))
+
       if-placed : (f : Found) → Releasing i m row → Ready m i → ¬ (BadCounter (p * p) (m .counters))
-          → Looked p k (Full k) (offeredEnds p i m (target p (m .counters))) (target p (m .counters)) f
+          → Looked p k (Full k) (offeredEnds p i m j) j f
           → IfAccepted (Counted m (Releases p k i m)) (releaseTo p k i m f)
       unfolding releaseTo tailOn after
       if-placed unsound c r q l = if-refused _ _
@@ -155,8 +160,8 @@ module _ (m : Mem) where
             common = c;
             ready = r;
             counters = q;
-            target = target p (m .counters);
-            least = target-is p (m .counters) some;
+            target = j;
+            least = least-worker p (load p (m .counters)) some .0;
             distance = d;
             stop = stop;
             owner = o;
@@ -174,8 +179,8 @@ module _ (m : Mem) where
       if-released c =
           if-cond _
           (λ r. if-required _ _ _ (λ q.
-          if-placed (findRoom p k i m (around p (target p (m .counters)))) c (eqb-true _ _ r) (told-yes (counters-told (m .counters) (p * p) e) q)
-          (room-looked p k i (target p (m .counters)) m)))
+          if-placed (findRoom p k i m (around p j)) c (eqb-true _ _ r) (told-yes (counters-told (m .counters) (p * p) e) q)
+          (room-looked p k i j m)))
           (λ n. if-counted _ _ (waiting (record { row = row; common = c; notReady = eqb-false _ _ n; outcome = refl; updates = refl })))
 
       -- a step's own rule

@@ -28,7 +28,7 @@ use Rattle.graph.specs.Tables.{Heavy}
 use Rattle.graph.specs.Decide.{below?, among?, light?, good?, bad?, endsFit?, twice?, twiceIn?, find-twice, edge?, thru?, path?, leads?, onCycle?}
 use Rattle.graph.specs.Successors.{succsBelow, succStart, succStarts, succWords, degreeList, roots}
 use Rattle.ring.specs.Ring.{capacity, slotAt, endsAt, storeEnds, sound, empty, full, headOn, tailOn}
-use Rattle.choice.specs.Least.{load, loads, leastFrom, least, target}
+use Rattle.choice.specs.Least.{load, leastFrom, least}
 use Rattle.choice.specs.Search.{search}
 use Rattle.rules.specs.Memory.{Mem, graphIn, allSteps, allEntries}
 use Rattle.rules.specs.Sizes.{numbersFit, othersFit, lengthsFit}
@@ -164,7 +164,7 @@ pub record PreviewExamples : Type 0 where
   pub diamondWhole : turns preview 2 4 32 0 (begin preview 2 4 diamond .memory) ≡ diamondLeft
 
 pub preview-examples : PreviewExamples
-unfolding ℕ-discrete decLe decLt firstBelow occOf joined tabulate allOf sumTo after around capped nextPhase part sizesFit firstBad firstTwice firstOnCycle tablesAnswer checkAnswer below? among? light? good? bad? endsFit? twice? twiceIn? find-twice edge? thru? path? leads? onCycle? succsBelow succStart succStarts succWords degreeList roots capacity slotAt endsAt storeEnds sound empty full headOn tailOn sumToZ load loads leastFrom least target search allSteps allEntries numbersFit othersFit lengthsFit countersFit updated written counted carriedOut scan fetchTask fetchFrom fetchRule startRule completeSink completeInner completeRule releasedRow findRoom releaseTo releaseReady releaseWaiting releaseRule ruleOf stepPlan step cleared rootsPlaced begun rootsAnswer beginAnswer begin turn turns answersAt
+unfolding ℕ-discrete decLe decLt firstBelow occOf joined tabulate allOf sumTo after around capped nextPhase part sizesFit firstBad firstTwice firstOnCycle tablesAnswer checkAnswer below? among? light? good? bad? endsFit? twice? twiceIn? find-twice edge? thru? path? leads? onCycle? succsBelow succStart succStarts succWords degreeList roots capacity slotAt endsAt storeEnds sound empty full headOn tailOn sumToZ load leastFrom least search allSteps allEntries numbersFit othersFit lengthsFit countersFit updated written counted carriedOut scan fetchTask fetchFrom fetchRule startRule completeSink completeInner completeRule releasedRow findRoom releaseTo releaseReady releaseWaiting releaseRule ruleOf stepPlan step cleared rootsPlaced begun rootsAnswer beginAnswer begin turn turns answersAt
 preview-examples =
     record {
       tasks = (

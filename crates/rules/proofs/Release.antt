@@ -7,6 +7,7 @@ use native.Mathlib.Nat.{mod-lt}
 use lib.ListN.{length, drop}
 use lib.Dec.{eqb}
 use Rattle.lists.proofs.Told.{Told, told-true, told-false, same-told, le-told, lt-told, and-told, under-told}
+use Rattle.lists.specs.Lists.{allOf}
 use Rattle.lists.specs.Circles.{around}
 use Rattle.lists.proofs.Circles.{mod-reached}
 use Rattle.task.specs.Refusals.{damaged, nothingThere, ringsFull}
@@ -14,9 +15,9 @@ use Rattle.task.specs.Rows.{Refusal}
 use Rattle.task.specs.declared.Ends.{Ends}
 use Rattle.ring.specs.Ring.{Sound, Full, full}
 use Rattle.ring.proofs.Ends.{full-told}
-use Rattle.choice.specs.Least.{Target, target}
+use Rattle.choice.specs.Least.{load, Least, least}
 use Rattle.choice.specs.Search.{Found, unsound, none, at}
-use Rattle.choice.proofs.Least.{target-is, target-unique}
+use Rattle.choice.proofs.Least.{least-one, least-worker}
 use Rattle.rules.specs.Memory.{Mem, tasks, edges, ringNumber, endsIn, weightIn, degreeIn, firstSucc, pastSucc, succCount, rowIn, oldest, successor}
 use Rattle.rules.specs.Plans.{Plan}
 use Rattle.rules.specs.Steps.{findRoom, releaseTo, releaseReady, releaseWaiting, releaseRule}
@@ -56,27 +57,27 @@ module _ (p k i : ℕ) (m : Mem) where
   module _ (ready : Ready m i) (some : 0 < p) where
     -- "target j", and the rings looked at from there on
     abbrev j : ℕ
-    j = target p (m .counters)
+    j = least (allOf p) (load p (m .counters))
 
     abbrev offers : ℕ → Ends
     offers = offeredEnds p i m j
 
-    target-j : Target p (m .counters) j
-    target-j = target-is p (m .counters) some
+    least-j : Least (λ h. h < p) (load p (m .counters)) j
+    least-j = least-worker p (load p (m .counters)) some .0
 
-    not-damaged : ¬ (BadEnds p k (Full k) offers) → ¬ (Ready m i × ((h : ℕ) × Target p (m .counters) h × BadEnds p k (Full k) (offeredEnds p i m h)))
-    not-damaged n (r, (h, t, b)) = n (subst (λ (x : ℕ). BadEnds p k (Full k) (offeredEnds p i m x)) (target-unique p (m .counters) h j t target-j) b)
+    not-damaged : ¬ (BadEnds p k (Full k) offers) → ¬ (Ready m i × ((h : ℕ) × Least (λ o. o < p) (load p (m .counters)) h × BadEnds p k (Full k) (offeredEnds p i m h)))
+    not-damaged n (r, (h, t, b)) = n (subst (λ (x : ℕ). BadEnds p k (Full k) (offeredEnds p i m x)) (least-one t least-j) b)
 
     -- the rings looked at are all that worker i fills
     all-full : GoesOn k (Full k) offers p → (o : ℕ) → o < p → Sound k (endsIn m (ringNumber p o i)) × Full k (endsIn m (ringNumber p o i))
-    all-full f o h = go (mod-reached p j o (target-j .worker) h)
+    all-full f o h = go (mod-reached p j o (least-j .candidate) h)
       where
         go : (d : ℕ) × (d < p) × ((j + d) % p ≡ o) → Sound k (endsIn m (ringNumber p o i)) × Full k (endsIn m (ringNumber p o i))
         go (d, l, e) = subst (λ (x : ℕ). Sound k (endsIn m (ringNumber p x i)) × Full k (endsIn m (ringNumber p x i))) e (f d l)
 
     to-follows : (f : Found) → Looked p k (Full k) offers j f → PlanFollows (rowsFrom 8) (releaseTo p k i m f)
     unfolding releaseTo
-    to-follows unsound bad = given-row damaged 0 _ (ready, (j, target-j, bad))
+    to-follows unsound bad = given-row damaged 0 _ (ready, (j, least-j, bad))
     to-follows none all =
         passed-row damaged 0 _ (releaseTo p k i m none) (not-damaged (all-not-bad p k (Full k) offers all))
         (given-row ringsFull (successor m i) _ (ready, all-full all))

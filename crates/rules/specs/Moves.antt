@@ -16,7 +16,7 @@ use Rattle.task.specs.declared.StepOutcome.{StepOutcome}
 use Rattle.task.specs.declared.StepOutcome.the-variants.{Moved, Fetched, Released}
 use Rattle.task.specs.declared.ReleaseOutcome.the-variants.{DegreeLeft, Placed}
 use Rattle.ring.specs.Ring.{slotAt, Empty, Full}
-use Rattle.choice.specs.Least.{Target}
+use Rattle.choice.specs.Least.{load, Least}
 use Rattle.rules.specs.Memory.{Mem, tasks, edges, ringNumber, endsIn, headWord, counterIn, weightIn, degreeIn, firstSucc, pastSucc, succCount, bufferAt, rowIn, withHand, withPointer, withPlaces, held, entriesIn, acceptedIn, oldest, successor}
 use Rattle.rules.specs.Sizes.{Fits}
 use Rattle.rules.specs.Updates.{Update, putDegree, putSlot, putEnds, putCounter, putBuffer, putEntry, putEntries, putAccepted, putRow, written}
@@ -127,7 +127,7 @@ pub record ReleasesPlaced (p k i : ℕ) (m : Mem) (o : StepOutcome) (us : List U
   pub ready : Ready m i
   pub counters : ¬ (BadCounter (p * p) (m .counters))
   pub target : ℕ
-  pub least : Target p (m .counters) target
+  pub least : Least (λ h. h < p) (load p (m .counters)) target
   pub distance : ℕ
   pub stop : StopsAt p k (Full k) (offeredEnds p i m target) distance
   pub owner : ℕ

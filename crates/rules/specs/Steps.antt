@@ -5,6 +5,7 @@ use mathlib.Core.Bool.{cond, not, _&&_}
 use mathlib.Core.List.{List, [], _∷_}
 use lib.Dec.{ltb, eqb}
 use lib.IntN.{pos, _+ℤ_, _-ℤ_}
+use Rattle.lists.specs.Lists.{allOf}
 use Rattle.lists.specs.Circles.{after, around}
 use Rattle.task.specs.Types.{nil}
 use Rattle.task.specs.Phases.{leadsTo, nextPhase}
@@ -18,7 +19,7 @@ use Rattle.task.specs.declared.StepOutcome.the-variants.{Moved, Fetched, Releas
 use Rattle.task.specs.declared.ReleaseOutcome.the-variants.{DegreeLeft, Placed}
 use Rattle.graph.specs.Check.{sizesFit}
 use Rattle.ring.specs.Ring.{slotAt, empty, full, headOn, tailOn}
-use Rattle.choice.specs.Least.{target}
+use Rattle.choice.specs.Least.{load, least}
 use Rattle.choice.specs.Search.{Found, unsound, none, at, search}
 use Rattle.rules.specs.Memory.{Mem, tasks, edges, allEntries, ringNumber, endsIn, headWord, counterIn, weightIn, degreeIn, succCount, bufferAt, rowIn, withHand, withPointer, withPlaces, held, entriesIn, oldest, successor}
 use Rattle.rules.specs.Sizes.{numbersFit, lengthsFit}
@@ -122,7 +123,7 @@ releaseTo p k i m (at o) =
 -- "At zero, target j is the worker with the least sum of its P counters", all of which are read; "s is appended to the first ring
 -- filled by i that isn't full, owners taken j, j+1, … modulo P"
 unfoldable pub releaseReady : ℕ → ℕ → ℕ → Mem → Plan
-releaseReady p k i m = checked (countersFit (m .counters)) (releaseTo p k i m (findRoom p k i m (around p (target p (m .counters)))))
+releaseReady p k i m = checked (countersFit (m .counters)) (releaseTo p k i m (findRoom p k i m (around p (least (allOf p) (load p (m .counters))))))
 
 -- above zero, nothing more is read
 unfoldable pub releaseWaiting : ℕ → Mem → Plan

@@ -23,7 +23,7 @@ use Rattle.graph.specs.Graph.{predsOf}
 use Rattle.graph.specs.Conditions.{Bad, Twice, OnCycle}
 use Rattle.graph.specs.Tables.{Beyond, Heavy}
 use Rattle.ring.specs.Ring.{Sound, Empty, Full}
-use Rattle.choice.specs.Least.{Target}
+use Rattle.choice.specs.Least.{load, Least}
 use Rattle.rules.specs.Memory.{Mem, tasks, edges, graphIn, ringNumber, endsIn, headWord, counterIn, weightIn, degreeIn, firstSucc, pastSucc, succCount, rowIn, held, entriesIn, acceptedIn, oldest, successor}
 use Rattle.rules.specs.Sizes.{Lengths}
 
@@ -175,7 +175,7 @@ releaseRows p k i m =
     -- 8: "counter beyond ±2^30", of all P·P, since the target is sought
     ∷ row damaged (only 0 (Ready m i × BadCounter (p * p) (m .counters)))
     -- 8: "head or tail ≥ K", the rings before it, from the target's on, being full
-    ∷ row damaged (only 0 (Ready m i × ((j : ℕ) × Target p (m .counters) j × BadEnds p k (Full k) (offeredEnds p i m j))))
+    ∷ row damaged (only 0 (Ready m i × ((j : ℕ) × Least (λ h. h < p) (load p (m .counters)) j × BadEnds p k (Full k) (offeredEnds p i m j))))
     -- 11: "Release: degree would be 0 and all P rings filled by this worker are full", "the successor"; "11 comes after the words
     -- that it reads"
     ∷ row ringsFull (only (successor m i) (Ready m i × ((o : ℕ) → o < p → Sound k (endsIn m (ringNumber p o i)) × Full k (endsIn m (ringNumber p o i)))))

@@ -9,7 +9,7 @@ use native.Mathlib.Decide.{ℕ-discrete, decLt}
 use native.Mathlib.Nat.{add-zero, mod-lt}
 use lib.ListN.{length, getD, length-append, length-drop, List·getD-eq-default, List·getD-append}
 use lib.Seq.{drop-nil, getD-drop}
-use Rattle.lists.specs.Lists.{tabulate}
+use Rattle.lists.specs.Lists.{tabulate, allOf}
 use Rattle.lists.proofs.Apart.{cons-not-nil}
 use Rattle.lists.proofs.Appends.{head-same}
 use Rattle.lists.proofs.Blocks.{length-tabulate}
@@ -24,8 +24,8 @@ use Rattle.task.specs.declared.StepOutcome.{StepOutcome}
 use Rattle.ring.specs.Ring.{Full}
 use Rattle.ring.proofs.Ends.{capacity-suc}
 use Rattle.ring.proofs.Queues.{queue-full}
-use Rattle.choice.specs.Least.{target}
-use Rattle.choice.proofs.Least.{target-is}
+use Rattle.choice.specs.Least.{load, least}
+use Rattle.choice.proofs.Least.{least-worker}
 use Rattle.rules.specs.Memory.{Mem, tasks, edges, ringNumber, endsIn, ringsIn, counterIn, degreeIn, rowIn, succCount, acceptedIn, oldest, successor}
 use Rattle.rules.specs.Updates.{Update}
 use Rattle.rules.specs.Steps.{step}
@@ -230,19 +230,20 @@ module _ {limits : Limits} {p k : ℕ} {m : Mem} (h : Honest limits p k m) (i : 
 
         go : (row : Row) → Releasing i m row → Dec (degreeIn m (successor m i) ≡ 1) → Acceptance (stepSays (step limits p k i Release m .answer))
         go row common (yes e) =
+            let j = least (allOf p) (load p (m .counters)) in
             accepts _ _
             (placed (record {
               row = row;
               common = common;
               ready = e;
               counters = counters-within p m (honest-within h);
-              target = target p (m .counters);
-              least = target-is p (m .counters) (h .fits .limits .oneWorker);
+              target = j;
+              least = least-worker p (load p (m .counters)) (h .fits .limits .oneWorker) .0;
               distance = 0;
-              stop = room-first none (target p (m .counters));
-              owner = (target p (m .counters) + 0) % p;
+              stop = room-first none j;
+              owner = (j + 0) % p;
               ownerIs = refl;
-              ring = ringNumber p ((target p (m .counters) + 0) % p) i;
+              ring = ringNumber p ((j + 0) % p) i;
               ringIs = refl;
               light = h .graph .light (successor m i) (common .below);
               outcome = refl;

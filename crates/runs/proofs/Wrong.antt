@@ -33,7 +33,7 @@ use Rattle.graph.specs.Check.{sizesFit, firstBad, firstTwice, firstOnCycle, tab
 use Rattle.graph.specs.Decide.{below?, among?, light?, good?, bad?, endsFit?, twice?, twiceIn?, find-twice, edge?, thru?, path?, leads?, onCycle?}
 use Rattle.graph.specs.Successors.{succsBelow, succStart, succStarts, succWords, degreeList, roots}
 use Rattle.ring.specs.Ring.{capacity, slotAt, endsAt, storeEnds, sound, empty, full, headOn, tailOn}
-use Rattle.choice.specs.Least.{load, loads, leastFrom, least, target}
+use Rattle.choice.specs.Least.{load, leastFrom, least}
 use Rattle.choice.specs.Search.{search}
 use Rattle.exchange.specs.Exchange.{Chain, none, more}
 use Rattle.exchange.specs.Pairs.{eachOnce, TaskExchanges}
@@ -423,7 +423,7 @@ placesEarly =
 abbrev pub dropping : ℕ → ℕ → Mem → Plan → Plan
 dropping p i m (refuse n d) =
     cond (eqb n ringsFull)
-    (counted m (Released (Placed (record { 0 = successor m i }) (record { 0 = target p (m .counters) })))
+    (counted m (Released (Placed (record { 0 = successor m i }) (record { 0 = least (allOf p) (load p (m .counters)) })))
     (putDegree (successor m i) 0 ∷ advance i m ∷ []))
     (refuse n d)
 dropping p i m (accept o us) = accept o us
@@ -498,7 +498,7 @@ record WrongRuns : Type 0 where
       (0 ∷ 1 ∷ []) (0 ∷ 0 ∷ [])
 
 wrong-runs : WrongRuns
-unfolding ℕ-discrete decLe decLt firstBelow occOf placeOf joined tabulate allOf sumTo after around capped nextPhase part sizesFit firstBad firstTwice firstOnCycle tablesAnswer checkAnswer below? among? light? good? bad? endsFit? twice? twiceIn? find-twice edge? thru? path? leads? onCycle? succsBelow succStart succStarts succWords degreeList roots capacity slotAt endsAt storeEnds sound empty full headOn tailOn sumToZ load loads leastFrom least target search allSteps allEntries numbersFit othersFit lengthsFit countersFit updated written counted carriedOut scan fetchTask fetchFrom fetchRule startRule completeSink completeInner completeRule releasedRow findRoom releaseTo releaseReady releaseWaiting releaseRule ruleOf stepPlan step cleared rootsPlaced begun rootsAnswer beginAnswer begin began recalled acceptedOf answerBy leftBy leftAfter eventsBy stepsAmong
+unfolding ℕ-discrete decLe decLt firstBelow occOf placeOf joined tabulate allOf sumTo after around capped nextPhase part sizesFit firstBad firstTwice firstOnCycle tablesAnswer checkAnswer below? among? light? good? bad? endsFit? twice? twiceIn? find-twice edge? thru? path? leads? onCycle? succsBelow succStart succStarts succWords degreeList roots capacity slotAt endsAt storeEnds sound empty full headOn tailOn sumToZ load leastFrom least search allSteps allEntries numbersFit othersFit lengthsFit countersFit updated written counted carriedOut scan fetchTask fetchFrom fetchRule startRule completeSink completeInner completeRule releasedRow findRoom releaseTo releaseReady releaseWaiting releaseRule ruleOf stepPlan step cleared rootsPlaced begun rootsAnswer beginAnswer begin began recalled acceptedOf answerBy leftBy leftAfter eventsBy stepsAmong
 wrong-runs =
     record {
       forgets-a-root = record { begins = refl; taken = refl; unfinished = omega arith; refusals = refl };
