@@ -108,10 +108,11 @@ fn admit_phase(row: Row, step: Step) -> Admitted
         return Admitted::Refused(refusal::WRONG_PHASE, from);
     };
     let held = row.held;
+    let pointer = row.pointer;
     Admitted::To(Row {
         phase,
         held,
-        pointer: row.pointer,
+        pointer,
         read: row.read,
         write: row.write,
         cursor: row.cursor,

@@ -11,7 +11,7 @@ use Rattle.task.specs.declared.Step.the-variants.{Fetch, Start}
 use Rattle.task.specs.declared.StepOutcome.{StepOutcome}
 use Rattle.ring.specs.Ring.{capacity, Empty, Rings, ringsOf, headOn, queue, takenAt}
 use Rattle.ring.proofs.Queues.{queue-empty, queue-take, queue-take-other}
-use Rattle.rules.specs.Memory.{Mem, ringNumber, endsIn, ringsIn, weightIn, rowIn}
+use Rattle.rules.specs.Memory.{Mem, ringNumber, endsIn, ringsIn, weightIn, rowIn, pointerIn}
 use Rattle.rules.specs.Sizes.{Fits}
 use Rattle.rules.specs.Updates.{Update, putAccepted, updated, written}
 use Rattle.rules.specs.Moves as moves
@@ -48,7 +48,7 @@ module _ (limits : Limits) (p k i : ℕ) (m : Mem) (fits : Fits limits p k m) (w
           λ e some. some (queue-empty 0 k (ringsIn m) (ringNumber p i j) sound .0 e),
           λ some e. some (queue-empty 0 k (ringsIn m) (ringNumber p i j) sound .1 e),
         ))
-        (rowIn m i .pointer) (f .distance) (f .stop))
+        (pointerIn m i) (f .distance) (f .stop))
 
     filler-lt : f .filler < p
     filler-lt = first-lt first

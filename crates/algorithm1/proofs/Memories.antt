@@ -20,7 +20,7 @@ use Rattle.task.specs.Types.{idle}
 use Rattle.task.specs.declared.Ends.{Ends}
 use Rattle.task.specs.declared.Row.{Row}
 use Rattle.ring.specs.Ring.{endWords, Sound, ringsOf, queue}
-use Rattle.rules.specs.Memory.{Mem, memOf, tasks, ringNumber, counterIn, bufferAt, rowIn}
+use Rattle.rules.specs.Memory.{Mem, memOf, tasks, ringNumber, counterIn, bufferAt, rowIn, held, pointerIn}
 use Rattle.rules.specs.Sizes.{Lengths}
 use Rattle.rules.specs.Tables.{StopsAt}
 use Rattle.rules.specs.Words.{placesFit}
@@ -40,7 +40,7 @@ module _ (m : Mem) (i : ℕ) where
   bufferFrom read write = cond (placesFit m read write) (between read write) []
 
   abbrev pub threadFrom : Row → Thread
-  threadFrom r = threadWith (bufferFrom (r .read) (r .write)) (r .cursor) (r .phase) (r .held .0) (r .pointer)
+  threadFrom r = threadWith (bufferFrom (r .read) (r .write)) (r .cursor) (r .phase) (r .held .0) (r .pointer .0)
 
   pub thread-from : threadIn m i ≡ threadFrom (rowIn m i)
   unfolding threadIn bufferIn
@@ -96,7 +96,7 @@ module _ (p k i : ℕ) (m : Mem) (worker : i < p) (lengths : Lengths p k m) (row
     threads-after kept =
         tabulate-put p (threadIn m) (threadIn m′) i worker
         (λ h l other. ap (threadFrom m′ h) (getD-set-other (m .rows) i h row idle other)
-        ∙ ap (λ (words : List ℕ). threadWith words (rowIn m h .cursor) (rowIn m h .phase) (rowIn m h .held .0) (rowIn m h .pointer))
+        ∙ ap (λ (words : List ℕ). threadWith words (rowIn m h .cursor) (rowIn m h .phase) (held m h) (pointerIn m h))
         (buffer-kept h (rowIn m h .read) (rowIn m h .write) (kept h other)))
         ∙ ap (λ (own : Row). set (tabulate p (threadIn m)) i (threadFrom m′ i own))
         (getD-set-same (m .rows) i row idle (omega (arith, worker, lengths .others .rows)))

@@ -9,7 +9,7 @@ use Rattle.lists.specs.Squares.{square}
 use Rattle.task.specs.Entries.{Entry, entryOf}
 use Rattle.graph.specs.Graph.{part}
 use Rattle.ring.specs.Ring.{queue}
-use Rattle.rules.specs.Memory.{Mem, tasks, ringNumber, ringsIn, counterIn, bufferAt, rowIn, held, entriesIn}
+use Rattle.rules.specs.Memory.{Mem, tasks, ringNumber, ringsIn, counterIn, bufferAt, rowIn, held, pointerIn, entriesIn}
 use Rattle.algorithm1.specs.State.{Thread, threadWith, State, stateWith}
 
 -- Q_i^j: the list that the ring of owner i filled by worker j holds; none where one of its ends isn't a slot
@@ -25,7 +25,7 @@ bufferIn m i =
 
 -- the other words of the row as they are
 unfoldable pub threadIn : Mem → ℕ → Thread
-threadIn m i = threadWith (bufferIn m i) (rowIn m i .cursor) (rowIn m i .phase) (held m i) (rowIn m i .pointer)
+threadIn m i = threadWith (bufferIn m i) (rowIn m i .cursor) (rowIn m i .phase) (held m i) (pointerIn m i)
 
 -- entry n of the record, and as many as the entries word says; none where that is over N
 abbrev pub entryIn : Mem → ℕ → Entry

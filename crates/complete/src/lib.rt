@@ -97,12 +97,13 @@ fn join_buffer(buffers: &mut [u32], n: usize, worker: WorkerId, write: u32, task
 fn leave(row: Row, write: u32) -> Stepped
     ensures { λ r. ⌜ r ≡ Stepped.Taken StepOutcome.Moved (withHand (row .phase) nil (withPlaces (row .read) write (row .cursor) row)) ⌝ }
 {
+    let pointer = row.pointer;
     Stepped::Taken(
         StepOutcome::Moved,
         Row {
             phase: row.phase,
             held: TaskId::NIL,
-            pointer: row.pointer,
+            pointer,
             read: row.read,
             write,
             cursor: row.cursor,

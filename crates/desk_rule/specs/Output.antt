@@ -43,7 +43,7 @@ graphOutput m = begunOutput (begin engine 2 4 m .answer) (begin engine 2 4 m .me
 
 -- a row of the desk's own list before begin: six words 0
 abbrev pub blankRow : Row
-blankRow = record { phase = 0; held = record { 0 = 0 }; pointer = 0; read = 0; write = 0; cursor = 0 }
+blankRow = record { phase = 0; held = record { 0 = 0 }; pointer = record { 0 = 0 }; read = 0; write = 0; cursor = 0 }
 
 -- the memory that the desk lends beside weights and predecessor tables, for P 2 and K 4: lists of exact lengths, whose words begin doesn't judge
 unfoldable pub deskMemory : (weights predStarts preds : List ℕ) → Mem

@@ -79,7 +79,7 @@ fn store_fetched(rows: &mut [[u32; 6]], worker: WorkerId, row: Row, stepped: Ste
         Stepped::Taken(outcome, after) => {
             let held = after.held;
             rows::set_hand(rows, worker, after.phase, held);
-            rows::set_pointer(rows, worker, WorkerId(after.pointer));
+            rows::set_pointer(rows, worker, after.pointer);
             StepAnswer::Accepted(outcome)
         }
     }

@@ -21,7 +21,7 @@ use Rattle.task.specs.declared.WorkerId.{WorkerId}
 use Rattle.ring.specs.Ring.{endWords, Sound, Empty, empty, slotAt, endsAt, storeEnds, headOn}
 use Rattle.ring.proofs.Ends.{empty-told}
 use Rattle.choice.specs.Search as rules
-use Rattle.rules.specs.Memory.{Mem, allSteps, ringNumber, rowIn, withHand, withPointer}
+use Rattle.rules.specs.Memory.{Mem, allSteps, ringNumber, rowIn, withHand, withPointer, pointerIn}
 use Rattle.rules.specs.Words.{counterFits}
 use Rattle.rules.specs.Updates.{Update, putEnds, putRow, updated, written}
 use Rattle.rules.specs.Plans.{accept, withCount, counted}
@@ -112,7 +112,7 @@ module _ (p k i pointer : ℕ) (ends : List ℕ) (x : Found) (hx : foundOf x ≡
 
 -- from the pointer on
 goes-on : (p k i pointer : ℕ) (weights rings ends : List ℕ) (counters : List ℤ) (run : List ℕ) → pointer < p
-    → (f : rules.Found) → f ≡ scanOf p k i pointer ends → (m : Mem) → rowIn m i .pointer ≡ pointer
+    → (f : rules.Found) → f ≡ scanOf p k i pointer ends → (m : Mem) → pointerIn m i ≡ pointer
     → fetchRule p k i (old weights rings ends counters run m) ≡ fetchFrom p k i (old weights rings ends counters run m) f
 unfolding fetchRule scan
 goes-on p k i pointer weights rings ends counters run h f hf m q = rw (hf, q, lt-ltb pointer p h)
@@ -124,7 +124,7 @@ module _ (p k i steps pointer : ℕ) (weights rings ends : List ℕ) (counters :
   pointer-damaged h m e q = rw (q, le-ltb pointer p h)
 
   module _ (h : pointer < p) (x : Found) (hx : foundOf x ≡ scanOf p k i pointer ends) where
-    follows : (y : Found) → x ≡ y → (m : Mem) → rowIn m i .pointer ≡ pointer
+    follows : (y : Found) → x ≡ y → (m : Mem) → pointerIn m i ≡ pointer
         → fetchRule p k i (old weights rings ends counters run m) ≡ fetchFrom p k i (old weights rings ends counters run m) (foundOf y)
     follows y v m q = rw (← v) (goes-on p k i pointer weights rings ends counters run h (foundOf x) hx m q)
 
@@ -204,24 +204,24 @@ module _ (p k i steps pointer : ℕ) (weights rings ends : List ℕ) (counters :
 
 -- A plan carried out, for a worker with this row.
 module _ (p k i steps : ℕ) (row : Row) (weights rings ends : List ℕ) (counters : List ℤ) (run : List ℕ) (x : FetchPlan)
-    (hx : PlansFetch p k i steps (row .pointer) weights rings ends counters run x) where
+    (hx : PlansFetch p k i steps (row .pointer .0) weights rings ends counters run x) where
   abbrev before : Mem → Mem
   before = old weights rings ends counters run
 
   -- Fetch sets out from the pointer that stands in the worker's row
-  points-at : (limits : Limits) (m : Mem) → Enters limits p k i Fetch (before m) row → rowIn m i .pointer ≡ row .pointer
-  points-at limits m enters = sym (ap (λ (r : Row). r .pointer) (enters .leads))
+  points-at : (limits : Limits) (m : Mem) → Enters limits p k i Fetch (before m) row → pointerIn m i ≡ row .pointer .0
+  points-at limits m enters = sym (ap (λ (r : Row). r .pointer .0) (enters .leads))
 
   pub fetch-refused : (n d : ℕ) → x ≡ Refused n d
       → FetchesAdmitted steps p k i row weights rings ends ends counters counters run run (stepped.Refused n d)
   unfolding PlansFetch ruleOf
   fetch-refused n d v limits m e enters =
       rule-refused limits p k i Fetch (before m) row enters n d
-      (subst (PlansFetch p k i steps (row .pointer) weights rings ends counters run) v hx m e (points-at limits m enters))
+      (subst (PlansFetch p k i steps (row .pointer .0) weights rings ends counters run) v hx m e (points-at limits m enters))
 
   module _ (head : Head) (v : x ≡ Take head) where
-    takes : Takes p k i steps (row .pointer) weights rings ends counters run head
-    takes = takes-of p k i steps (row .pointer) weights rings ends counters run x hx head v
+    takes : Takes p k i steps (row .pointer .0) weights rings ends counters run head
+    takes = takes-of p k i steps (row .pointer .0) weights rings ends counters run x hx head v
 
     -- the ring that the task leaves
     abbrev ring : ℕ
@@ -235,11 +235,11 @@ module _ (p k i steps : ℕ) (row : Row) (weights rings ends : List ℕ) (counte
         ∷ putRow i (fetchedRow p (head .filler .0) (head .task .0) (rowIn m i))
         ∷ [])
 
-    planned : (m : Mem) → stepsWith weights m ≡ steps → rowIn m i .pointer ≡ row .pointer
+    planned : (m : Mem) → stepsWith weights m ≡ steps → pointerIn m i ≡ row .pointer .0
         → fetchRule p k i (before m) ≡ accept (Fetched (head .task)) (updates m)
     unfolding fetchFrom fetchTask counted allSteps
     planned m e h =
-        goes-on p k i (row .pointer) weights rings ends counters run (takes .points) (rules.at (head .filler .0)) (sym (takes .found)) m h
+        goes-on p k i (row .pointer .0) weights rings ends counters run (takes .points) (rules.at (head .filler .0)) (sym (takes .found)) m h
         ∙ rw (
           ← takes .reads,
           ← takes .first,

@@ -43,4 +43,4 @@ Fetches p k i sizes judged row weights rings ends ends' counters counters' run r
 -- the row keeps its words but the hand and the pointer
 abbrev pub HandAndPointer : Row → Stepped → Type 0
 HandAndPointer row (Refused n d) = Unit {0}
-HandAndPointer row (Taken o after) = after ≡ withPointer (after .pointer) (withHand (after .phase) (after .held) row)
+HandAndPointer row (Taken o after) = after ≡ withPointer (after .pointer .0) (withHand (after .phase) (after .held) row)

@@ -10,7 +10,7 @@ use Rattle.task.specs.Types.{engine}
 use Rattle.task.specs.declared.Ends.{Ends}
 use Rattle.ring.specs.Ring.{endWords, Sound, sound, empty, slotAt, endsAt}
 use Rattle.choice.specs.Search.{Found, at, search}
-use Rattle.rules.specs.Memory.{Mem, ringNumber, rowIn}
+use Rattle.rules.specs.Memory.{Mem, ringNumber, pointerIn}
 use Rattle.rules.specs.Words.{counterFits}
 use Rattle.rules.specs.Plans.{refuse}
 use Rattle.rules.specs.Steps.{fetchTask, fetchRule}
@@ -72,7 +72,7 @@ pub record Takes (p k i steps pointer : ℕ) (weights rings ends : List ℕ) (co
 -- the plan of the whole rule, with the pointer of worker i
 unfoldable pub PlansFetch : ℕ → ℕ → ℕ → ℕ → ℕ → List ℕ → List ℕ → List ℕ → List ℤ → List ℕ → FetchPlan → Type 0
 PlansFetch p k i steps pointer weights rings ends counters run (Refused n d) =
-    (m : Mem) → stepsWith weights m ≡ steps → rowIn m i .pointer ≡ pointer
+    (m : Mem) → stepsWith weights m ≡ steps → pointerIn m i ≡ pointer
     → fetchRule p k i (lent m weights rings ends counters run (m .rows)) ≡ refuse n d
 PlansFetch p k i steps pointer weights rings ends counters run (Take head) =
     Takes p k i steps pointer weights rings ends counters run head

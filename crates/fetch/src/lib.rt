@@ -164,7 +164,7 @@ fn fetch_admitted(
         ⌝ }
     ensures { λ r. ⌜ HandAndPointer row r ⌝ }
 {
-    let pointer = WorkerId(row.pointer);
+    let pointer = row.pointer;
     let plan = plan_fetch(
         weights,
         rings,
@@ -188,7 +188,7 @@ fn fetch_admitted(
                 Row {
                     phase: row.phase,
                     held: task,
-                    pointer: next.0,
+                    pointer: next,
                     read: row.read,
                     write: row.write,
                     cursor: row.cursor,

@@ -38,10 +38,11 @@ fn advanced(row: Row, count: u32) -> Row
         cursor = 0;
     }
     let held = row.held;
+    let pointer = row.pointer;
     Row {
         phase: row.phase,
         held,
-        pointer: row.pointer,
+        pointer,
         read,
         write: row.write,
         cursor,

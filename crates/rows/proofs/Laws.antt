@@ -104,7 +104,7 @@ row-words a b ha hb e = ext-getD 0 a b (omega (arith, ha, hb)) (λ i h. at i (om
     at : (i : ℕ) → i < 6 → getD a i 0 ≡ getD b i 0
     at zero h = ap (λ (r : Row). r .phase) e
     at (suc zero) h = ap (λ (r : Row). r .held .0) e
-    at (suc (suc zero)) h = ap (λ (r : Row). r .pointer) e
+    at (suc (suc zero)) h = ap (λ (r : Row). r .pointer .0) e
     at (suc (suc (suc zero))) h = ap (λ (r : Row). r .read) e
     at (suc (suc (suc (suc zero)))) h = ap (λ (r : Row). r .write) e
     at (suc (suc (suc (suc (suc zero))))) h = ap (λ (r : Row). r .cursor) e

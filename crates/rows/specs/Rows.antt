@@ -11,7 +11,7 @@ rowOf cells =
     record {
       phase = getD cells 0 0;
       held = record { 0 = getD cells 1 0 };
-      pointer = getD cells 2 0;
+      pointer = record { 0 = getD cells 2 0 };
       read = getD cells 3 0;
       write = getD cells 4 0;
       cursor = getD cells 5 0;

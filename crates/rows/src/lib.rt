@@ -27,7 +27,7 @@ fn row_of(cells: [u32; 6]) -> Row
     Row {
         phase: cells[PHASE],
         held: TaskId(cells[HELD]),
-        pointer: cells[POINTER],
+        pointer: WorkerId(cells[POINTER]),
         read: cells[READ],
         write: cells[WRITE],
         cursor: cells[CURSOR],

@@ -36,7 +36,7 @@ use Rattle.rules.specs.Desk.{turn, turns, deskRun}
 
 abbrev pub rowOf : ℕ → ℕ → ℕ → ℕ → ℕ → ℕ → Row
 rowOf phase held pointer read write cursor =
-    record { phase = phase; held = record { 0 = held }; pointer = pointer; read = read; write = write; cursor = cursor }
+    record { phase = phase; held = record { 0 = held }; pointer = record { 0 = pointer }; read = read; write = write; cursor = cursor }
 
 -- lists of the right lengths for P workers and K slots, full of other words
 abbrev pub lent : ℕ → ℕ → List ℕ → List ℕ → List ℕ → Mem

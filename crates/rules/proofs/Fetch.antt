@@ -7,7 +7,7 @@ use Rattle.task.specs.Refusals.{damaged, nothingThere}
 use Rattle.ring.specs.Ring.{Empty, empty}
 use Rattle.ring.proofs.Ends.{empty-told}
 use Rattle.choice.specs.Search.{Found, unsound, none, at}
-use Rattle.rules.specs.Memory.{Mem, tasks, ringNumber, endsIn, headWord, counterIn, weightIn, rowIn}
+use Rattle.rules.specs.Memory.{Mem, tasks, ringNumber, endsIn, headWord, counterIn, weightIn, pointerIn}
 use Rattle.rules.specs.Steps.{scan, fetchTask, fetchFrom, fetchRule}
 use Rattle.rules.specs.Tables.{StopsAt, scanned, scannedEnds, NextTask, fetchRows}
 use Rattle.rules.proofs.Plans.{PlanFollows, given-row, passed-row, checked-row, counted-row}
@@ -20,13 +20,13 @@ module _ (p k i : ℕ) (m : Mem) where
   next-unique t u (d, a, h) (e, b, l) = sym h ∙ ap (λ (x : ℕ). headWord k m (scanned p i m x)) (stop-unique p k Empty (scannedEnds p i m) a b) ∙ l
 
   -- what the scan finds, and that it stops where it would
-  pub scan-looked : Looked p k Empty (scannedEnds p i m) (rowIn m i .pointer) (scan p k i m)
+  pub scan-looked : Looked p k Empty (scannedEnds p i m) (pointerIn m i) (scan p k i m)
   unfolding scan
-  scan-looked = search-looked p k (rowIn m i .pointer) Empty empty empty-told (λ j. endsIn m (ringNumber p i j))
+  scan-looked = search-looked p k (pointerIn m i) Empty empty empty-told (λ j. endsIn m (ringNumber p i j))
 
-  pub scan-stops : (e : ℕ) → StopsAt p k Empty (scannedEnds p i m) e → scan p k i m ≡ at ((rowIn m i .pointer + e) % p)
+  pub scan-stops : (e : ℕ) → StopsAt p k Empty (scannedEnds p i m) e → scan p k i m ≡ at ((pointerIn m i + e) % p)
   unfolding scan
-  scan-stops = search-stops p k (rowIn m i .pointer) Empty empty empty-told (λ j. endsIn m (ringNumber p i j))
+  scan-stops = search-stops p k (pointerIn m i) Empty empty empty-told (λ j. endsIn m (ringNumber p i j))
 
   -- the rows after 10, where t is the next task
   task-follows : (j t : ℕ) → NextTask p k i m t → PlanFollows (drop 3 (fetchRows p k i m)) (fetchTask p k i m j t)
@@ -38,7 +38,7 @@ module _ (p k i : ℕ) (m : Mem) where
       counted-row m _ _)))
 
   -- the rows after the pointer's, by what the scan finds
-  from-follows : (f : Found) → Looked p k Empty (scannedEnds p i m) (rowIn m i .pointer) f
+  from-follows : (f : Found) → Looked p k Empty (scannedEnds p i m) (pointerIn m i) f
       → PlanFollows (drop 1 (fetchRows p k i m)) (fetchFrom p k i m f)
   unfolding fetchFrom
   from-follows unsound bad = given-row damaged 0 _ bad
@@ -53,4 +53,4 @@ module _ (p k i : ℕ) (m : Mem) where
 pub fetch-follows : (p k i : ℕ) (m : Mem) → PlanFollows (fetchRows p k i m) (fetchRule p k i m)
 unfolding fetchRule
 fetch-follows p k i m =
-    checked-row _ _ _ (lt-told (rowIn m i .pointer) p) (λ _. from-follows p k i m (scan p k i m) (scan-looked p k i m))
+    checked-row _ _ _ (lt-told (pointerIn m i) p) (λ _. from-follows p k i m (scan p k i m) (scan-looked p k i m))

@@ -26,7 +26,7 @@ use Rattle.ring.specs.Ring.{Empty, Full, headOn, tailOn}
 use Rattle.choice.specs.Least.{load, least}
 use Rattle.choice.proofs.Least.{least-worker}
 use Rattle.choice.specs.Search.{Found, unsound, none, at}
-use Rattle.rules.specs.Memory.{Mem, tasks, edges, ringNumber, headWord, counterIn, degreeIn, succCount, firstSucc, pastSucc, rowIn, held, entriesIn, acceptedIn, oldest, successor}
+use Rattle.rules.specs.Memory.{Mem, tasks, edges, ringNumber, headWord, counterIn, degreeIn, succCount, firstSucc, pastSucc, rowIn, held, pointerIn, entriesIn, acceptedIn, oldest, successor}
 use Rattle.rules.specs.Sizes.{Fits}
 use Rattle.rules.specs.Words.{phaseFits, rangeFits, placesFit, acceptedFits}
 use Rattle.rules.specs.Updates.{Update}
@@ -95,7 +95,7 @@ module _ (m : Mem) where
       record { below = h; rises = leb-true _ _ a; inside = leb-true _ _ b }
 
   module _ (p k i : ℕ) where
-    if-fetched : (f : Found) → rowIn m i .pointer < p → Looked p k Empty (scannedEnds p i m) (rowIn m i .pointer) f
+    if-fetched : (f : Found) → pointerIn m i < p → Looked p k Empty (scannedEnds p i m) (pointerIn m i) f
         → IfAccepted (Counted m (Fetches p k i m)) (fetchFrom p k i m f)
     unfolding fetchFrom fetchTask headOn after
     if-fetched unsound h l = if-refused _ _

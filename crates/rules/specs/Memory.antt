@@ -119,15 +119,18 @@ withHand phase held r =
 
 abbrev pub withPointer : ℕ → Row → Row
 withPointer pointer r =
-    record { phase = r .phase; held = r .held; pointer = pointer; read = r .read; write = r .write; cursor = r .cursor }
+    record { phase = r .phase; held = r .held; pointer = record { 0 = pointer }; read = r .read; write = r .write; cursor = r .cursor }
 
 abbrev pub withPlaces : ℕ → ℕ → ℕ → Row → Row
 withPlaces read write cursor r =
     record { phase = r .phase; held = r .held; pointer = r .pointer; read = read; write = write; cursor = cursor }
 
--- the held task of worker i
+-- the held task of worker i, and its ring pointer
 abbrev pub held : Mem → ℕ → ℕ
 held m i = rowIn m i .held .0
+
+abbrev pub pointerIn : Mem → ℕ → ℕ
+pointerIn m i = rowIn m i .pointer .0
 
 abbrev pub entriesIn : Mem → ℕ
 entriesIn m = getD (m .run) 0 0

@@ -17,7 +17,7 @@ use Rattle.task.specs.declared.StepOutcome.the-variants.{Moved, Fetched, Releas
 use Rattle.task.specs.declared.ReleaseOutcome.the-variants.{DegreeLeft, Placed}
 use Rattle.ring.specs.Ring.{slotAt, Empty, Full}
 use Rattle.choice.specs.Least.{load, Least}
-use Rattle.rules.specs.Memory.{Mem, tasks, edges, ringNumber, endsIn, headWord, counterIn, weightIn, degreeIn, firstSucc, pastSucc, succCount, bufferAt, rowIn, withHand, withPointer, withPlaces, held, entriesIn, acceptedIn, oldest, successor}
+use Rattle.rules.specs.Memory.{Mem, tasks, edges, ringNumber, endsIn, headWord, counterIn, weightIn, degreeIn, firstSucc, pastSucc, succCount, bufferAt, rowIn, withHand, withPointer, withPlaces, held, pointerIn, entriesIn, acceptedIn, oldest, successor}
 use Rattle.rules.specs.Sizes.{Fits}
 use Rattle.rules.specs.Updates.{Update, putDegree, putSlot, putEnds, putCounter, putBuffer, putEntry, putEntries, putAccepted, putRow, written}
 use Rattle.rules.specs.Steps.{step}
@@ -25,14 +25,14 @@ use Rattle.rules.specs.Tables.{Beyond2^30, BadCounter, StopsAt, scanned,
 
 -- "Fetch by i: scan the rings of owner i from the ring pointer upward, modulo P"
 pub record Fetches (p k i : ℕ) (m : Mem) (o : StepOutcome) (us : List Update) : Type 0 where
-  pub pointer : rowIn m i .pointer < p
+  pub pointer : pointerIn m i < p
   -- "the scan stops at the first ring that isn't empty", at this distance, with this number and this filler
   pub distance : ℕ
   pub stop : StopsAt p k Empty (scannedEnds p i m) distance
   pub ring : ℕ
   pub ringIs : ring ≡ scanned p i m distance
   pub filler : ℕ
-  pub fillerIs : filler ≡ (rowIn m i .pointer + distance) % p
+  pub fillerIs : filler ≡ (pointerIn m i + distance) % p
   -- "Take its head, which becomes the held task"
   pub task : ℕ
   pub taskIs : task ≡ headWord k m ring

@@ -21,7 +21,7 @@ use Rattle.graph.specs.Check.{sizesFit}
 use Rattle.ring.specs.Ring.{slotAt, empty, full, headOn, tailOn}
 use Rattle.choice.specs.Least.{load, least}
 use Rattle.choice.specs.Search.{Found, unsound, none, at, search}
-use Rattle.rules.specs.Memory.{Mem, tasks, edges, allEntries, ringNumber, endsIn, headWord, counterIn, weightIn, degreeIn, succCount, bufferAt, rowIn, withHand, withPointer, withPlaces, held, entriesIn, oldest, successor}
+use Rattle.rules.specs.Memory.{Mem, tasks, edges, allEntries, ringNumber, endsIn, headWord, counterIn, weightIn, degreeIn, succCount, bufferAt, rowIn, withHand, withPointer, withPlaces, held, pointerIn, entriesIn, oldest, successor}
 use Rattle.rules.specs.Sizes.{numbersFit, lengthsFit}
 use Rattle.rules.specs.Words.{endsFit, taskFits, phaseFits, pointerFits, counterFits, countersFit, degreeFits, placesFit, joinFits, cursorFits, rangeFits, weightFits, entriesFit}
 use Rattle.rules.specs.Updates.{Update, putDegree, putSlot, putEnds, putCounter, putBuffer, putEntry, putEntries, putRow}
@@ -29,7 +29,7 @@ use Rattle.rules.specs.Plans.{Plan, refuse, require, refuseIf, checked, 
 
 -- "Fetch by i: scan the rings of owner i from the ring pointer upward, modulo P; the scan stops at the first ring that isn't empty."
 unfoldable pub scan : ℕ → ℕ → ℕ → Mem → Found
-scan p k i m = search (λ j. endsFit k m (ringNumber p i j)) (λ j. not (empty (endsIn m (ringNumber p i j)))) (around p (rowIn m i .pointer))
+scan p k i m = search (λ j. endsFit k m (ringNumber p i j)) (λ j. not (empty (endsIn m (ringNumber p i j)))) (around p (pointerIn m i))
 
 -- the row after a Fetch: the head "becomes the held task"; "The pointer becomes the ring after, modulo P."
 abbrev pub fetchedRow : ℕ → ℕ → ℕ → Row → Row
@@ -55,7 +55,7 @@ fetchFrom p k i m none = refuse nothingThere 0
 fetchFrom p k i m (at j) = fetchTask p k i m j (headWord k m (ringNumber p i j))
 
 unfoldable pub fetchRule : ℕ → ℕ → ℕ → Mem → Plan
-fetchRule p k i m = checked (pointerFits p (rowIn m i .pointer)) (fetchFrom p k i m (scan p k i m))
+fetchRule p k i m = checked (pointerFits p (pointerIn m i)) (fetchFrom p k i m (scan p k i m))
 
 -- "Start: the phase alone."
 unfoldable pub startRule : ℕ → Mem → Plan

@@ -24,7 +24,7 @@ use Rattle.graph.specs.Conditions.{Bad, Twice, OnCycle}
 use Rattle.graph.specs.Tables.{Beyond, Heavy}
 use Rattle.ring.specs.Ring.{Sound, Empty, Full}
 use Rattle.choice.specs.Least.{load, Least}
-use Rattle.rules.specs.Memory.{Mem, tasks, edges, graphIn, ringNumber, endsIn, headWord, counterIn, weightIn, degreeIn, firstSucc, pastSucc, succCount, rowIn, held, entriesIn, acceptedIn, oldest, successor}
+use Rattle.rules.specs.Memory.{Mem, tasks, edges, graphIn, ringNumber, endsIn, headWord, counterIn, weightIn, degreeIn, firstSucc, pastSucc, succCount, rowIn, held, pointerIn, entriesIn, acceptedIn, oldest, successor}
 use Rattle.rules.specs.Sizes.{Lengths}
 
 -- 2: "P, K .. beyond its limit": "P from 1 to 16. Each ring has K slots, K from 2 to 64.", 16 and 64 being the engine's limits
@@ -94,7 +94,7 @@ pub record StopsAt (p k : ℕ) (Skip : Ends → Type 0) (ends : ℕ → Ends) (e
 
 -- Fetch's rings "of owner i from the ring pointer upward, modulo P": the ring at distance d, and its ends
 abbrev pub scanned : ℕ → ℕ → Mem → ℕ → ℕ
-scanned p i m d = ringNumber p i ((rowIn m i .pointer + d) % p)
+scanned p i m d = ringNumber p i ((pointerIn m i + d) % p)
 
 abbrev pub scannedEnds : ℕ → ℕ → Mem → ℕ → Ends
 scannedEnds p i m d = endsIn m (scanned p i m d)
@@ -106,7 +106,7 @@ NextTask p k i m t = (e : ℕ) × StopsAt p k Empty (scannedEnds p i m) e × (he
 abbrev pub fetchRows : ℕ → ℕ → ℕ → Mem → List Refusal
 fetchRows p k i m =
     -- 8: "pointer ≥ P"
-    row damaged (only 0 (p ≤ rowIn m i .pointer))
+    row damaged (only 0 (p ≤ pointerIn m i))
     -- 8: "head or tail ≥ K", the rings before it being empty
     ∷ row damaged (only 0 (BadEnds p k Empty (scannedEnds p i m)))
     -- 10: "Fetch: all P rings empty"

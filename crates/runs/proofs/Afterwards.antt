@@ -15,7 +15,7 @@ use Rattle.task.specs.declared.Step.{Step}
 use Rattle.task.specs.declared.Step.the-variants.{Fetch, Start, Complete, Release}
 use Rattle.ring.specs.Ring.{Sound, Empty}
 use Rattle.ring.proofs.Queues.{queue-empty}
-use Rattle.rules.specs.Memory.{Mem, graphIn, ringNumber, endsIn, ringsIn, degreeIn, rowIn}
+use Rattle.rules.specs.Memory.{Mem, graphIn, ringNumber, endsIn, ringsIn, degreeIn, rowIn, pointerIn}
 use Rattle.rules.specs.Sizes.{Fits}
 use Rattle.rules.specs.Steps.{step}
 use Rattle.rules.specs.Tables.{GoesOn, scannedEnds, ownRows}
@@ -108,7 +108,7 @@ module _ (r : Run) (f : Finished r) where
 
     -- the scan finds all P rings empty
     pub scan-none : GoesOn k Empty (scannedEnds p i now) p
-    scan-none d h = ring-empty i ((rowIn now i .pointer + d) % p) worker (mod-lt (rowIn now i .pointer + d) (honest-run r .fits .limits .oneWorker))
+    scan-none d h = ring-empty i ((pointerIn now i + d) % p) worker (mod-lt (pointerIn now i + d) (honest-run r .fits .limits .oneWorker))
 
     -- with all limits that the run keeps
     pub finished-says : (limits : Limits) → KeptBy limits r

@@ -58,7 +58,7 @@ module _ (p k : ℕ) (m b : Mem) (positive : 0 < p) (sound : Sound (graphIn m)) 
 
   fresh-in : (i : ℕ) → threadIn b i ≡ fresh
   unfolding threadIn
-  fresh-in i = rw (empty-buffer i) (ap (λ (r : Row). threadWith [] (r .cursor) (r .phase) (r .held .0) (r .pointer)) (laid-row laid i))
+  fresh-in i = rw (empty-buffer i) (ap (λ (r : Row). threadWith [] (r .cursor) (r .phase) (r .held .0) (r .pointer .0)) (laid-row laid i))
 
   laid-thread : (i : ℕ) → threadOf (stateOf p k b) i ≡ fresh
   laid-thread i = go (decLt i p)

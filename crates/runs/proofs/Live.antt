@@ -23,7 +23,7 @@ use Rattle.task.specs.declared.StepOutcome.the-variants.{Moved, Fetched}
 use Rattle.ring.specs.Ring.{Empty, ringsOf, takenAt, queue}
 use Rattle.ring.proofs.Queues.{queue-empty, queue-take}
 use Rattle.choice.specs.Search.{Found, unsound, none, at}
-use Rattle.rules.specs.Memory.{Mem, tasks, edges, ringNumber, endsIn, ringsIn, headWord, counterIn, succCount, rowIn, held, entriesIn, acceptedIn}
+use Rattle.rules.specs.Memory.{Mem, tasks, edges, ringNumber, endsIn, ringsIn, headWord, counterIn, succCount, rowIn, held, pointerIn, entriesIn, acceptedIn}
 use Rattle.rules.specs.Updates.{Update}
 use Rattle.rules.specs.Steps.{scan, step}
 use Rattle.rules.specs.Tables.{Beyond2^30, GoesOn, BadEnds, StopsAt, scanned, scannedEnds, NextTask}
@@ -63,7 +63,7 @@ module _ {limits : Limits} {p k : ℕ} {m : Mem} (h : Honest limits p k m) (i : 
   row-held a e =
       sym (ap (λ (r : Thread). r .held) (thread-at p k m i worker)) ∙ running-held (threadOf state i) a (thread-phase (running a) e) e
 
-  pub row-pointer : rowIn m i .pointer < p
+  pub row-pointer : pointerIn m i < p
   unfolding threadIn
   row-pointer = rw (ap (λ (r : Thread). r .pointer) (thread-at p k m i worker)) at (h .sane .pointers i worker)
 
@@ -96,11 +96,11 @@ module _ {limits : Limits} {p k : ℕ} {m : Mem} (h : Honest limits p k m) (i : 
   -- so the next task waits
   pub next-waits : (t : ℕ) → NextTask p k i m t → 0 < occ t (waitingFor p state i)
   next-waits t (e, stop, q) =
-      rw q at (head-waits ((rowIn m i .pointer + e) % p) (mod-lt (rowIn m i .pointer + e) (h .fits .limits .oneWorker)) (stop .stops))
+      rw q at (head-waits ((pointerIn m i + e) % p) (mod-lt (pointerIn m i + e) (h .fits .limits .oneWorker)) (stop .stops))
 
   -- the scan comes to no damaged ends
   pub scan-sound : ¬ (BadEnds p k Empty (scannedEnds p i m))
-  scan-sound (e, near, on, bad) = bad (ends-sound h i worker ((rowIn m i .pointer + e) % p) (mod-lt (rowIn m i .pointer + e) (h .fits .limits .oneWorker)))
+  scan-sound (e, near, on, bad) = bad (ends-sound h i worker ((pointerIn m i + e) % p) (mod-lt (pointerIn m i + e) (h .fits .limits .oneWorker)))
 
   -- where a task waits, the scan stops
   scan-stops-at : ¬ (waitingFor p state i ≡ []) → (e : ℕ) × StopsAt p k Empty (scannedEnds p i m) e
@@ -108,10 +108,10 @@ module _ {limits : Limits} {p k : ℕ} {m : Mem} (h : Honest limits p k m) (i : 
     where
       all-empty : GoesOn k Empty (scannedEnds p i m) p → (j : ℕ) → j < p → queueOf state i j ≡ []
       all-empty all j l =
-          let (d, near, e) = mod-reached p (rowIn m i .pointer) j row-pointer l in
+          let (d, near, e) = mod-reached p (pointerIn m i) j row-pointer l in
           list-empty j l (rw e at (all d near .1))
 
-      go : (f : Found) → Looked p k Empty (scannedEnds p i m) (rowIn m i .pointer) f → (e : ℕ) × StopsAt p k Empty (scannedEnds p i m) e
+      go : (f : Found) → Looked p k Empty (scannedEnds p i m) (pointerIn m i) f → (e : ℕ) × StopsAt p k Empty (scannedEnds p i m) e
       go unsound bad = absurd (scan-sound bad)
       go none all = absurd (some (lists-empty p state i (all-empty all)))
       go (at j) (e, stop, q) = (e, stop)
@@ -172,7 +172,7 @@ module _ {limits : Limits} {p k : ℕ} {m : Mem} (h : Honest limits p k m) (i : 
                 stop = stop;
                 ring = scanned p i m e;
                 ringIs = refl;
-                filler = (rowIn m i .pointer + e) % p;
+                filler = (pointerIn m i + e) % p;
                 fillerIs = refl;
                 task = headWord k m (scanned p i m e);
                 taskIs = refl;

@@ -9,7 +9,7 @@ nil = record { 0 = 65535 }
 
 -- a worker's row as begin leaves it: "Everything is zeroed ..; held tasks become NIL"
 abbrev pub idle : Row
-idle = record { phase = 0; held = nil; pointer = 0; read = 0; write = 0; cursor = 0 }
+idle = record { phase = 0; held = nil; pointer = record { 0 = 0 }; read = 0; write = 0; cursor = 0 }
 
 -- "N at most 1,024. E edges, at most 8,192. .. P from 1 to 16. Each ring has K slots, K from 2 to 64"
 abbrev pub engine : Limits

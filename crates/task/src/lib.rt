@@ -45,7 +45,7 @@ impl WorkerId {
 pub struct Row {
     pub phase: u32,
     pub held: TaskId,
-    pub pointer: u32,
+    pub pointer: WorkerId,
     pub read: u32,
     pub write: u32,
     pub cursor: u32,
@@ -59,7 +59,7 @@ impl Row {
         Row {
             phase: 0,
             held: TaskId::NIL,
-            pointer: 0,
+            pointer: WorkerId(0),
             read: 0,
             write: 0,
             cursor: 0,

@@ -27,10 +27,10 @@ returns-2 c =
 
 returns-3 : tie.Need-returns-3
 returns-3 c =
-    phase-suits (c .before .before .before .before .before .before .args .row) _
-    (c .before .before .before .before .before .if1 .left) _
-    (c .before .before .before .before .next-phase .ensures) _
-    (c .before .before .next .given .1)
+    phase-suits (c .before .before .before .before .before .before .before .args .row) _
+    (c .before .before .before .before .before .before .if1 .left) _
+    (c .before .before .before .before .before .next-phase .ensures) _
+    (c .before .before .before .next .given .1)
 
 pub admit-phase-spec : {M : Type 1} → statement M
 admit-phase-spec =

@@ -25,7 +25,7 @@ same-length : tie.Need-same-length
 same-length c = search needs
 
 returns-2 : tie.Need-returns-2
-returns-2 c = two-stored _ _ _ (c .before .before .before .before .before .before .before .before .before .before .pre .0) (c .before .before .before .before .before .before .before .before .before .before .pre .1 .0) _ _ _ (c .before .before .before .before .before .before .before .before .stepped2 .given .1) (withHand ((c .before .before .before .before .before .before .before .before .stepped2 .given .0 .1 .0) .phase) ((c .before .before .before .before .before .before .before .before .stepped2 .given .0 .1 .0) .held)) (withPointer ((c .before .before .before .before .before .before .before .before .stepped2 .given .0 .1 .0) .pointer)) (subst (HandAndPointer (c .before .before .before .before .before .before .before .before .before .before .args .row)) (c .before .before .before .before .before .before .before .before .stepped2 .given .1) (c .before .before .before .before .before .before .before .before .before .before .pre .1 .1)) _ _ (c .before .before .before .before .set-hand .ensures) (c .before .set-pointer .ensures)
+returns-2 c = two-stored _ _ _ (c .before .before .before .before .before .before .before .before .before .before .pre .0) (c .before .before .before .before .before .before .before .before .before .before .pre .1 .0) _ _ _ (c .before .before .before .before .before .before .before .before .stepped2 .given .1) (withHand ((c .before .before .before .before .before .before .before .before .stepped2 .given .0 .1 .0) .phase) ((c .before .before .before .before .before .before .before .before .stepped2 .given .0 .1 .0) .held)) (withPointer ((c .before .before .before .before .before .before .before .before .stepped2 .given .0 .1 .0) .pointer .0)) (subst (HandAndPointer (c .before .before .before .before .before .before .before .before .before .before .args .row)) (c .before .before .before .before .before .before .before .before .stepped2 .given .1) (c .before .before .before .before .before .before .before .before .before .before .pre .1 .1)) _ _ (c .before .before .before .before .set-hand .ensures) (c .before .set-pointer .ensures)
 
 pub store-fetched-spec : {M : Type 1} → statement M
 store-fetched-spec =

@@ -17,15 +17,15 @@ take-head-requires : tie.Need-take-head-requires
 take-head-requires c κs =
     fetch-ready _ _ _ _ _ _ _ _ _ _ _ (c .before .before .before .before .before .before .plan-fetch .ensures) _
     (c .before .before .before .before .plan2 .given .1)
-    (c .before .before .before .before .before .before .before .before .before .before .before .before .before .before .pre .0)
-    (c .before .before .before .before .before .before .before .before .before .before .before .before .before .before .pre .1)
+    (c .before .before .before .before .before .before .before .before .before .before .before .before .before .before .before .pre .0)
+    (c .before .before .before .before .before .before .before .before .before .before .before .before .before .before .before .pre .1)
 
 after-worker-requires : tie.Need-after-worker-requires
 after-worker-requires c κs = (
   fetch-filler _ _ _ _ _ _ _ _ _ _ _
       (c .before .before .before .before .before .before .before .before .before .before .before .before .before .plan-fetch .ensures) _
       (c .before .before .before .before .before .before .before .before .before .before .before .plan2 .given .1),
-  c .before .before .before .before .before .before .before .before .before .before .before .before .before .before .before .before .before .before .before .before .before .pre .0 .ready .fewWorkers,
+  c .before .before .before .before .before .before .before .before .before .before .before .before .before .before .before .before .before .before .before .before .before .before .pre .0 .ready .fewWorkers,
 )
 
 same-length : tie.Need-same-length

@@ -16,7 +16,7 @@ returns c = (
   ⊎-elim
       (λ w. advance-last _ _ _ _ (w .0 .taken) (w .1) (w .2))
       (λ w. advance-on _ _ _ _ (w .0 .left) (w .1) (w .2))
-      (c .before .if1 .came),
+      (c .before .before .if1 .came),
   refl,
 )
 
