@@ -51,7 +51,7 @@ fn row(words: [u32; 6]) -> Row {
     Row {
         phase,
         held,
-        pointer,
+        pointer: WorkerId::new(pointer),
         read,
         write,
         cursor,
@@ -156,7 +156,7 @@ fn steps_read_the_fields_of_a_row_by(by: Calls) {
     let damages: [fn(&mut Row); 6] = [
         |row| row.phase = 3,
         |row| row.held = 4,
-        |row| row.pointer = P as u32,
+        |row| row.pointer = WorkerId::new(P as u32),
         |row| row.read = 2,
         |row| row.write = 5,
         |row| row.cursor = 2,

@@ -20,7 +20,7 @@ pub struct Entry {
 pub(crate) struct Row {
     pub phase: u32,
     pub held: u32,
-    pub pointer: u32,
+    pub pointer: WorkerId,
     pub read: u32,
     pub write: u32,
     pub cursor: u32,
@@ -124,13 +124,14 @@ impl Row {
     const UNWRITTEN: Row = Row {
         phase: UNWRITTEN,
         held: UNWRITTEN,
-        pointer: UNWRITTEN,
+        pointer: WorkerId::new(UNWRITTEN),
         read: UNWRITTEN,
         write: UNWRITTEN,
         cursor: UNWRITTEN,
     };
 
     fn words(self) -> [u32; 6] {
-        [self.phase, self.held, self.pointer, self.read, self.write, self.cursor]
+        let pointer = self.pointer.number();
+        [self.phase, self.held, pointer, self.read, self.write, self.cursor]
     }
 }

@@ -248,7 +248,7 @@ impl<C: Caller> JobOf<C> {
     /// # Ok::<(), Refusal>(())
     /// ```
     pub fn pointer(&self, worker: WorkerId) -> Option<WorkerId> {
-        self.row(worker).map(|row| WorkerId::new(row.pointer))
+        self.row(worker).map(|row| row.pointer)
     }
 
     /// The tasks that the worker has completed and whose successors aren't all released yet, oldest first. None if there

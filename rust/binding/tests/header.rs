@@ -64,7 +64,7 @@ type Functions = BTreeMap<String, (Vec<Parameter>, String)>;
 fn in_c(of: &str) -> &'static str {
     match of {
         "u8" => "uint8_t",
-        "u32" | "TaskId" => "uint32_t",
+        "u32" | "TaskId" | "WorkerId" => "uint32_t",
         "i32" => "int32_t",
         "usize" => "size_t",
         // a row is lent as its cell of six words, the same memory
