@@ -37,7 +37,7 @@ abbrev pub afterTurns : ℕ → Mem → State
 afterTurns n m = deskState (turns engine 2 4 n 0 m)
 
 -- a state of the diamond: "`0 0 0`, `1 5 1 0`, `2 3 1 0`, `3 0 2 1 2`", so edges 0→1, 0→2, 1→3, 2→3
-abbrev pub diamondState : List ℕ → List (List (List ℕ)) → List (List ℤ) → List Thread → List Entry → State
+abbrev pub diamondState : List ℕ → List (List (List ℕ)) → List (List ℤ) → List Thread → List (Entry ℕ) → State
 diamondState = stateWith (0 ∷ 5 ∷ 3 ∷ 0 ∷ []) ((1 ∷ 2 ∷ []) ∷ (3 ∷ []) ∷ (3 ∷ []) ∷ [] ∷ [])
 
 -- a thread between two tasks: "held becomes NIL"

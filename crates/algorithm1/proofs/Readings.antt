@@ -14,11 +14,13 @@ use Rattle.choice.specs.Least.{load}
 use Rattle.graph.specs.Graph.{part}
 use Rattle.rules.specs.Memory.{Mem, tasks, edges, ringNumber, counterIn, degreeIn, firstSucc, succCount, rowIn}
 use Rattle.rules.specs.Moves.{Ranged}
+use Rattle.algorithm1.specs.Items as items
 use Rattle.algorithm1.specs.State.{Thread, stateWith, degreeOf, successorsOf, queueOf, counterOf, workload, fresh, threadOf}
 use Rattle.algorithm1.specs.Reading.{queueIn, threadIn, successorsIn, stateOf}
 
 -- states whose seven parts agree
-pub state-same : {w w′ : List ℕ} {s s′ : List (List ℕ)} {d d′ : List ℕ} {q q′ : List (List (List ℕ))} {c c′ : List (List ℤ)} {t t′ : List Thread} {x x′ : List Entry}
+pub state-same : {A : Type 0} {w w′ : List ℕ} {s s′ : List (List ℕ)} {d d′ : List ℕ} {q q′ : List (List (List A))} {c c′ : List (List ℤ)}
+    {t t′ : List (items.Thread A)} {x x′ : List (Entry A)}
     → w ≡ w′ → s ≡ s′ → d ≡ d′ → q ≡ q′ → c ≡ c′ → t ≡ t′ → x ≡ x′ → stateWith w s d q c t x ≡ stateWith w′ s′ d′ q′ c′ t′ x′
 state-same ew es ed eq ec et ex = rw (ew, es, ed, eq, ec, et, ex) refl
 

@@ -21,6 +21,7 @@ use Rattle.task.specs.declared.StepOutcome.{StepOutcome}
 use Rattle.task.specs.declared.StepOutcome.the-variants.{Moved, Fetched, Released}
 use Rattle.task.specs.declared.ReleaseOutcome.the-variants.{DegreeLeft, Placed}
 use Rattle.choice.specs.Least.{Least}
+use Rattle.algorithm1.specs.Items as items
 use Rattle.algorithm1.specs.State.{Thread, threadWith, State, stateWith, weightOf, degreeOf, successorsOf, queueOf, counterOf, workload, threadOf}
 
 -- "in a round robin fashion": of the numbers below P, from `start` upward, modulo P, x is the first that is as `Is` says
@@ -31,28 +32,28 @@ pub record First (p : ℕ) (Is : ℕ → Type 0) (start x : ℕ) : Type 0 where
   pub is : Is x
   pub before : (d : ℕ) → d < distance → ¬ (Is ((start + d) % p))
 
--- the state with another thread, counter, circular list or degree
-abbrev pub withThread : ℕ → Thread → State → State
+-- The state with another thread, counter, circular list or degree, or with one entry more: its items are of any type.
+abbrev pub withThread : {A : Type 0} → ℕ → items.Thread A → items.State A → items.State A
 withThread i t s = stateWith (s .weights) (s .successors) (s .degrees) (s .queues) (s .counters) (set (s .threads) i t) (s .executed)
 
-abbrev pub withDegree : ℕ → ℕ → State → State
+abbrev pub withDegree : {A : Type 0} → ℕ → ℕ → items.State A → items.State A
 withDegree t d s = stateWith (s .weights) (s .successors) (set (s .degrees) t d) (s .queues) (s .counters) (s .threads) (s .executed)
 
-abbrev pub withQueue : ℕ → ℕ → List ℕ → State → State
+abbrev pub withQueue : {A : Type 0} → ℕ → ℕ → List A → items.State A → items.State A
 withQueue i j l s = stateWith (s .weights) (s .successors) (s .degrees) (withCell (s .queues) i j l) (s .counters) (s .threads) (s .executed)
 
 -- W_i^j = W_i^j + w_T
-abbrev pub addWeight : ℕ → ℕ → ℕ → State → State
+abbrev pub addWeight : {A : Type 0} → ℕ → ℕ → ℕ → items.State A → items.State A
 addWeight i j t s =
     stateWith (s .weights) (s .successors) (s .degrees) (s .queues) (withCell (s .counters) i j (counterOf s i j +ℤ pos (weightOf s t))) (s .threads) (s .executed)
 
 -- W_i^j = W_i^j − w_T
-abbrev pub takeWeight : ℕ → ℕ → ℕ → State → State
+abbrev pub takeWeight : {A : Type 0} → ℕ → ℕ → ℕ → items.State A → items.State A
 takeWeight i j t s =
     stateWith (s .weights) (s .successors) (s .degrees) (s .queues) (withCell (s .counters) i j (counterOf s i j -ℤ pos (weightOf s t))) (s .threads) (s .executed)
 
 -- the thread with task T′ in hand, once it has been fetched from list j: "The pointer becomes the ring after, modulo P."
-abbrev pub holding : ℕ → ℕ → ℕ → Thread → Thread
+abbrev pub holding : {A : Type 0} → ℕ → ℕ → A → items.Thread A → items.Thread A
 holding p j t r = threadWith (r .buffer) (r .cursor) 1 t ((j + 1) % p)
 
 -- {Fetch module}
@@ -72,7 +73,7 @@ pub record Fetches (p i : ℕ) (s s′ : State) (o : StepOutcome) : Type 0 where
   pub outcome : o ≡ Fetched (record { 0 = task })
 
 -- {Execute module}: document 01's Start and Complete are the two ends of line 17, "execute T′". Start moves "the phase alone".
-abbrev pub executing : Thread → Thread
+abbrev pub executing : {A : Type 0} → items.Thread A → items.Thread A
 executing r = threadWith (r .buffer) (r .cursor) 2 (r .held) (r .pointer)
 
 pub record Starts (i : ℕ) (s s′ : State) (o : StepOutcome) : Type 0 where
@@ -92,7 +93,7 @@ abbrev pub completed : List ℕ → Thread → Thread
 completed successors r = threadWith (buffered successors (r .held) (r .buffer)) (r .cursor) 0 (nil .0) (r .pointer)
 
 -- "(task, i) joins the record"
-abbrev pub withEntry : ℕ → ℕ → State → State
+abbrev pub withEntry : {A : Type 0} → A → ℕ → items.State A → items.State A
 withEntry t i s = stateWith (s .weights) (s .successors) (s .degrees) (s .queues) (s .counters) (s .threads) (s .executed ++ (entryOf t i ∷ []))
 
 pub record Completes (i : ℕ) (s s′ : State) (o : StepOutcome) : Type 0 where
@@ -105,7 +106,7 @@ pub record Completes (i : ℕ) (s s′ : State) (o : StepOutcome) : Type 0 where
 -- {Completed Task ID buffer & Allocate module}
 -- after one pass of line 6 the cursor is on the next successor; after the last the task leaves the buffer, its share of line 13:
 -- "Completed Task ID buffer = φ"
-abbrev pub passed : ℕ → List ℕ → Thread → Thread
+abbrev pub passed : {A : Type 0} → ℕ → List ℕ → items.Thread A → items.Thread A
 passed count rest r =
     cond (eqb (r .cursor + 1) count) (threadWith rest 0 (r .phase) (r .held) (r .pointer))
     (threadWith (r .buffer) (r .cursor + 1) (r .phase) (r .held) (r .pointer))
@@ -124,7 +125,7 @@ pub record Passes (i : ℕ) (s : State) (T : ℕ) (r : Thread) : Type 0 where
   pub thread : r ≡ passed (length (successorsOf s oldest)) rest (threadOf s i)
 
 -- line 7: "d_T = d_T − 1", and the thread goes on
-abbrev pub lowered : ℕ → ℕ → Thread → State → State
+abbrev pub lowered : {A : Type 0} → ℕ → ℕ → items.Thread A → items.State A → items.State A
 lowered i T r s = withThread i r (withDegree T (degreeOf s T - 1) s)
 
 -- line 8: "if d_T = 0", and it isn't

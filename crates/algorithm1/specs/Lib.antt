@@ -1,3 +1,4 @@
+pub mod Items
 pub mod State
 pub mod Algorithm
 pub mod Reading

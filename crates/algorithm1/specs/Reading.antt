@@ -28,10 +28,10 @@ unfoldable pub threadIn : Mem → ℕ → Thread
 threadIn m i = threadWith (bufferIn m i) (rowIn m i .cursor) (rowIn m i .phase) (held m i) (pointerIn m i)
 
 -- entry n of the record, and as many as the entries word says; none where that is over N
-abbrev pub entryIn : Mem → ℕ → Entry
+abbrev pub entryIn : Mem → ℕ → Entry ℕ
 entryIn m n = entryOf (getD (m .executed) (2 * n) 0) (getD (m .executed) (2 * n + 1) 0)
 
-unfoldable pub recordIn : Mem → List Entry
+unfoldable pub recordIn : Mem → List (Entry ℕ)
 recordIn m = cond (leb (entriesIn m) (tasks m)) (tabulate (entriesIn m) (entryIn m)) []
 
 -- task t's successors: its part of the lent successor table; none where the range falls, and of one past the table what the table has

@@ -32,7 +32,7 @@ use Rattle.algorithm1.specs.State.{threadWith, successorsOf, queueOf, fresh, th
 use Rattle.algorithm1.specs.Reading.{bufferIn, threadIn, recordIn, successorsIn, stateOf}
 use Rattle.algorithm1.proofs.Readings.{successors-at, queue-at, thread-at}
 use Rattle.system.specs.System as system
-use Rattle.runs.specs.Counters.{handOf}
+use Rattle.runs.specs.Items.{handOf}
 use Rattle.runs.proofs.Invariant.{itemsOf, state-shaped, followers, pendingOf, tasksOf, meaning, Buffered, Sane}
 
 -- a job's items are all its tasks

@@ -37,7 +37,7 @@ use Rattle.system.proofs.Finished.{finished-record}
 use Rattle.system.proofs.Plain.{Plain, plain-steps, plain-below}
 use Rattle.system.proofs.Progress.{progress, held-wanted, waiting-wanted, pending-blocked}
 use Rattle.runs.specs.Calls.{Run, KeptBy, memoryOf}
-use Rattle.runs.specs.Counters.{handOf}
+use Rattle.runs.specs.Items.{handOf}
 use Rattle.runs.specs.Demand.{Finished, taskWord, orderOf, AllowedOrder, nextSays, OneRun, Agree, OneGraph, Exchanges, Demand3}
 use Rattle.runs.proofs.Invariant.{itemsOf, pendingOf, meaning}
 use Rattle.runs.proofs.Calls.{graph-reached, tasks-reached, edges-reached, begun-within}

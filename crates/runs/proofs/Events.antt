@@ -29,25 +29,25 @@ two-more x = omega arith
 two-more-one : (x : ℕ) → 2 * suc x + 1 ≡ suc (suc (2 * x + 1))
 two-more-one x = omega arith
 
-length-words : (es : List Entry) → length (wordsOf es) ≡ 2 * length es
+length-words : (es : List (Entry ℕ)) → length (wordsOf es) ≡ 2 * length es
 unfolding wordsOf
 length-words [] = refl
 length-words (e ∷ es) = omega (arith, length-words es)
 
-words-task : (es : List Entry) (x d : ℕ) → x < length es → getD (wordsOf es) (2 * x) d ≡ getD (tasksOf es) x d
+words-task : (es : List (Entry ℕ)) (x d : ℕ) → x < length es → getD (wordsOf es) (2 * x) d ≡ getD (tasksOf es) x d
 unfolding wordsOf tasksOf
 words-task [] x d h = absurd (omega arith)
 words-task (e ∷ es) zero d h = refl
 words-task (e ∷ es) (suc x) d h = ap (λ (n : ℕ). getD (wordsOf (e ∷ es)) n d) (two-more x) ∙ words-task es x d (omega arith)
 
-words-worker : (es : List Entry) (x d : ℕ) → x < length es → getD (wordsOf es) (2 * x + 1) d ≡ getD es x none .worker
+words-worker : (es : List (Entry ℕ)) (x d : ℕ) → x < length es → getD (wordsOf es) (2 * x + 1) d ≡ getD es x none .worker
 unfolding wordsOf
 words-worker [] x d h = absurd (omega arith)
 words-worker (e ∷ es) zero d h = refl
 words-worker (e ∷ es) (suc x) d h = ap (λ (n : ℕ). getD (wordsOf (e ∷ es)) n d) (two-more-one x) ∙ words-worker es x d (omega arith)
 
 -- the first n pairs of words, read as entries
-abbrev pairAt : List ℕ → ℕ → Entry
+abbrev pairAt : List ℕ → ℕ → Entry ℕ
 pairAt l x = entryOf (getD l (2 * x) 0) (getD l (2 * x + 1) 0)
 
 words-pairs : (n : ℕ) (l : List ℕ) → 2 * n ≤ length l → wordsOf (tabulate n (pairAt l)) ≡ take (2 * n) l
@@ -56,7 +56,7 @@ words-pairs zero l h = refl
 words-pairs (suc n) [] h = absurd (omega arith)
 words-pairs (suc n) (a ∷ []) h = absurd (omega arith)
 words-pairs (suc n) (a ∷ b ∷ l) h =
-    ap (λ (es : List Entry). a ∷ b ∷ wordsOf es)
+    ap (λ (es : List (Entry ℕ)). a ∷ b ∷ wordsOf es)
     (tabulate-same n (λ x. pairAt (a ∷ b ∷ l) (suc x)) (pairAt l) (λ x m. rw (two-more-one x, two-more x)))
     ∙ ap (λ (k : List ℕ). a ∷ b ∷ k) (words-pairs n l (omega arith))
     ∙ ap (λ (k : ℕ). take k (a ∷ b ∷ l)) (sym (two-more n))
@@ -110,7 +110,7 @@ module _ (r : Run) where
       record {
         run = two-words (now .run) (fits .lengths .others .run) ∙ rw (entries-word, accepted-word);
         rest = others;
-        record-begins = record-first ∙ ap (λ (es : List Entry). wordsOf es ++ others) (recounts .executed);
+        record-begins = record-first ∙ ap (λ (es : List (Entry ℕ)). wordsOf es ++ others) (recounts .executed);
         record-size = fits .lengths .others .executed ∙ ap (λ (n : ℕ). 2 * n) (tasks-reached r);
         weights = weights-reached r;
         predStarts = starts-reached r;
@@ -143,7 +143,7 @@ module _ (r : Run) where
       word =
           record-word (2 * x + 1) (nil .0) (omega (arith, below))
           ∙ words-worker (recordIn now) x (nil .0) (omega (arith, below, length-record))
-          ∙ ap (λ (es : List Entry). getD es x none .worker) (recounts .executed)
+          ∙ ap (λ (es : List (Entry ℕ)). getD es x none .worker) (recounts .executed)
 
   -- no run has more than N accepted Completes
   pub at-most-all : acceptedCompletes (eventsOf r) ≤ tasks (r .lent)

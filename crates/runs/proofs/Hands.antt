@@ -1,4 +1,4 @@
--- What a thread has in hand, told from its phase and its held task.
+-- What a thread has in hand, told from its phase and its held item.
 use Prim.Native.Nat.{ℕ, _≤_}
 use mathlib.Core.Path.{_≡_, sym, ap, _∙_}
 use mathlib.Core.List.{[], _∷_}
@@ -6,11 +6,11 @@ use native.Mathlib.Omega.{arith}
 use native.Mathlib.Decide.{ℕ-discrete}
 use borrow.Author.Tests.{ne-eqb}
 use Rattle.lists.proofs.Appends.{head-same}
-use Rattle.algorithm1.specs.State.{Thread}
+use Rattle.algorithm1.specs.Items.{Thread}
 use Rattle.system.specs.Stages.{Hand, idle, fetched, running, inHand, phase}
-use Rattle.runs.specs.Counters.{handOf}
+use Rattle.runs.specs.Items.{handOf}
 
-module _ (r : Thread) where
+module _ {A : Type 0} (r : Thread A) where
   -- in each phase
   pub hand-idle : _≡_ {A = ℕ} (r .phase) 0 → handOf r ≡ idle
   unfolding handOf
@@ -24,7 +24,7 @@ module _ (r : Thread) where
   unfolding handOf
   hand-running e = rw e
 
-  -- a thread that isn't idle has its held task in hand
+  -- a thread that isn't idle has its held item in hand
   pub hand-holds : ¬ (_≡_ {A = ℕ} (r .phase) 0) → inHand (handOf r) ≡ r .held ∷ []
   unfolding handOf
   hand-holds n = go (ℕ-discrete (r .phase) 1)
@@ -37,14 +37,14 @@ module _ (r : Thread) where
   pub hand-phase : r .phase ≤ 2 → r .phase ≡ phase (handOf r)
   hand-phase h = go (ℕ-discrete (r .phase) 0) (ℕ-discrete (r .phase) 1)
     where
-      of : {x : Hand ℕ} → handOf r ≡ x → phase (handOf r) ≡ phase x
-      of e = ap (λ (x : Hand ℕ). phase x) e
+      of : {x : Hand A} → handOf r ≡ x → phase (handOf r) ≡ phase x
+      of e = ap (λ (x : Hand A). phase x) e
 
       go : Dec (r .phase ≡ 0) → Dec (r .phase ≡ 1) → r .phase ≡ phase (handOf r)
       go (yes e) _ = e ∙ sym (of (hand-idle e))
       go (no n) (yes e) = e ∙ sym (of (hand-fetched e))
       go (no n) (no l) = let e : _≡_ {A = ℕ} (r .phase) 2 = omega (arith, h, n, l) in e ∙ sym (of (hand-running e))
 
-  -- the running task is the held one
-  pub running-held : (a : ℕ) → _≡_ {A = ℕ} (r .phase) 2 → handOf r ≡ running a → r .held ≡ a
-  running-held a e h = head-same (ap (λ (x : Hand ℕ). inHand x) (sym (hand-running e) ∙ h))
+  -- the running item is the held one
+  pub running-held : (a : A) → _≡_ {A = ℕ} (r .phase) 2 → handOf r ≡ running a → r .held ≡ a
+  running-held a e h = head-same (ap (λ (x : Hand A). inHand x) (sym (hand-running e) ∙ h))

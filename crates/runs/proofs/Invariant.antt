@@ -10,38 +10,45 @@ use Rattle.lists.specs.Lists.{occ}
 use Rattle.lists.specs.Sums.{sumTo, sumOf}
 use Rattle.lists.proofs.Blocks.{length-tabulate}
 use Rattle.lists.proofs.Squares.{Even, square-even}
+use Rattle.task.specs.Types.{nil}
 use Rattle.task.specs.Entries.{Entry}
 use Rattle.graph.specs.Graph.{Graph, predsOf}
 use Rattle.graph.specs.Successors.{succsOf}
 use Rattle.ring.specs.Ring.{Sound}
 use Rattle.rules.specs.Memory.{Mem, tasks, ringNumber, endsIn, counterIn, rowIn, entriesIn}
-use Rattle.algorithm1.specs.State.{Thread, State, degreeOf, successorsOf, waitingFor, threadOf}
+use Rattle.algorithm1.specs.Items as items
+use Rattle.algorithm1.specs.State.{State, degreeOf, successorsOf, waitingFor, threadOf}
 use Rattle.algorithm1.specs.Reading.{queueIn, threadIn, stateOf}
+use Rattle.system.specs.Stages.{Stages}
 use Rattle.system.specs.System as system
-use Rattle.runs.specs.Counters.{handOf}
+use Rattle.runs.specs.Items.{handOf}
 
 -- a job's items are its tasks
 abbrev pub itemsOf : Graph → system.Items ℕ
 itemsOf g = record { want = λ t. tally (decLt t (g .tasks)); preds = predsOf g; succs = succsOf g }
 
--- the successors of a list of tasks, one task's after the other's
-unfoldable pub followers : State → List ℕ → List ℕ
+-- the successors of a list of tasks, one task's after the other's; the state's items are of any type
+unfoldable pub followers : {A : Type 0} → items.State A → List ℕ → List ℕ
 followers s [] = []
 followers s (t ∷ ts) = successorsOf s t ++ followers s ts
 
 -- those that a thread has yet to release
-unfoldable pub pendingOf : State → Thread → List ℕ
+unfoldable pub pendingOf : {A : Type 0} → items.State A → items.Thread A → List ℕ
 pendingOf s r = drop (r .cursor) (followers s (r .buffer))
 
-unfoldable pub tasksOf : List Entry → List ℕ
+unfoldable pub tasksOf : {A : Type 0} → List (Entry A) → List A
 tasksOf [] = []
-tasksOf (e ∷ es) = e .task ∷ tasksOf es
+tasksOf (e ∷ es) = e .item ∷ tasksOf es
 
--- with the number of steps accepted so far; all successors of a recorded task have fallen due
+-- where the items stand
+abbrev pub stagesOf : {A : Type 0} → A → ℕ → items.State A → Stages A
+stagesOf none p s = record { waiting = waitingFor p s; hand = λ i. handOf (items.threadOf none s i); done = tasksOf (s .executed) }
+
+-- of a plain job, with the number of steps accepted so far; all successors of a recorded task have fallen due
 unfoldable pub meaning : ℕ → ℕ → State → system.State ℕ
 meaning p steps s =
     record {
-      stages = record { waiting = waitingFor p s; hand = λ i. handOf (threadOf s i); done = tasksOf (s .executed) };
+      stages = stagesOf (nil .0) p s;
       pending = λ i. pendingOf s (threadOf s i);
       degree = degreeOf s;
       steps = steps;
@@ -49,7 +56,7 @@ meaning p steps s =
     }
 
 -- P rows of P places, P threads
-pub record Shaped (p : ℕ) (s : State) : Type 0 where
+pub record Shaped {A : Type 0} (p : ℕ) (s : items.State A) : Type 0 where
   pub queues : Even p (s .queues)
   pub counters : Even p (s .counters)
   pub threads : length (s .threads) ≡ p
@@ -65,7 +72,7 @@ state-shaped p k m =
     }
 
 -- a buffer in a run: each task there has successors, and the cursor is at one of the oldest task's
-pub record Buffered (s : State) (r : Thread) : Type 0 where
+pub record Buffered {A : Type 0} (s : items.State A) (r : items.Thread A) : Type 0 where
   pub each : (t : ℕ) → 0 < occ t (r .buffer) → 0 < length (successorsOf s t)
   pub cursor : (t : ℕ) (rest : List ℕ) → r .buffer ≡ t ∷ rest → r .cursor < length (successorsOf s t)
   pub none : r .buffer ≡ [] → _≡_ {A = ℕ} (r .cursor) 0

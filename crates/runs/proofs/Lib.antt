@@ -5,7 +5,9 @@ pub mod Waiting
 pub mod Meaning
 pub mod Steps
 pub mod Begun
+pub mod ItemCounters
 pub mod Counters
+pub mod ItemBounds
 pub mod Bounds
 pub mod Words
 pub mod Honest

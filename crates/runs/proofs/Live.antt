@@ -35,7 +35,8 @@ use Rattle.algorithm1.specs.State.{Thread, State, queueOf, threadOf, waitingFor
 use Rattle.algorithm1.specs.Reading.{threadIn, stateOf}
 use Rattle.algorithm1.proofs.Readings.{queue-at, thread-at, phase-at}
 use Rattle.system.specs.Stages.{Hand, idle, fetched, running, phase}
-use Rattle.runs.specs.Counters.{handOf, Within}
+use Rattle.runs.specs.Items.{handOf}
+use Rattle.runs.specs.Counters.{Within}
 use Rattle.runs.proofs.Hands.{hand-phase, running-held}
 use Rattle.runs.proofs.Waiting.{lists-empty, list-waits}
 use Rattle.runs.proofs.Honest.{Honest, ends-sound}
@@ -81,7 +82,7 @@ module _ {limits : Limits} {p k : ℕ} {m : Mem} (h : Honest limits p k m) (i : 
   -- the head of a ring waits
   head-waits : (j : ℕ) → j < p → ¬ (Empty (endsIn m (ringNumber p i j))) → 0 < occ (headWord k m (ringNumber p i j)) (waitingFor p state i)
   unfolding takenAt
-  head-waits j l n = list-waits p state i (headWord k m (ringNumber p i j)) j l (rw (queue-at p k m i j worker l) here)
+  head-waits j l n = list-waits p state i ℕ-discrete (headWord k m (ringNumber p i j)) j l (rw (queue-at p k m i j worker l) here)
     where
       here : 0 < occ (headWord k m (ringNumber p i j)) (queue 0 k (ringsIn m) (ringNumber p i j))
       here =

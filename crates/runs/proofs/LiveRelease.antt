@@ -37,7 +37,8 @@ use Rattle.algorithm1.specs.Reading.{threadIn, successorsIn, stateOf}
 use Rattle.algorithm1.proofs.Readings.{successors-at, queue-at, thread-at, length-successors, successor-at}
 use Rattle.algorithm1.proofs.Memories.{between, thread-from, places-fit, between-first}
 use Rattle.system.specs.Stages.{idle}
-use Rattle.runs.specs.Counters.{handOf, Within}
+use Rattle.runs.specs.Items.{handOf}
+use Rattle.runs.specs.Counters.{Within}
 use Rattle.runs.proofs.Invariant.{followers, pendingOf, Buffered}
 use Rattle.runs.proofs.Waiting.{waiting-none}
 use Rattle.runs.proofs.Honest.{Honest, ends-sound}

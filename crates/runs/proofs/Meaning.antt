@@ -1,5 +1,5 @@
--- What a state of Algorithm 1 means: the successors that a thread has yet to release, and how these and the hands change with one buffer, one
--- thread; and the thread that each step of Algorithm 1 writes.
+-- What a state of Algorithm 1 means, its items being of any type: the successors that a thread has yet to release, and how these and the hands change
+-- with one buffer, one thread; and, of a plain job, the thread that each step of Algorithm 1 writes.
 use Prim.Native.Nat.{ℕ, suc, _+_, _≤_, _<_}
 use mathlib.Core.Path.{_≡_, refl, sym, ap, _∙_}
 use mathlib.Core.Bool.{Bool, cond}
@@ -18,24 +18,26 @@ use Rattle.lists.proofs.Told.{Told, told-true, told-false, same-told}
 use Rattle.task.specs.Types.{nil}
 use Rattle.task.specs.Entries.{Entry}
 use Rattle.task.specs.declared.StepOutcome.{StepOutcome}
-use Rattle.algorithm1.specs.State.{Thread, threadWith, State, successorsOf, fresh, threadOf}
+use Rattle.algorithm1.specs.Items as items
+use Rattle.algorithm1.specs.Items.{fresh}
+use Rattle.algorithm1.specs.State.{Thread, threadWith, State, successorsOf, threadOf}
 use Rattle.algorithm1.specs.Algorithm.{holding, executing, buffered, completed, Passes, Fetches, Starts, Completes, Lowers, Allocates}
 use Rattle.system.specs.Stages.{Hand, Replaced}
-use Rattle.runs.specs.Counters.{handOf}
+use Rattle.runs.specs.Items.{handOf}
 use Rattle.runs.proofs.Invariant.{followers, pendingOf, tasksOf, Shaped, Buffered}
 
--- each entry is a task, and one more is one more
-pub length-tasks : (es : List Entry) → length (tasksOf es) ≡ length es
+-- each entry is an item, and one more is one more
+pub length-tasks : {A : Type 0} (es : List (Entry A)) → length (tasksOf es) ≡ length es
 unfolding tasksOf
 length-tasks [] = refl
 length-tasks (e ∷ es) = ap suc (length-tasks es)
 
-pub tasks-snoc : (es : List Entry) (e : Entry) → tasksOf (es ++ (e ∷ [])) ≡ tasksOf es ++ (e .task ∷ [])
+pub tasks-snoc : {A : Type 0} (es : List (Entry A)) (e : Entry A) → tasksOf (es ++ (e ∷ [])) ≡ tasksOf es ++ (e .item ∷ [])
 unfolding tasksOf
 tasks-snoc [] e = refl
-tasks-snoc (x ∷ es) e = ap (λ (l : List ℕ). x .task ∷ l) (tasks-snoc es e)
+tasks-snoc {A} (x ∷ es) e = ap (λ (l : List A). x .item ∷ l) (tasks-snoc es e)
 
-module _ (s : State) where
+module _ {A : Type 0} (s : items.State A) where
   followers-cons : (t : ℕ) (ts : List ℕ) → followers s (t ∷ ts) ≡ successorsOf s t ++ followers s ts
   unfolding followers
   followers-cons t ts = refl
@@ -54,25 +56,26 @@ module _ (s : State) where
       go [] e = sym (append-nil (followers s ts))
       go (x ∷ l) e = followers-snoc ts t ∙ ap (λ (k : List ℕ). followers s ts ++ k) e
 
-  -- 001's line 17 buffers every task, document 01 those with successors: what is pending is the same
+-- 001's line 17 buffers every task, document 01 those with successors: what is pending is the same
+module _ (s : State) where
   pub buffered-anyway : (r : Thread) (t : ℕ)
       → pendingOf s (threadWith (r .buffer ++ (t ∷ [])) (r .cursor) 0 (nil .0) (r .pointer))
       ≡ pendingOf s (threadWith (buffered (successorsOf s t) t (r .buffer)) (r .cursor) 0 (nil .0) (r .pointer))
   unfolding pendingOf
-  buffered-anyway r t = ap (drop (r .cursor)) (followers-snoc (r .buffer) t ∙ sym (followers-buffered (r .buffer) t))
+  buffered-anyway r t = ap (drop (r .cursor)) (followers-snoc s (r .buffer) t ∙ sym (followers-buffered s (r .buffer) t))
 
 -- what is pending depends on no other part of the state than the successors
-followers-same : (s s′ : State) → s′ .successors ≡ s .successors → (ts : List ℕ) → followers s′ ts ≡ followers s ts
+followers-same : {A : Type 0} (s s′ : items.State A) → s′ .successors ≡ s .successors → (ts : List ℕ) → followers s′ ts ≡ followers s ts
 unfolding followers
 followers-same s s′ e [] = refl
 followers-same s s′ e (t ∷ ts) = rw (followers-same s s′ e ts, e)
 
-pending-same : (s s′ : State) → s′ .successors ≡ s .successors → (r : Thread) → pendingOf s′ r ≡ pendingOf s r
+pending-same : {A : Type 0} (s s′ : items.State A) → s′ .successors ≡ s .successors → (r : items.Thread A) → pendingOf s′ r ≡ pendingOf s r
 unfolding pendingOf
 pending-same s s′ e r = ap (drop (r .cursor)) (followers-same s s′ e (r .buffer))
 
 -- a thread's buffer, as a run keeps it
-module _ (s : State) (r : Thread) (b : Buffered s r) where
+module _ {A : Type 0} (s : items.State A) (r : items.Thread A) (b : Buffered s r) where
   -- the cursor is not behind the last successor
   cursor-fits : r .cursor ≤ length (followers s (r .buffer))
   cursor-fits = go (r .buffer) refl
@@ -83,14 +86,14 @@ module _ (s : State) (r : Thread) (b : Buffered s r) where
           rw (followers-cons s t ts) (omega (arith, length-append (successorsOf s t) (followers s ts), b .cursor t ts e))
 
   -- a completed task's successors are due after all others
-  pub pending-completed : (t : ℕ) (phase held : ℕ)
+  pub pending-completed : (t phase : ℕ) (held : A)
       → pendingOf s (threadWith (buffered (successorsOf s t) t (r .buffer)) (r .cursor) phase held (r .pointer)) ≡ pendingOf s r ++ successorsOf s t
   unfolding pendingOf
   pending-completed t phase held =
       ap (drop (r .cursor)) (followers-buffered s (r .buffer) t) ∙ drop-append-le (r .cursor) (followers s (r .buffer)) (successorsOf s t) cursor-fits
 
   -- a task with successors joins it
-  joined-buffer : (t : ℕ) → 0 < length (successorsOf s t) → (phase held : ℕ)
+  joined-buffer : (t : ℕ) → 0 < length (successorsOf s t) → (phase : ℕ) (held : A)
       → Buffered s (threadWith (r .buffer ++ (t ∷ [])) (r .cursor) phase held (r .pointer))
   joined-buffer t some phase held =
       record {
@@ -112,7 +115,7 @@ module _ (s : State) (r : Thread) (b : Buffered s r) where
       full [] q e = b .none q
       full (x ∷ l) q e = absurd (cons-not-nil x (l ++ (t ∷ [])) e)
 
-  pub buffered-completed : (t : ℕ) (phase held : ℕ) → Buffered s (threadWith (buffered (successorsOf s t) t (r .buffer)) (r .cursor) phase held (r .pointer))
+  pub buffered-completed : (t phase : ℕ) (held : A) → Buffered s (threadWith (buffered (successorsOf s t) t (r .buffer)) (r .cursor) phase held (r .pointer))
   buffered-completed t phase held = go (successorsOf s t) refl
     where
       go : (l : List ℕ) → successorsOf s t ≡ l → Buffered s (threadWith (buffered l t (r .buffer)) (r .cursor) phase held (r .pointer))
@@ -120,14 +123,14 @@ module _ (s : State) (r : Thread) (b : Buffered s r) where
       go (x ∷ l) e = joined-buffer t (rw e (omega arith)) phase held
 
 -- what one pass of line 6 makes of a thread: T is released
-pub record Goes (s : State) (T : ℕ) (r r′ : Thread) : Type 0 where
+pub record Goes {A : Type 0} (s : items.State A) (T : ℕ) (r r′ : items.Thread A) : Type 0 where
   pub hand : handOf r′ ≡ handOf r
   pub phase : r′ .phase ≡ r .phase
   pub pointer : r′ .pointer ≡ r .pointer
   pub pending : pendingOf s r ≡ T ∷ pendingOf s r′
   pub buffer : Buffered s r → Buffered s r′
 
-module _ (s : State) (r : Thread) (oldest : ℕ) (rest : List ℕ) (e : r .buffer ≡ oldest ∷ rest)
+module _ {A : Type 0} (s : items.State A) (r : items.Thread A) (oldest : ℕ) (rest : List ℕ) (e : r .buffer ≡ oldest ∷ rest)
     (inside : r .cursor < length (successorsOf s oldest)) where
   -- the successor at the cursor, then the oldest task's others, then the other tasks'
   pending-first : pendingOf s r
@@ -199,74 +202,80 @@ passes-goes {i} {s} {T} {r} f = rw (f .successor, f .thread) (go (same-told (was
     go (told-false q h) = rw q (goes-on s was (f .oldest) (f .rest) (f .buffer) (f .inside) h)
 
 -- from s to s′ worker i's thread becomes r, and no task's successors change
-pub record Acts (p i : ℕ) (s s′ : State) (r : Thread) : Type 0 where
+pub record Acts {A : Type 0} (none : A) (p i : ℕ) (s s′ : items.State A) (r : items.Thread A) : Type 0 where
   pub worker : i < p
-  pub count : length (s .threads) ≡ p
   pub threads : s′ .threads ≡ set (s .threads) i r
+  pub own : items.threadOf none s′ i ≡ r
   pub successors : s′ .successors ≡ s .successors
 
-module _ {p i : ℕ} {s s′ : State} {r : Thread} (a : Acts p i s s′ r) where
-  own-thread : threadOf s′ i ≡ r
-  own-thread = rw (a .threads) (getD-set-same (s .threads) i r fresh (rw (a .count) (a .worker)))
+pub acts : {A : Type 0} {none : A} {p i : ℕ} {s s′ : items.State A} {r : items.Thread A} → i < p → Shaped p s → s′ .threads ≡ set (s .threads) i r
+    → s′ .successors ≡ s .successors → Acts none p i s s′ r
+acts {none = none} {i = i} {s = s} {r = r} worker shaped e f =
+    record {
+      worker = worker;
+      threads = e;
+      own = rw e (getD-set-same (s .threads) i r (fresh none) (rw (shaped .threads) worker));
+      successors = f;
+    }
 
-  other-thread : (j : ℕ) → ¬ (j ≡ i) → threadOf s′ j ≡ threadOf s j
-  other-thread j n = rw (a .threads) (getD-set-other (s .threads) i j r fresh n)
+module _ {A : Type 0} {none : A} {p i : ℕ} {s s′ : items.State A} {r : items.Thread A} (a : Acts none p i s s′ r) where
+  other-thread : (j : ℕ) → ¬ (j ≡ i) → items.threadOf none s′ j ≡ items.threadOf none s j
+  other-thread j n = rw (a .threads) (getD-set-other (s .threads) i j r (fresh none) n)
 
   -- what holds of every thread before holds of every thread after, if it holds of r
-  pub thread-each : (Q : Thread → Type 0) → Q r → (j : ℕ) → Q (threadOf s j) → Q (threadOf s′ j)
+  pub thread-each : (Q : items.Thread A → Type 0) → Q r → (j : ℕ) → Q (items.threadOf none s j) → Q (items.threadOf none s′ j)
   thread-each Q h j q = go (ℕ-discrete j i)
     where
-      go : Dec (j ≡ i) → Q (threadOf s′ j)
-      go (yes e) = rw (e, own-thread) h
+      go : Dec (j ≡ i) → Q (items.threadOf none s′ j)
+      go (yes e) = rw (e, a .own) h
       go (no n) = rw (other-thread j n) q
 
   -- what is read of the threads changes at i, or nowhere
-  module _ {B : Type 0} (f f′ : Thread → B) (same : (t : Thread) → f′ t ≡ f t) where
-    read-moves : {old new : B} → f (threadOf s i) ≡ old → f r ≡ new → Replaced p i old new (λ j. f (threadOf s j)) (λ j. f′ (threadOf s′ j))
+  module _ {B : Type 0} (f f′ : items.Thread A → B) (same : (t : items.Thread A) → f′ t ≡ f t) where
+    read-moves : {old new : B} → f (items.threadOf none s i) ≡ old → f r ≡ new
+        → Replaced p i old new (λ j. f (items.threadOf none s j)) (λ j. f′ (items.threadOf none s′ j))
     read-moves was now =
         record {
-          place = record { inside = a .worker; others = λ j n. same (threadOf s′ j) ∙ ap f (other-thread j n) };
+          place = record { inside = a .worker; others = λ j n. same (items.threadOf none s′ j) ∙ ap f (other-thread j n) };
           was = was;
-          now = same (threadOf s′ i) ∙ ap f own-thread ∙ now;
+          now = same (items.threadOf none s′ i) ∙ ap f (a .own) ∙ now;
         }
 
-    read-stays : f r ≡ f (threadOf s i) → (j : ℕ) → f′ (threadOf s′ j) ≡ f (threadOf s j)
-    read-stays e j = same (threadOf s′ j) ∙ go (ℕ-discrete j i)
+    read-stays : f r ≡ f (items.threadOf none s i) → (j : ℕ) → f′ (items.threadOf none s′ j) ≡ f (items.threadOf none s j)
+    read-stays e j = same (items.threadOf none s′ j) ∙ go (ℕ-discrete j i)
       where
-        go : Dec (j ≡ i) → f (threadOf s′ j) ≡ f (threadOf s j)
-        go (yes q) = rw (q, own-thread) e
+        go : Dec (j ≡ i) → f (items.threadOf none s′ j) ≡ f (items.threadOf none s j)
+        go (yes q) = rw (q, a .own) e
         go (no n) = ap f (other-thread j n)
 
-  pub hand-moves : {old new : Hand ℕ} → handOf (threadOf s i) ≡ old → handOf r ≡ new
-      → Replaced p i old new (λ j. handOf (threadOf s j)) (λ j. handOf (threadOf s′ j))
+  pub hand-moves : {old new : Hand A} → handOf (items.threadOf none s i) ≡ old → handOf r ≡ new
+      → Replaced p i old new (λ j. handOf (items.threadOf none s j)) (λ j. handOf (items.threadOf none s′ j))
   hand-moves = read-moves handOf handOf (λ t. refl)
 
-  pub hand-stays : handOf r ≡ handOf (threadOf s i) → (j : ℕ) → handOf (threadOf s′ j) ≡ handOf (threadOf s j)
+  pub hand-stays : handOf r ≡ handOf (items.threadOf none s i) → (j : ℕ) → handOf (items.threadOf none s′ j) ≡ handOf (items.threadOf none s j)
   hand-stays = read-stays handOf handOf (λ t. refl)
 
-  pub pending-moves : {old new : List ℕ} → pendingOf s (threadOf s i) ≡ old → pendingOf s r ≡ new
-      → Replaced p i old new (λ j. pendingOf s (threadOf s j)) (λ j. pendingOf s′ (threadOf s′ j))
+  pub pending-moves : {old new : List ℕ} → pendingOf s (items.threadOf none s i) ≡ old → pendingOf s r ≡ new
+      → Replaced p i old new (λ j. pendingOf s (items.threadOf none s j)) (λ j. pendingOf s′ (items.threadOf none s′ j))
   pending-moves = read-moves (pendingOf s) (pendingOf s′) (pending-same s s′ (a .successors))
 
-  pub pending-stays : pendingOf s r ≡ pendingOf s (threadOf s i) → (j : ℕ) → pendingOf s′ (threadOf s′ j) ≡ pendingOf s (threadOf s j)
+  pub pending-stays : pendingOf s r ≡ pendingOf s (items.threadOf none s i)
+      → (j : ℕ) → pendingOf s′ (items.threadOf none s′ j) ≡ pendingOf s (items.threadOf none s j)
   pending-stays = read-stays (pendingOf s) (pendingOf s′) (pending-same s s′ (a .successors))
 
--- thread i in each step of Algorithm 1
+-- thread i in each step of Algorithm 1, of a plain job
 module _ {p i : ℕ} {s s′ : State} (worker : i < p) (shaped : Shaped p s) where
-  acts : {r : Thread} → s′ .threads ≡ set (s .threads) i r → s′ .successors ≡ s .successors → Acts p i s s′ r
-  acts e f = record { worker = worker; count = shaped .threads; threads = e; successors = f }
+  pub fetch-acts : {o : StepOutcome} (f : Fetches p i s s′ o) → Acts (nil .0) p i s s′ (holding p (f .list) (f .task) (threadOf s i))
+  fetch-acts f = acts worker shaped (rw (f .after)) (rw (f .after))
 
-  pub fetch-acts : {o : StepOutcome} (f : Fetches p i s s′ o) → Acts p i s s′ (holding p (f .list) (f .task) (threadOf s i))
-  fetch-acts f = acts (rw (f .after)) (rw (f .after))
+  pub start-acts : {o : StepOutcome} → Starts i s s′ o → Acts (nil .0) p i s s′ (executing (threadOf s i))
+  start-acts f = acts worker shaped (rw (f .after)) (rw (f .after))
 
-  pub start-acts : {o : StepOutcome} → Starts i s s′ o → Acts p i s s′ (executing (threadOf s i))
-  start-acts f = acts (rw (f .after)) (rw (f .after))
+  pub complete-acts : {o : StepOutcome} → Completes i s s′ o → Acts (nil .0) p i s s′ (completed (successorsOf s (threadOf s i .held)) (threadOf s i))
+  complete-acts f = acts worker shaped (rw (f .after)) (rw (f .after))
 
-  pub complete-acts : {o : StepOutcome} → Completes i s s′ o → Acts p i s s′ (completed (successorsOf s (threadOf s i .held)) (threadOf s i))
-  complete-acts f = acts (rw (f .after)) (rw (f .after))
+  pub lower-acts : {o : StepOutcome} (f : Lowers i s s′ o) → Acts (nil .0) p i s s′ (f .next)
+  lower-acts f = acts worker shaped (rw (f .after)) (rw (f .after))
 
-  pub lower-acts : {o : StepOutcome} (f : Lowers i s s′ o) → Acts p i s s′ (f .next)
-  lower-acts f = acts (rw (f .after)) (rw (f .after))
-
-  pub allocate-acts : {o : StepOutcome} {capacity : ℕ} (f : Allocates p capacity i s s′ o) → Acts p i s s′ (f .next)
-  allocate-acts f = acts (rw (f .after)) (rw (f .after))
+  pub allocate-acts : {o : StepOutcome} {capacity : ℕ} (f : Allocates p capacity i s s′ o) → Acts (nil .0) p i s s′ (f .next)
+  allocate-acts f = acts worker shaped (rw (f .after)) (rw (f .after))

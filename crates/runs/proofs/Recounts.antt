@@ -46,7 +46,7 @@ use Rattle.runs.specs.RunWords.{lastFetched, entryBy, entriesOf}
 use Rattle.runs.proofs.Calls.{Still, refuses, looks, throughout}
 
 -- where there is no entry
-abbrev pub none : Entry
+abbrev pub none : Entry ℕ
 none = entryOf 0 0
 
 pub record Recounts (p : ℕ) (m : Mem) (past : List Event) : Type 0 where
@@ -117,7 +117,7 @@ completes-next Start n = refl
 completes-next Complete n = refl
 completes-next Release n = refl
 
-abbrev entryNext : Step → Entry → List Entry
+abbrev entryNext : Step → Entry ℕ → List (Entry ℕ)
 entryNext s e = cond (isCompletion s && true) (e ∷ []) []
 
 -- the worker that an entry names

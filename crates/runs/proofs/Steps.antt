@@ -37,7 +37,7 @@ same-buffer s r b phase held pointer = record { each = b .each; cursor = b .curs
 
 -- Thread i of P, from s to s′
 module _ (g : Graph) (p i : ℕ) (worker : i < p) (s s′ : State) (sane : Sane g p s) where
-  sane-after : {r : Thread} → Acts p i s s′ r → length (s′ .degrees) ≡ length (s .degrees) → Even p (s′ .queues) → Even p (s′ .counters)
+  sane-after : {r : Thread} → Acts (nil .0) p i s s′ r → length (s′ .degrees) ≡ length (s .degrees) → Even p (s′ .queues) → Even p (s′ .counters)
       → Buffered s r → r .phase ≤ 2 → r .pointer < p → Sane g p s′
   sane-after {r} a d q c b phase pointer =
       record {
@@ -57,7 +57,7 @@ module _ (g : Graph) (p i : ℕ) (worker : i < p) (s s′ : State) (sane : Sane 
       buffer : (j : ℕ) → Buffered s (threadOf s′ j) → Buffered s′ (threadOf s′ j)
       buffer j b = record { each = rw (a .successors) (b .each); cursor = rw (a .successors) (b .cursor); none = b .none }
 
-  released-sane : {T : ℕ} {r : Thread} → Acts p i s s′ r → Passes i s T r → length (s′ .degrees) ≡ length (s .degrees) → Even p (s′ .queues)
+  released-sane : {T : ℕ} {r : Thread} → Acts (nil .0) p i s s′ r → Passes i s T r → length (s′ .degrees) ≡ length (s .degrees) → Even p (s′ .queues)
       → Even p (s′ .counters) → Sane g p s′
   released-sane {T} {r} a f d q c =
       sane-after a d q c (goes .buffer (sane .buffers i)) (rw (goes .phase) (sane .phases i)) (rw (goes .pointer) (sane .pointers i worker))
@@ -154,7 +154,7 @@ module _ (g : Graph) (p i : ℕ) (worker : i < p) (s s′ : State) (sane : Sane 
           }
 
       -- T's release is due no more
-      releases : {T : ℕ} {r : Thread} → Acts p i s s′ r → Passes i s T r → s′ .executed ≡ s .executed
+      releases : {T : ℕ} {r : Thread} → Acts (nil .0) p i s s′ r → Passes i s T r → s′ .executed ≡ s .executed
           → system.Releases ℕ-discrete (itemsOf g) p i T (meaning p n s) (meaning p (suc n) s′)
       unfolding meaning
       releases {r = r} a f e =

@@ -1,4 +1,5 @@
 pub mod Calls
+pub mod Items
 pub mod Counters
 pub mod Fairness
 pub mod Demand

@@ -23,18 +23,18 @@ lastFetched i [] = nil .0
 lastFetched i (e ∷ es) = cond (fetchBy i (e .call)) (taskIn (e .said) (lastFetched i es)) (lastFetched i es)
 
 -- the entry of an accepted Complete: that task, and the worker
-unfoldable pub entryBy : Event → List Event → List Entry
+unfoldable pub entryBy : Event → List Event → List (Entry ℕ)
 entryBy e es = cond (isComplete (e .call) && acceptedSaid (e .said)) (entryOf (lastFetched (workerOf (e .call)) es) (workerOf (e .call)) ∷ []) []
 
 -- one for each accepted Complete, in their order
-unfoldable pub entriesOf : List Event → List Entry
+unfoldable pub entriesOf : List Event → List (Entry ℕ)
 entriesOf [] = []
 entriesOf (e ∷ es) = entriesOf es ++ entryBy e es
 
 -- the words of a list of entries
-unfoldable pub wordsOf : List Entry → List ℕ
+unfoldable pub wordsOf : List (Entry ℕ) → List ℕ
 wordsOf [] = []
-wordsOf (e ∷ es) = e .task ∷ e .worker ∷ wordsOf es
+wordsOf (e ∷ es) = e .item ∷ e .worker ∷ wordsOf es
 
 -- PROMISE: "After every list of a run's calls the accepted word is the number of its accepted steps, the entries word that of its accepted Completes.
 -- The record begins with one entry for each of these Completes, in their order: the task that the worker's last accepted Fetch before it
