@@ -1,15 +1,17 @@
 -- Taking from lists "in a round robin fashion", the items being of any type: each take from any of the lists brings every waiting item nearer
--- to its own turn.
+-- to its own turn, and what joins a list at the end comes behind it.
 use Prim.Native.Nat.{ℕ, suc, _+_, _-_, _*_, _%_, _<_}
-use mathlib.Core.Path.{_≡_, sym, ap, _∙_}
+use mathlib.Core.Path.{_≡_, refl, sym, ap, _∙_}
 use mathlib.Core.Logic.{_⊎_, inl, inr}
-use mathlib.Core.List.{List, [], _∷_, _++_}
+use mathlib.Core.List.{List, [], _∷_, _++_, append-nil, append-assoc}
 use native.Mathlib.Omega.{arith}
 use native.Mathlib.Decide.{ℕ-discrete, decLt}
 use native.Mathlib.Nat.{mod-lt, mod-eq-of-lt, mod-add-mod, add-mod-right, suc-mul}
 use lib.ListN.{length, length-append}
 use Rattle.lists.proofs.Decided.{stable}
 use Rattle.lists.proofs.Appends.{some-members}
+use Rattle.lists.proofs.Circles.{mod-reached}
+use Rattle.lists.proofs.Places.{place-lt}
 use Rattle.algorithm1.specs.Algorithm.{First}
 use Rattle.algorithm1.proofs.Memories.{first-lt}
 
@@ -27,6 +29,11 @@ pub record Takes {A : Type 0} (p : ℕ) (lists lists′ : ℕ → List A) (point
   pub left : lists′ list ≡ rest
   pub others : (h : ℕ) → h < p → ¬ (h ≡ list) → lists′ h ≡ lists h
 
+-- nothing is taken: the pointer stays, and each of the lists, but for what joins it at the end
+pub record Spares {A : Type 0} (lists lists′ : ℕ → List A) (pointer pointer′ : ℕ) : Type 0 where
+  pub stays : pointer′ ≡ pointer
+  pub joins : (h : ℕ) → (l : List A) × (lists′ h ≡ lists h ++ l)
+
 -- the take is item t's own: t stood first in its list, and those behind it stay
 pub record Own {A : Type 0} (lists lists′ : ℕ → List A) (list : ℕ) (a t : A) (behind : List A) : Type 0 where
   pub item : a ≡ t
@@ -39,6 +46,40 @@ pub record Nearer {A : Type 0} (p : ℕ) (lists : ℕ → List A) (pointer list 
   pub distance : ℕ
   pub waits : Waits p lists pointer list ahead t behind distance
   pub fewer : length ahead * p + distance < n
+
+-- an item in one of the lists, with these ahead of it: that list is less than p on from the pointer
+pub stands-near : {A : Type 0} (p : ℕ) (lists : ℕ → List A) (pointer list : ℕ) (ahead : List A) (t : A) (behind : List A) → list < p
+    → lists list ≡ ahead ++ (t ∷ behind) → Nearer p lists pointer list t behind ((length ahead + 1) * p)
+stands-near p lists pointer list ahead t behind l stands =
+    let (distance, near, there) = mod-reached p (pointer % p) list (mod-lt pointer (omega (arith, l))) l in
+    record {
+      ahead = ahead;
+      distance = distance;
+      waits = record { stands = stands; near = near; there = sym there ∙ mod-add-mod pointer p distance };
+      fewer = place-lt p (length ahead + 1) (length ahead) distance (omega arith) near;
+    }
+
+pub spares-none : {A : Type 0} (lists : ℕ → List A) (pointer : ℕ) → Spares lists lists pointer pointer
+spares-none lists pointer = record { stays = refl; joins = λ h. ([], sym (append-nil (lists h))) }
+
+-- where the lists are spared the item keeps those ahead of it, and what joins its list comes behind it
+pub spared-near : {A : Type 0} {p : ℕ} {lists lists′ : ℕ → List A} {pointer pointer′ list : ℕ} {t : A} {behind : List A} {n : ℕ}
+    → Spares lists lists′ pointer pointer′ → Nearer p lists pointer list t behind n → (l : List A) × Nearer p lists′ pointer′ list t (behind ++ l) n
+spared-near {A} {list = list} {t = t} {behind = behind} h near =
+    let (l, e) = h .joins list in (
+      l,
+      record {
+        ahead = near .ahead;
+        distance = near .distance;
+        waits =
+            record {
+              stands = e ∙ ap (λ (x : List A). x ++ l) (near .waits .stands) ∙ append-assoc (near .ahead) (t ∷ behind) l;
+              near = near .waits .near;
+              there = rw (h .stays) (near .waits .there);
+            };
+        fewer = near .fewer;
+      },
+    )
 
 -- from the number after x it is p − 1 on to x
 whole-round : (p x : ℕ) → x < p → x ≡ ((x + 1) % p + (p - 1)) % p
@@ -119,3 +160,14 @@ module _ {A : Type 0} (p : ℕ) (lists lists′ : ℕ → List A) (pointer list 
       go : Dec (list ≡ j) → Own lists lists′ list a t behind ⊎ Nearer p lists′ ((j + 1) % p) list t behind (length ahead * p + distance)
       go (yes e) = own ahead distance w e
       go (no n) = inr (other ahead distance w n)
+
+  -- fewer than n takes could come before the item's own: this is it, or fewer than n − 1 can come now
+  pub taken-near : (n : ℕ) → Nearer p lists pointer list t behind n
+      → Own lists lists′ list a t behind ⊎ Nearer p lists′ ((j + 1) % p) list t behind (n - 1)
+  taken-near n near = go (taken-or-nearer (near .ahead) (near .distance) (near .waits))
+    where
+      go : Own lists lists′ list a t behind ⊎ Nearer p lists′ ((j + 1) % p) list t behind (length (near .ahead) * p + near .distance)
+          → Own lists lists′ list a t behind ⊎ Nearer p lists′ ((j + 1) % p) list t behind (n - 1)
+      go (inl own) = inl own
+      go (inr next) =
+          inr (record { ahead = next .ahead; distance = next .distance; waits = next .waits; fewer = omega (arith, next .fewer, near .fewer) })

@@ -6,33 +6,31 @@ use mathlib.Core.Logic.{_⊎_, inl, inr}
 use mathlib.Core.List.{List, [], _∷_, _++_, append-nil, append-assoc}
 use native.Mathlib.Omega.{arith}
 use native.Mathlib.Decide.{ℕ-discrete}
-use native.Mathlib.Nat.{mod-lt, mod-add-mod}
 use lib.ListN.{length}
 use lib.Dec.{eqb}
 use borrow.Author.Tests.{eq-eqb, ne-eqb}
 use Rattle.lists.proofs.Told.{cond-either}
-use Rattle.lists.proofs.Circles.{mod-reached}
-use Rattle.lists.proofs.Places.{place-lt}
+use Rattle.task.specs.Types.{nil}
 use Rattle.task.specs.Refusals.{Said, taskFetched, outcomeSays}
 use Rattle.task.specs.declared.Limits.{Limits}
 use Rattle.task.specs.declared.Step.{Step}
 use Rattle.task.specs.declared.Step.the-variants.{Fetch, Start, Complete, Release}
-use Rattle.ring.specs.Ring.{capacity}
 use Rattle.rules.specs.Memory.{Mem}
 use Rattle.rules.specs.Sizes.{Lengths}
 use Rattle.rules.specs.Steps.{step}
 use Rattle.rules.specs.Moves.{AcceptedStep}
 use Rattle.algorithm1.specs.State.{queueOf}
-use Rattle.algorithm1.specs.Algorithm.{Fetches, Lines}
+use Rattle.algorithm1.specs.Algorithm.{Fetches}
 use Rattle.algorithm1.specs.Reading.{queueIn, stateOf}
 use Rattle.algorithm1.proofs.Readings.{queue-at}
 use Rattle.algorithm1.proofs.Accepted.{step-does}
-use Rattle.algorithm1.proofs.RoundRobin.{Waits, Takes, Own, Nearer, taken-or-nearer}
+use Rattle.algorithm1.proofs.RoundRobin.{Takes, Own, Nearer, stands-near, spares-none, spared-near, taken-near}
 use Rattle.runs.specs.Calls.{Call, stepCall, isFetch, fetchBy, says, leaves, eventOf, acceptedSaid, began, memoryAfter, begins, memoryOf}
 use Rattle.runs.specs.Fairness.{oneMore, fetches, TakenWithin, FairFetching}
 use Rattle.runs.proofs.Calls.{Still, refuses, looks, still-began, step-began, begin-began, Did, stays, steps, starts, did, lengths-kept}
 use Rattle.runs.proofs.Honest.{honest-run}
-use Rattle.runs.proofs.Spares.{pointerOf, Spares, spares-none, waits-spared, spared-fetch, spared, taking, pointer-on}
+use Rattle.runs.proofs.Invariant.{state-shaped}
+use Rattle.runs.proofs.Spares.{pointerOf, OwnerSpared, spared-fetch, spared, taking, pointer-on}
 
 -- one of the owner's accepted Fetches
 abbrev owned : ℕ → Call → Mem → Bool
@@ -81,28 +79,21 @@ unfolding fetches
 fetches-none owner c cs m e = rw e refl
 
 module _ (p k : ℕ) where
-  -- every accepted step is Algorithm 1's
-  does : (limits : Limits) (i : ℕ) (s : Step) (m : Mem) (a : AcceptedStep limits p k i s m)
-      → Lines p (capacity k) i s (stateOf p k m) (stateOf p k (step limits p k i s m .memory)) (a .outcome)
-  does limits i s m a = step-does limits p k i s m a .lines
-
   module _ (owner filler t : ℕ) (behind : List ℕ) (owns : owner < p) (fills : filler < p) where
     -- t waits in the owner's list, `added` being what has joined it since, and fewer than n takes can come before t's own: n accepted Fetches
     -- of the owner's are enough
     abbrev Enough : List Call → Mem → Type 0
     Enough cs m =
-        (ahead added : List ℕ) (distance n : ℕ)
-        → Waits p (queueOf (stateOf p k m) owner) (pointerOf (stateOf p k m) owner) filler ahead t (behind ++ added) distance
-        → length ahead * p + distance < n → n ≤ fetches owner cs m → TakenWithin p k owner filler t behind n cs m
+        (added : List ℕ) (n : ℕ) → Nearer p (queueOf (stateOf p k m) owner) (pointerOf (stateOf p k m) owner) filler t (behind ++ added) n
+        → n ≤ fetches owner cs m → TakenWithin p k owner filler t behind n cs m
 
     -- a call that spares the owner's lists
     enough-spared : (c : Call) (cs : List Call) (m : Mem) → began (eventOf c m) ≡ false → owned owner c m ≡ false
-        → Spares owner (stateOf p k m) (stateOf p k (leaves c m)) → Enough cs (leaves c m) → Enough (c ∷ cs) m
-    enough-spared c cs m same e h rest ahead added distance n w small enough =
-        let (l, still) = waits-spared p owner _ _ filler ahead t (behind ++ added) distance h w in
+        → OwnerSpared (nil .0) owner (stateOf p k m) (stateOf p k (leaves c m)) → Enough cs (leaves c m) → Enough (c ∷ cs) m
+    enough-spared c cs m same e h rest added n near enough =
+        let (l, still) = spared-near h near in
         taken-later p k owner filler t behind c cs m same n n (ap (λ (b : Bool). oneMore b n) e)
-        (rest ahead (added ++ l) distance n (rw (sym (append-assoc behind added l)) still) small
-        (rw (fetches-first owner c cs m same, e) at enough))
+        (rest (added ++ l) n (rw (sym (append-assoc behind added l)) still) (rw (fetches-first owner c cs m same, e) at enough))
 
     -- the owner's Fetch
     module _ (limits : Limits) (cs : List Call) (m : Mem) (a : AcceptedStep limits p k owner Fetch m) where
@@ -113,10 +104,10 @@ module _ (p k : ℕ) where
       next = step limits p k owner Fetch m .memory
 
       fetch : Fetches p owner (stateOf p k m) (stateOf p k next) (a .outcome)
-      fetch = does limits owner Fetch m a
+      fetch = step-does limits p k owner Fetch m a .lines
 
       takes : Takes p (queueOf (stateOf p k m) owner) (queueOf (stateOf p k next) owner) (pointerOf (stateOf p k m) owner) (fetch .list) (fetch .task)
-      takes = taking p k m owner owns (stateOf p k next) (a .outcome) fetch
+      takes = taking owns (state-shaped p k m) fetch
 
       answer : says this m ≡ taskFetched (fetch .task)
       unfolding says
@@ -147,20 +138,18 @@ module _ (p k : ℕ) where
       -- it takes t, or brings it nearer
       enough-own : Enough cs (leaves this m) → Enough (this ∷ cs) m
       unfolding leaves
-      enough-own rest ahead added distance n w small enough =
-          go (taken-or-nearer p _ _ _ filler (fetch .list) (fetch .task) t (behind ++ added) takes ahead distance w)
+      enough-own rest added n near enough = go (taken-near p _ _ _ filler (fetch .list) (fetch .task) t (behind ++ added) takes n near)
         where
           same : began (eventOf this m) ≡ false
           same = step-began limits p k m owner Fetch
 
           go : Own (queueOf (stateOf p k m) owner) (queueOf (stateOf p k next) owner) filler (fetch .task) t (behind ++ added)
-              ⊎ Nearer p (queueOf (stateOf p k next) owner) ((fetch .list + 1) % p) filler t (behind ++ added) (length ahead * p + distance)
+              ⊎ Nearer p (queueOf (stateOf p k next) owner) ((fetch .list + 1) % p) filler t (behind ++ added) (n - 1)
               → TakenWithin p k owner filler t behind n (this ∷ cs) m
-          go (inl own) = fetches-it added n (omega (arith, small)) own
-          go (inr near) =
-              taken-later p k owner filler t behind this cs m same (n - 1) n (rw fetch-owned (omega (arith, small)))
-              (rest (near .ahead) added (near .distance) (n - 1) (rw (pointer-on p k m owner owns _ _ fetch) (near .waits))
-              (omega (arith, small, near .fewer))
+          go (inl own) = fetches-it added n (omega (arith, near .fewer)) own
+          go (inr nearer) =
+              taken-later p k owner filler t behind this cs m same (n - 1) n (rw fetch-owned (omega (arith, near .fewer)))
+              (rest added (n - 1) (rw (pointer-on owns (state-shaped p k m) fetch) nearer)
               (omega (arith, rw (fetches-first owner this cs m same, fetch-owned) at enough)))
 
     -- any step
@@ -169,33 +158,36 @@ module _ (p k : ℕ) where
     unfolding leaves
     enough-step limits i s cs m a = go s a (ℕ-discrete owner i)
       where
-        spares : (s : Step) → cond (isFetch s) (eqb i owner) false ≡ false → Spares owner (stateOf p k m) (stateOf p k (step limits p k i s m .memory))
+        spares : (s : Step) → cond (isFetch s) (eqb i owner) false ≡ false
+            → OwnerSpared (nil .0) owner (stateOf p k m) (stateOf p k (step limits p k i s m .memory))
             → Enough cs (leaves (stepCall limits p k i s) m) → Enough (stepCall limits p k i s ∷ cs) m
         spares s e h = enough-spared (stepCall limits p k i s) cs m (step-began limits p k m i s) (rw e refl) h
 
         no-fetch : (s : Step) → isFetch s ≡ false → AcceptedStep limits p k i s m
             → Enough cs (leaves (stepCall limits p k i s) m) → Enough (stepCall limits p k i s ∷ cs) m
-        no-fetch s e a = spares s (rw e refl) (spared p k m i (a .allowed .worker) _ (a .outcome) owner s e (does limits i s m a))
+        no-fetch s e a = spares s (rw e refl) (spared (state-shaped p k m) owner s e (step-does limits p k i s m a))
 
         go : (s : Step) → AcceptedStep limits p k i s m → Dec (owner ≡ i)
             → Enough cs (leaves (stepCall limits p k i s) m) → Enough (stepCall limits p k i s ∷ cs) m
         go Fetch a (yes e) = rw (sym e) (enough-own limits cs m (rw e a))
         go Fetch a (no n) =
-            spares Fetch (ne-eqb i owner (λ e. n (sym e))) (spared-fetch p k m i (a .allowed .worker) _ (a .outcome) owner n (does limits i Fetch m a))
+            spares Fetch (ne-eqb i owner (λ e. n (sym e)))
+            (spared-fetch (a .allowed .worker) (state-shaped p k m) owner n (step-does limits p k i Fetch m a .lines))
         go Start a _ = no-fetch Start refl a
         go Complete a _ = no-fetch Complete refl a
         go Release a _ = no-fetch Release refl a
 
     enough-call : (c : Call) (cs : List Call) (m : Mem) → Did p k m c → Enough cs (leaves c m) → Enough (c ∷ cs) m
     enough-call c cs m (stays _ h e) =
-        enough-spared c cs m (still-began c (says c m) h) (still-own owner c (says c m) h) (rw e (spares-none owner (stateOf p k m)))
+        enough-spared c cs m (still-began c (says c m) h) (still-own owner c (says c m) h)
+        (rw e (spares-none (queueOf (stateOf p k m) owner) (pointerOf (stateOf p k m) owner)))
     enough-call _ cs m (steps limits i s a) = enough-step limits i s cs m a
-    enough-call _ cs m (starts limits e) = λ _ ahead added distance n w small enough.
-        absurd (omega (arith, small, enough, fetches-none owner _ cs m (begin-began limits p k m e)))
+    enough-call _ cs m (starts limits e) = λ _ added n near enough.
+        absurd (omega (arith, near .fewer, enough, fetches-none owner _ cs m (begin-began limits p k m e)))
 
     enough : (cs : List Call) (m : Mem) → Lengths p k m → Enough cs m
     unfolding fetches
-    enough [] m l = λ ahead added distance n w small some. absurd (omega (arith, small, some))
+    enough [] m l = λ added n near some. absurd (omega (arith, near .fewer, some))
     enough (c ∷ cs) m l = enough-call c cs m (did p k m l c) (enough cs (leaves c m) (lengths-kept p k m l c))
 
     -- t's list is less than p on from the pointer, so fewer than (length ahead + 1) * p takes can come before t's own
@@ -203,17 +195,10 @@ module _ (p k : ℕ) where
         → (further : List Call) → (length ahead + 1) * p ≤ fetches owner further m
         → TakenWithin p k owner filler t behind ((length ahead + 1) * p) further m
     taken-soon m l ahead stands further many =
-        let (distance, near, there) = mod-reached p (pointer % p) filler (mod-lt pointer (omega (arith, owns))) fills in
-        enough further m l ahead [] distance ((length ahead + 1) * p)
-        (record {
-          stands = queue-at p k m owner filler owns fills ∙ rw (append-nil behind) stands;
-          near = near;
-          there = sym there ∙ mod-add-mod pointer p distance;
-        })
-        (place-lt p (length ahead + 1) (length ahead) distance (omega arith) near) many
-      where
-        pointer : ℕ
-        pointer = pointerOf (stateOf p k m) owner
+        enough further m l [] ((length ahead + 1) * p)
+        (stands-near p (queueOf (stateOf p k m) owner) (pointerOf (stateOf p k m) owner) filler ahead t (behind ++ []) fills
+        (queue-at p k m owner filler owns fills ∙ rw (append-nil behind) stands))
+        many
 
 pub fair-fetching : FairFetching
 fair-fetching =

@@ -3,115 +3,102 @@
 use Prim.Native.Nat.{ℕ, _+_, _%_, _<_}
 use mathlib.Core.Path.{_≡_, refl, sym, ap, _∙_}
 use mathlib.Core.Bool.{false}
-use mathlib.Core.List.{List, [], _∷_, _++_, append-nil, append-assoc}
-use lib.Seq.{getD-set-same, getD-set-other}
+use mathlib.Core.List.{List, [], _∷_, _++_, append-nil}
+use lib.Seq.{getD-set-other}
+use Rattle.lists.specs.Squares.{withCell}
 use Rattle.lists.proofs.Apart.{unequal}
-use Rattle.lists.proofs.Blocks.{length-tabulate}
-use Rattle.lists.proofs.Squares.{field-kept, cell-other, even-put, square-even}
+use Rattle.lists.proofs.Squares.{field-kept, cell-other, even-put}
 use Rattle.lists.proofs.Decided.{both?}
+use Rattle.task.specs.Types.{nil}
 use Rattle.task.specs.declared.Step.{Step}
 use Rattle.task.specs.declared.Step.the-variants.{Fetch, Start, Complete, Release}
 use Rattle.task.specs.declared.StepOutcome.{StepOutcome}
-use Rattle.ring.specs.Ring.{capacity}
-use Rattle.rules.specs.Memory.{Mem}
-use Rattle.algorithm1.specs.State.{Thread, State, queueOf, threadOf}
-use Rattle.algorithm1.specs.Algorithm.{withThread, withQueue, Fetches, Allocates, lowers, allocates, Lines}
-use Rattle.algorithm1.specs.Reading.{queueIn, threadIn, stateOf}
+use Rattle.algorithm1.specs.Items as items
+use Rattle.algorithm1.specs.Items.{fresh}
+use Rattle.algorithm1.specs.State.{State, queueOf, threadOf}
+use Rattle.algorithm1.specs.Algorithm.{First, Fetches, lowers, allocates, Lines, Does}
 use Rattle.algorithm1.proofs.Memories.{first-lt}
-use Rattle.algorithm1.proofs.RoundRobin.{Waits, Takes}
+use Rattle.algorithm1.proofs.RoundRobin.{Takes, Spares, spares-none}
 use Rattle.runs.specs.Calls.{isFetch}
-use Rattle.runs.proofs.Meaning.{passes-goes}
+use Rattle.runs.proofs.Invariant.{Shaped}
+use Rattle.runs.proofs.Meaning.{passes-goes, Acts, fetch-acts, start-acts, complete-acts, lower-acts, allocate-acts}
 
--- the pointer of thread i
+-- the owner's lists and pointer are spared, the items being of any type
+abbrev pub OwnerSpared : {A : Type 0} → A → ℕ → items.State A → items.State A → Type 0
+OwnerSpared none owner s s′ =
+    Spares (queueOf s owner) (queueOf s′ owner) (items.threadOf none s owner .pointer) (items.threadOf none s′ owner .pointer)
+
+-- thread i becomes r
+module _ {A : Type 0} {none : A} {p i : ℕ} {s s′ : items.State A} {r : items.Thread A} (a : Acts none p i s s′ r) where
+  pointer-kept : (owner : ℕ) → r .pointer ≡ items.threadOf none s i .pointer
+      → items.threadOf none s′ owner .pointer ≡ items.threadOf none s owner .pointer
+  pointer-kept owner e = rw (a .threads) (field-kept (λ (x : items.Thread A). x .pointer) (s .threads) i r (fresh none) e owner)
+
+  -- no list changes
+  pub kept-spared : (owner : ℕ) → r .pointer ≡ items.threadOf none s i .pointer → s′ .queues ≡ s .queues → OwnerSpared none owner s s′
+  kept-spared owner e eq = record { stays = pointer-kept owner e; joins = λ h. rw eq (spares-none (queueOf s owner) 0 .joins h) }
+
+  -- a list that isn't the changed one
+  list-kept : (o x : ℕ) (l : List A) → s′ .queues ≡ withCell (s .queues) o x l → (owner h : ℕ) → ¬ ((owner ≡ o) × (h ≡ x))
+      → (added : List A) × (queueOf s′ owner h ≡ queueOf s owner h ++ added)
+  list-kept o x l eq owner h n = ([], rw eq (cell-other (s .queues) o x l [] owner h n) ∙ sym (append-nil (queueOf s owner h)))
+
+  -- an item joins a list at its end
+  pub joined-spared : (owner : ℕ) → r .pointer ≡ items.threadOf none s i .pointer → Shaped p s → (o x : ℕ) → o < p → x < p → (t : A)
+      → s′ .queues ≡ withCell (s .queues) o x (queueOf s o x ++ (t ∷ [])) → OwnerSpared none owner s s′
+  joined-spared owner e shaped o x ho hx t eq = record { stays = pointer-kept owner e; joins = λ h. joins h (both? owner h o x) }
+    where
+      joins : (h : ℕ) → Dec ((owner ≡ o) × (h ≡ x)) → (added : List A) × (queueOf s′ owner h ≡ queueOf s owner h ++ added)
+      joins h (yes (q, u)) = (t ∷ [], rw (eq, q, u) (even-put (shaped .queues) o x (queueOf s o x ++ (t ∷ [])) [] ho hx))
+      joins h (no n) = list-kept o x _ eq owner h n
+
+  -- another thread takes from a list of its own
+  pub other-spared : (owner : ℕ) → ¬ (owner ≡ i) → (x : ℕ) (l : List A) → s′ .queues ≡ withCell (s .queues) i x l → OwnerSpared none owner s s′
+  other-spared owner n x l eq =
+      record {
+        stays = rw (a .threads) (ap (λ (r : items.Thread A). r .pointer) (getD-set-other (s .threads) i owner r (fresh none) n));
+        joins = λ h. list-kept i x l eq owner h (λ e. n (e .0));
+      }
+
+-- the owner itself takes the first item of the first list that isn't empty
+pub owner-takes : {A : Type 0} {p i : ℕ} (s s′ : items.State A) → i < p → Shaped p s → (pointer list : ℕ) (t : A) (rest : List A)
+    → First p (λ j. ¬ (queueOf s i j ≡ [])) pointer list → queueOf s i list ≡ t ∷ rest → s′ .queues ≡ withCell (s .queues) i list rest
+    → Takes p (queueOf s i) (queueOf s′ i) pointer list t
+owner-takes {i = i} s s′ worker shaped pointer list t rest first head eq =
+    record {
+      first = first;
+      rest = rest;
+      head = head;
+      left = rw eq (even-put (shaped .queues) i list rest [] worker (first-lt first));
+      others = λ h l n. rw eq (cell-other (s .queues) i list rest [] i h (λ e. n (e .1)));
+    }
+
+-- A plain job: a step of thread i of Algorithm 1.
 abbrev pub pointerOf : State → ℕ → ℕ
 pointerOf s i = threadOf s i .pointer
 
--- the owner's pointer stays, and each of its lists, but for what joins it at the end
-pub record Spares (owner : ℕ) (s s′ : State) : Type 0 where
-  pub pointer : pointerOf s′ owner ≡ pointerOf s owner
-  pub queue : (j : ℕ) → (l : List ℕ) × (queueOf s′ owner j ≡ queueOf s owner j ++ l)
-
-pub spares-none : (owner : ℕ) (s : State) → Spares owner s s
-spares-none owner s = record { pointer = refl; queue = λ j. ([], sym (append-nil (queueOf s owner j))) }
-
--- so a task keeps those ahead of it there, and what joins comes behind it
-pub waits-spared : (p owner : ℕ) (s s′ : State) (j : ℕ) (ahead : List ℕ) (t : ℕ) (behind : List ℕ) (distance : ℕ) → Spares owner s s′
-    → Waits p (queueOf s owner) (pointerOf s owner) j ahead t behind distance
-    → (l : List ℕ) × Waits p (queueOf s′ owner) (pointerOf s′ owner) j ahead t (behind ++ l) distance
-waits-spared p owner s s′ j ahead t behind distance h w =
-    let (l, e) = h .queue j in (
-      l,
-      record {
-        stands = e ∙ ap (λ (x : List ℕ). x ++ l) (w .stands) ∙ append-assoc ahead (t ∷ behind) l;
-        near = w .near;
-        there = rw (h .pointer) (w .there);
-      },
-    )
-
--- what a step of thread i of Algorithm 1 does to the owner's lists and pointer, in a state read from a memory
-module _ (p k : ℕ) (m : Mem) (i : ℕ) (worker : i < p) (s′ : State) (o : StepOutcome) (owner : ℕ) where
-  abbrev here : State
-  here = stateOf p k m
-
-  pointer-kept : (r : Thread) → r .pointer ≡ pointerOf here i → pointerOf (withThread i r here) owner ≡ pointerOf here owner
-  pointer-kept r e = field-kept (λ (x : Thread). x .pointer) (here .threads) i r _ e owner
-
-  list-changed : (h j : ℕ) (l : List ℕ) → h < p → j < p → queueOf (withQueue h j l here) h j ≡ l
-  unfolding stateOf
-  list-changed h j l hh hj = even-put (square-even p (queueIn p k m)) h j l [] hh hj
-
-  -- a list that isn't the changed one
-  list-kept : (h x : ℕ) (l : List ℕ) (j : ℕ) → ¬ ((owner ≡ h) × (j ≡ x))
-      → (added : List ℕ) × (queueOf (withQueue h x l here) owner j ≡ queueOf here owner j ++ added)
-  list-kept h x l j n = ([], cell-other (here .queues) h x l [] owner j n ∙ sym (append-nil (queueOf here owner j)))
-
+module _ {p i : ℕ} {s s′ : State} {o : StepOutcome} (worker : i < p) (shaped : Shaped p s) where
   -- another thread's Fetch
-  pub spared-fetch : ¬ (owner ≡ i) → Fetches p i here s′ o → Spares owner here s′
-  spared-fetch n f =
-      rw (f .after)
-      (record {
-        pointer = ap (λ (r : Thread). r .pointer) (getD-set-other (here .threads) i owner _ _ n);
-        queue = λ j. list-kept i (f .list) (f .rest) j (λ e. n (e .0));
-      })
+  pub spared-fetch : (owner : ℕ) → ¬ (owner ≡ i) → Fetches p i s s′ o → OwnerSpared (nil .0) owner s s′
+  spared-fetch owner n f = other-spared (fetch-acts worker shaped f) owner n (f .list) (f .rest) (rw (f .after))
 
-  -- an allocated task joins its list at the end
-  allocated : (a : Allocates p (capacity k) i here s′ o) (j : ℕ) → Dec ((owner ≡ a .owner) × (j ≡ i))
-      → (added : List ℕ)
-      × (queueOf (withQueue (a .owner) i (queueOf here (a .owner) i ++ (a .task ∷ [])) here) owner j ≡ queueOf here owner j ++ added)
-  allocated a j (no n) = list-kept (a .owner) i _ j n
-  allocated a j (yes (e, q)) = (
-    a .task ∷ [],
-    rw (e, q)
-        (list-changed (a .owner) i (queueOf here (a .owner) i ++ (a .task ∷ [])) (first-lt (a .room)) worker),
-  )
+  -- the owner's own Fetch takes from its lists in a round robin fashion, and its pointer goes on
+  pub taking : (f : Fetches p i s s′ o) → Takes p (queueOf s i) (queueOf s′ i) (pointerOf s i) (f .list) (f .task)
+  taking f = owner-takes s s′ worker shaped (pointerOf s i) (f .list) (f .task) (f .rest) (f .first) (f .head) (rw (f .after))
 
-  -- the steps that are no Fetch
-  pub spared : (st : Step) → isFetch st ≡ false → Lines p (capacity k) i st here s′ o → Spares owner here s′
-  spared Fetch e f = unequal cc
-  spared Start e f = rw (f .after) (record { pointer = pointer-kept _ refl; queue = spares-none owner here .queue })
-  spared Complete e f = rw (f .after) (record { pointer = pointer-kept _ refl; queue = spares-none owner here .queue })
-  spared Release e (lowers f) =
-      rw (f .after) (record { pointer = pointer-kept (f .next) (passes-goes (f .pass) .pointer); queue = spares-none owner here .queue })
-  spared Release e (allocates f) =
-      rw (f .after)
-      (record {
-        pointer = pointer-kept (f .next) (passes-goes (f .pass) .pointer);
-        queue = λ j. allocated f j (both? owner j (f .owner) i);
-      })
+  pub pointer-on : (f : Fetches p i s s′ o) → pointerOf s′ i ≡ (f .list + 1) % p
+  pointer-on f = ap (λ (r : items.Thread ℕ). r .pointer) (fetch-acts worker shaped f .own)
 
--- the owner's own Fetch takes from its lists in a round robin fashion, and its pointer goes on
-module _ (p k : ℕ) (m : Mem) (i : ℕ) (worker : i < p) (s′ : State) (o : StepOutcome) (f : Fetches p i (stateOf p k m) s′ o) where
-  pub taking : Takes p (queueOf (stateOf p k m) i) (queueOf s′ i) (pointerOf (stateOf p k m) i) (f .list) (f .task)
-  taking =
-      rw (f .after)
-      (record {
-        first = f .first;
-        rest = f .rest;
-        head = f .head;
-        left = list-changed p k m i worker s′ o i i (f .list) (f .rest) worker (first-lt (f .first));
-        others = λ h l n. cell-other (stateOf p k m .queues) i (f .list) (f .rest) [] i h (λ e. n (e .1));
-      })
-
-  pub pointer-on : pointerOf s′ i ≡ (f .list + 1) % p
-  unfolding stateOf
-  pointer-on = rw (f .after) (ap (λ (r : Thread). r .pointer) (getD-set-same (stateOf p k m .threads) i _ _ (rw (length-tabulate p (threadIn m)) worker)))
+-- the steps that are no Fetch
+pub spared : {p capacity i : ℕ} {s s′ : State} {o : StepOutcome} → Shaped p s → (owner : ℕ) (st : Step) → isFetch st ≡ false
+    → Does p capacity i st s s′ o → OwnerSpared (nil .0) owner s s′
+spared {p} {capacity} {i} {s} {s′} {o} shaped owner st n d = go st n (d .lines)
+  where
+    go : (st : Step) → isFetch st ≡ false → Lines p capacity i st s s′ o → OwnerSpared (nil .0) owner s s′
+    go Fetch e f = unequal cc
+    go Start e f = kept-spared (start-acts (d .thread) shaped f) owner refl (rw (f .after))
+    go Complete e f = kept-spared (complete-acts (d .thread) shaped f) owner refl (rw (f .after))
+    go Release e (lowers f) = kept-spared (lower-acts (d .thread) shaped f) owner (passes-goes (f .pass) .pointer) (rw (f .after))
+    go Release e (allocates f) =
+        joined-spared (allocate-acts (d .thread) shaped f) owner (passes-goes (f .pass) .pointer) shaped (f .owner) i
+        (first-lt (f .room)) (d .thread) (f .task) (rw (f .after))
