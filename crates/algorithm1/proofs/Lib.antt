@@ -7,3 +7,4 @@ pub mod Accepted
 pub mod Unique
 pub mod RoundRobin
 pub mod Examples
+pub mod ItemExamples

@@ -1,6 +1,6 @@
--- The state of Algorithm 1 of source document 001, with the split lists and counters of its section 5.1, over the items that wait in its lists, are held
--- and recorded. They are of any type A, and nothing here looks inside one. What the paper keeps of each task, and a thread's buffer of completed tasks,
--- goes by the task's number. State.antt is the instance of plain jobs, whose items are their tasks.
+-- The state of Algorithm 1 of source document 001, with the split lists and counters of its section 5.1, over the items that wait in its lists, are
+-- held and recorded. They are of any type A, and nothing here looks inside one. What the paper keeps of each task, and a thread's buffer of
+-- completed tasks, goes by the task's number. State.antt is the instance of plain jobs, whose items are their tasks.
 use Prim.Native.Nat.{ℕ}
 use mathlib.Core.List.{List, []}
 use lib.ListN.{getD}
@@ -37,7 +37,8 @@ pub record State (A : Type 0) : Type 0 where
   -- the items executed and by whom, in order: document 01's record
   pub executed : List (Entry A)
 
-abbrev pub stateWith : {A : Type 0} → List ℕ → List (List ℕ) → List ℕ → List (List (List A)) → List (List ℤ) → List (Thread A) → List (Entry A) → State A
+abbrev pub stateWith : {A : Type 0} → List ℕ → List (List ℕ) → List ℕ → List (List (List A)) → List (List ℤ) → List (Thread A) → List (Entry A)
+    → State A
 stateWith w s d q c t x = record { weights = w; successors = s; degrees = d; queues = q; counters = c; threads = t; executed = x }
 
 -- w_T, d_T, and the successors of T

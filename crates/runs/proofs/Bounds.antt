@@ -16,7 +16,8 @@ use Rattle.algorithm1.specs.Reading.{stateOf}
 use Rattle.runs.proofs.Invariant.{Shaped}
 use Rattle.runs.proofs.Meaning.{passes-goes, fetch-acts, start-acts, complete-acts, lower-acts, allocate-acts}
 use Rattle.runs.proofs.ItemBounds as items
-use Rattle.runs.proofs.ItemBounds.{own-bounded, left-fetched, left-kept, left-started, left-completed, kept-bounded, taken-bounded, joined-bounded}
+use Rattle.runs.proofs.ItemBounds.{own-bounded, left-fetched, left-kept, left-started, left-completed}
+use Rattle.runs.proofs.ItemBounds.{kept-bounded, taken-bounded, joined-bounded}
 use Rattle.runs.proofs.Counters.{same-weights, fetch-changes, allocate-changes, begun-own-weights}
 
 -- the tasks weigh what the state says
@@ -75,5 +76,6 @@ does-bounded p capacity i s s′ o shaped step d = go step (d .lines)
     go Release (lowers f) = lower-bounded (d .thread) shaped f
     go Release (allocates f) = allocate-bounded (d .thread) shaped f
 
-pub begun-bounded : (limits : Limits) (p k : ℕ) (m : Mem) → answerSays (begin limits p k m .answer) ≡ accepted → Bounded p (stateOf p k (begin limits p k m .memory))
+pub begun-bounded : (limits : Limits) (p k : ℕ) (m : Mem) → answerSays (begin limits p k m .answer) ≡ accepted
+    → Bounded p (stateOf p k (begin limits p k m .memory))
 begun-bounded limits p k m e = own-bounded (nil .0) _ p (stateOf p k (begin limits p k m .memory)) (begun-own-weights limits p k m e)

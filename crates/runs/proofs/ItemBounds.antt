@@ -91,7 +91,8 @@ module _ {A : Type 0} (none : A) (w : A → ℕ) {p i : ℕ} {s s′ : State A} 
   left-after x e = omega (arith, e, sum-replaced (λ (h : Hand A). sumOf w (inHand h)) (hand-moves a refl refl))
 
   -- an idle thread takes an item
-  pub left-fetched : _≡_ {A = ℕ} (was .phase) 0 → ¬ (_≡_ {A = ℕ} (r .phase) 0) → s′ .executed ≡ s .executed → left none w p s′ ≡ left none w p s + w (r .held)
+  pub left-fetched : _≡_ {A = ℕ} (was .phase) 0 → ¬ (_≡_ {A = ℕ} (r .phase) 0) → s′ .executed ≡ s .executed
+      → left none w p s′ ≡ left none w p s + w (r .held)
   left-fetched idle busy e = left-after (w (r .held)) (rw e (omega (arith, idle-weight w was idle, busy-weight w r busy)))
 
   -- what is in hand stays there

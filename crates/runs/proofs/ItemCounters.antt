@@ -1,5 +1,5 @@
--- The split counters of a worker and the weight of the items that wait for it, the items being of any type: both change alike where an item joins one of the
--- worker's lists, and where one leaves it.
+-- The split counters of a worker and the weight of the items that wait for it, the items being of any type: both change alike where an item joins one
+-- of the worker's lists, and where one leaves it.
 use Prim.Native.Nat.{ℕ, _+_, _<_}
 use mathlib.Core.Path.{_≡_, sym, ap, _∙_}
 use mathlib.Core.List.{List, [], _∷_, _++_, append-nil}
@@ -66,7 +66,8 @@ module _ {A : Type 0} (none : A) where
     adds-up-at sums h l = rw (charged-waiting p s h) at (sums .worker h l)
 
   -- neither a list nor a counter changes
-  pub kept-adds-up : (w : A → ℕ) (p : ℕ) (s s′ : State A) → s′ .queues ≡ s .queues → s′ .counters ≡ s .counters → AddsUp none w p s → AddsUp none w p s′
+  pub kept-adds-up : (w : A → ℕ) (p : ℕ) (s s′ : State A) → s′ .queues ≡ s .queues → s′ .counters ≡ s .counters
+      → AddsUp none w p s → AddsUp none w p s′
   unfolding waitingFor
   kept-adds-up w p s s′ eq ec sums = adds-up-of w p s′ (rw (eq, ec) (adds-up-at w p s sums))
 
@@ -90,10 +91,12 @@ module _ {A : Type 0} (none : A) where
 
         at : (h : ℕ) → h < p → Dec (h ≡ c .owner) → workload p s′ h ≡ pos (sumOf w (waitingFor p s′ h))
         at h lh (yes q) = rw q (workload-own shaped c ∙ ap (λ (x : ℤ). x +ℤ c .amount) (adds-up-at w p s sums (c .owner) (c .ownerBelow)) ∙ own)
-        at h lh (no n) = workload-other shaped c h n ∙ adds-up-at w p s sums h lh ∙ ap (λ (k : List A). pos (sumOf w k)) (sym (others-waiting shaped c h n))
+        at h lh (no n) =
+            workload-other shaped c h n ∙ adds-up-at w p s sums h lh ∙ ap (λ (k : List A). pos (sumOf w k)) (sym (others-waiting shaped c h n))
 
     -- the first item leaves the list, and its weight the counter
-    pub taken-adds-up : (a : A) → queueOf s (c .owner) (c .list) ≡ a ∷ c .new → c .amount ≡ negℤ (pos (w a)) → AddsUp none w p s → AddsUp none w p s′
+    pub taken-adds-up : (a : A) → queueOf s (c .owner) (c .list) ≡ a ∷ c .new → c .amount ≡ negℤ (pos (w a))
+        → AddsUp none w p s → AddsUp none w p s′
     unfolding sumOf
     taken-adds-up a head amount = changed-adds-up (rw (head, amount, +ℤ-comm taken others) (+ℤ-negℤ-cancel others taken))
       where
@@ -104,7 +107,8 @@ module _ {A : Type 0} (none : A) where
         others = pos (sumOf w (c .new))
 
     -- an item joins the list, and its weight the counter
-    pub joined-adds-up : (a : A) → c .new ≡ queueOf s (c .owner) (c .list) ++ (a ∷ []) → c .amount ≡ pos (w a) → AddsUp none w p s → AddsUp none w p s′
+    pub joined-adds-up : (a : A) → c .new ≡ queueOf s (c .owner) (c .list) ++ (a ∷ []) → c .amount ≡ pos (w a)
+        → AddsUp none w p s → AddsUp none w p s′
     joined-adds-up a new amount = changed-adds-up (rw (new, amount) (ap pos (sym (sumOf-snoc w (queueOf s (c .owner) (c .list)) a))))
 
 -- each counter is the weight of its own list

@@ -28,3 +28,4 @@ pub mod Links
 pub mod Finishing
 pub mod Pair
 pub mod Examples
+pub mod ItemExamples

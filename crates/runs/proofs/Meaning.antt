@@ -115,7 +115,8 @@ module _ {A : Type 0} (s : items.State A) (r : items.Thread A) (b : Buffered s r
       full [] q e = b .none q
       full (x ∷ l) q e = absurd (cons-not-nil x (l ++ (t ∷ [])) e)
 
-  pub buffered-completed : (t phase : ℕ) (held : A) → Buffered s (threadWith (buffered (successorsOf s t) t (r .buffer)) (r .cursor) phase held (r .pointer))
+  pub buffered-completed : (t phase : ℕ) (held : A)
+      → Buffered s (threadWith (buffered (successorsOf s t) t (r .buffer)) (r .cursor) phase held (r .pointer))
   buffered-completed t phase held = go (successorsOf s t) refl
     where
       go : (l : List ℕ) → successorsOf s t ≡ l → Buffered s (threadWith (buffered l t (r .buffer)) (r .cursor) phase held (r .pointer))

@@ -154,7 +154,8 @@ module _ (g : Graph) (p i : ℕ) (worker : i < p) (s s′ : State) (sane : Sane 
           }
 
       -- T's release is due no more
-      releases : {T : ℕ} {r : Thread} → Acts (nil .0) p i s s′ r → Passes i s T r → s′ .executed ≡ s .executed
+      releases : {T : ℕ} {r : Thread} → Acts (nil .0) p i s s′ r → Passes i s T r
+          → s′ .executed ≡ s .executed
           → system.Releases ℕ-discrete (itemsOf g) p i T (meaning p n s) (meaning p (suc n) s′)
       unfolding meaning
       releases {r = r} a f e =

@@ -1,5 +1,5 @@
--- Of a state of Algorithm 1 over items of any type: what a thread has in hand, where a worker's items stand, and what its counters add up to. Nothing here
--- looks inside an item: `none` stands for no item, and `weight` is what each weighs.
+-- Of a state of Algorithm 1 over items of any type: what a thread has in hand, where a worker's items stand, and what its counters add up to.
+-- Nothing here looks inside an item: `none` stands for no item, and `weight` is what each weighs.
 use Prim.Native.Nat.{ℕ, _<_}
 use mathlib.Core.Path.{_≡_}
 use mathlib.Core.Bool.{cond}
