@@ -2,13 +2,13 @@
 -- what a Fetch leaves, worked out by hand.
 use Prim.Native.Nat.{ℕ}
 use mathlib.Core.Path.{_≡_, refl}
-use mathlib.Core.List.{List, [], _∷_}
+use mathlib.Core.List.{[], _∷_}
 use lib.IntN.{pos, negsuc}
 use Rattle.lists.specs.Lists.{joined}
 use Rattle.lists.specs.Squares.{cell, withCell}
 use Rattle.lists.specs.Sums.{sumToZ}
 use Rattle.task.specs.Entries.{entryOf}
-use Rattle.algorithm1.specs.Items.{Thread, threadWith, State, stateWith, waitingFor, workload, threadOf}
+use Rattle.algorithm1.specs.Items.{threadWith, State, stateWith, waitingFor, workload, threadOf}
 use Rattle.algorithm1.specs.Algorithm.{withThread, withQueue, takeWeight, holding}
 
 abbrev pub Pair : Type 0

@@ -32,7 +32,7 @@ pub record First (p : ℕ) (Is : ℕ → Type 0) (start x : ℕ) : Type 0 where
   pub is : Is x
   pub before : (d : ℕ) → d < distance → ¬ (Is ((start + d) % p))
 
--- The state with another thread, counter, circular list or degree, or with one entry more: its items are of any type.
+-- the state with another thread, degree, circular list or counter; its items are of any type
 abbrev pub withThread : {A : Type 0} → ℕ → items.Thread A → items.State A → items.State A
 withThread i t s = stateWith (s .weights) (s .successors) (s .degrees) (s .queues) (s .counters) (set (s .threads) i t) (s .executed)
 

@@ -36,6 +36,7 @@ followers s (t ∷ ts) = successorsOf s t ++ followers s ts
 unfoldable pub pendingOf : {A : Type 0} → items.State A → items.Thread A → List ℕ
 pendingOf s r = drop (r .cursor) (followers s (r .buffer))
 
+-- the items of a record
 unfoldable pub tasksOf : {A : Type 0} → List (Entry A) → List A
 tasksOf [] = []
 tasksOf (e ∷ es) = e .item ∷ tasksOf es

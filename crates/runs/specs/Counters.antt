@@ -15,7 +15,7 @@ use Rattle.algorithm1.specs.Reading.{queueIn, stateOf}
 use Rattle.runs.specs.Calls.{Run, memoryOf}
 use Rattle.runs.specs.Items as items
 
--- each worker's counters add up to the weight of its tasks that wait, each of the state's own weight
+-- each worker's counters add up to the weight of its tasks at the charged stages; a task weighs what the state says
 abbrev pub AddsUp : ℕ → State → Type 0
 AddsUp p s = items.AddsUp (nil .0) (weightOf s) p s
 
