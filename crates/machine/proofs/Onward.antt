@@ -1,0 +1,65 @@
+-- A machine without steps back: what stands is what was accepted, in order, and its memory is that after these calls alone. No journal is needed.
+use mathlib.Core.Path.{_≡_, refl, sym, ap}
+use mathlib.Core.Bool.{Bool, true, false, cond}
+use mathlib.Core.List.{List, [], _∷_}
+use Rattle.machine.specs.Machine.{Kind, beginning, forward, back, aside, lookup, Machine, Event, acceptedSaid, beganBy, eventOf, began, memoryAfter, recalled, eventsAfter, begunIn}
+use Rattle.machine.specs.Standing.{callsOf, standing, acceptedIn, Stands, Laws}
+use Rattle.machine.proofs.Lists.{throughout}
+use Rattle.machine.proofs.Standing.{stands}
+
+module _ {M C : Type 0} (on : Machine M C) (onward : (c : C) → ¬ (on .kind c ≡ back)) where
+  next-accepted : (c : C) (m : M) (past : List (Event C)) → standing on past ≡ acceptedIn on past
+      → standing on (recalled on (eventOf on c m) past) ≡ acceptedIn on (recalled on (eventOf on c m) past)
+  unfolding recalled began standing acceptedIn
+  next-accepted c m past h = go (on .kind c) (acceptedSaid (on .says c m)) refl refl
+    where
+      e : Event C
+      e = eventOf on c m
+
+      go : (k : Kind) (a : Bool) → on .kind c ≡ k → acceptedSaid (on .says c m) ≡ a
+          → standing on (cond (beganBy k a) [] (e ∷ past)) ≡ acceptedIn on (cond (beganBy k a) [] (e ∷ past))
+      go beginning true q a = refl
+      go beginning false q a = rw (q, a) h
+      go forward true q a = rw (q, a, h) refl
+      go forward false q a = rw (q, a) h
+      go back true q a = absurd (onward c q)
+      go back false q a = rw (q, a) h
+      go aside true q a = rw (q, a, h) refl
+      go aside false q a = rw (q, a) h
+      go lookup true q a = rw (q, a) h
+      go lookup false q a = rw (q, a) h
+
+  pub standing-accepted : (cs : List C) (m : M) → standing on (eventsAfter on cs m []) ≡ acceptedIn on (eventsAfter on cs m [])
+  unfolding standing acceptedIn
+  standing-accepted cs m = throughout on (λ m past. standing on past ≡ acceptedIn on past) next-accepted cs m [] refl
+
+  module _ (still : (c : C) (m : M) → acceptedSaid (on .says c m) ≡ false → on .leaves c m ≡ m)
+      (looks : (c : C) (m : M) → on .kind c ≡ lookup → on .leaves c m ≡ m) where
+    -- all words are seen
+    abbrev pub whole : M → M
+    whole m = m
+
+    abbrev pub NoJournal : M → List (Event C) → M → Type 0
+    NoJournal b es m = Unit {0}
+
+    pub onward-laws : Laws on whole NoJournal
+    onward-laws =
+        record {
+          still = still;
+          looks = looks;
+          answers = λ c m m′ k e. ap (on .says c) e;
+          stepped = λ c m m′ k e. ap (on .leaves c) e;
+          clears = λ c m q a. tt;
+          pushes = λ c b m es k a h. tt;
+          some = λ c b m es q a h. absurd (onward c q);
+          restores = λ c b m es q a h. absurd (onward c q);
+        }
+
+    -- its memory, and its events: the accepted calls, made from the last begin on alone
+    pub accepted-alone : (cs : List C) (m : M)
+        → (memoryAfter on cs m ≡ memoryAfter on (callsOf (acceptedIn on (eventsAfter on cs m []))) (begunIn on cs m m))
+        × (eventsAfter on (callsOf (acceptedIn on (eventsAfter on cs m []))) (begunIn on cs m m) [] ≡ acceptedIn on (eventsAfter on cs m []))
+    accepted-alone cs m = rw (sym (standing-accepted cs m)) (h .seen, h .again)
+      where
+        h : Stands on whole NoJournal (begunIn on cs m m) (standing on (eventsAfter on cs m [])) (memoryAfter on cs m)
+        h = stands on whole NoJournal onward-laws cs m tt
