@@ -135,7 +135,30 @@ module _ {M C : Type 0} (on : Machine M C) where
   -- what is true of the memory and the events, and stays so with each call, is true after every list
   module _ (I : M → List (Event C) → Type 0)
       (each : (c : C) (m : M) (past : List (Event C)) → I m past → I (on .leaves c m) (recalled on (eventOf on c m) past)) where
-    pub throughout : (cs : List C) (m : M) (past : List (Event C)) → I m past → I (memoryAfter on cs m) (eventsAfter on cs m past)
+    pub every : (cs : List C) (m : M) (past : List (Event C)) → I m past → I (memoryAfter on cs m) (eventsAfter on cs m past)
     unfolding memoryAfter eventsAfter
-    throughout [] m past h = h
-    throughout (c ∷ cs) m past h = throughout cs (on .leaves c m) (recalled on (eventOf on c m) past) (each c m past h)
+    every [] m past h = h
+    every (c ∷ cs) m past h = every cs (on .leaves c m) (recalled on (eventOf on c m) past) (each c m past h)
+
+-- two machines that answer and leave the same
+pub record Alike {M C : Type 0} (on on′ : Machine M C) : Type 0 where
+  pub says : (c : C) (m : M) → on .says c m ≡ on′ .says c m
+  pub leaves : (c : C) (m : M) → on .leaves c m ≡ on′ .leaves c m
+  pub kind : (c : C) → on .kind c ≡ on′ .kind c
+
+module _ {M C : Type 0} (on on′ : Machine M C) (same : Alike on on′) where
+  pub alike-memory : (cs : List C) (m : M) → memoryAfter on cs m ≡ memoryAfter on′ cs m
+  unfolding memoryAfter
+  alike-memory [] m = refl
+  alike-memory (c ∷ cs) m = alike-memory cs (on .leaves c m) ∙ ap (memoryAfter on′ cs) (same .leaves c m)
+
+  alike-recalled : (e : Event C) (past : List (Event C)) → recalled on e past ≡ recalled on′ e past
+  unfolding recalled began
+  alike-recalled e past = rw (same .kind (e .call)) refl
+
+  pub alike-events : (cs : List C) (m : M) (past : List (Event C)) → eventsAfter on cs m past ≡ eventsAfter on′ cs m past
+  unfolding eventsAfter
+  alike-events [] m past = refl
+  alike-events (c ∷ cs) m past =
+      alike-events cs (on .leaves c m) (recalled on (eventOf on c m) past)
+      ∙ rw (alike-recalled (eventOf on c m) past, same .says c m, same .leaves c m) refl

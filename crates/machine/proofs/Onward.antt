@@ -4,7 +4,7 @@ use mathlib.Core.Bool.{Bool, true, false, cond}
 use mathlib.Core.List.{List, [], _∷_}
 use Rattle.machine.specs.Machine.{Kind, beginning, forward, back, aside, lookup, Machine, Event, acceptedSaid, beganBy, eventOf, began, memoryAfter, recalled, eventsAfter, begunIn}
 use Rattle.machine.specs.Standing.{callsOf, standing, acceptedIn, Stands, Laws}
-use Rattle.machine.proofs.Lists.{throughout}
+use Rattle.machine.proofs.Lists.{every}
 use Rattle.machine.proofs.Standing.{stands}
 
 module _ {M C : Type 0} (on : Machine M C) (onward : (c : C) → ¬ (on .kind c ≡ back)) where
@@ -31,7 +31,7 @@ module _ {M C : Type 0} (on : Machine M C) (onward : (c : C) → ¬ (on .kind c 
 
   pub standing-accepted : (cs : List C) (m : M) → standing on (eventsAfter on cs m []) ≡ acceptedIn on (eventsAfter on cs m [])
   unfolding standing acceptedIn
-  standing-accepted cs m = throughout on (λ m past. standing on past ≡ acceptedIn on past) next-accepted cs m [] refl
+  standing-accepted cs m = every on (λ m past. standing on past ≡ acceptedIn on past) next-accepted cs m [] refl
 
   module _ (still : (c : C) (m : M) → acceptedSaid (on .says c m) ≡ false → on .leaves c m ≡ m)
       (looks : (c : C) (m : M) → on .kind c ≡ lookup → on .leaves c m ≡ m) where

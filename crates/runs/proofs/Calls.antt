@@ -4,7 +4,7 @@ use Prim.Native.Nat.{ℕ}
 use mathlib.Core.Path.{_≡_, refl, sym, ap, _∙_}
 use mathlib.Core.Bool.{true, false}
 use mathlib.Core.Logic.{inl, inr}
-use mathlib.Core.List.{List, [], _∷_, _++_}
+use mathlib.Core.List.{List, [], _∷_}
 use Rattle.lists.proofs.Decided.{both?}
 use Rattle.task.specs.Types.{engine}
 use Rattle.task.specs.Refusals.{Said, refused, accepted, answerSays, stepSays}
@@ -17,6 +17,8 @@ use Rattle.task.specs.declared.Answer.the-variants as answer
 use Rattle.task.specs.declared.StepAnswer.{StepAnswer}
 use Rattle.task.specs.declared.StepAnswer.the-variants.{Refused, Accepted}
 use lib.ListN.{length}
+use Rattle.machine.specs.Machine as machine
+use Rattle.machine.proofs.Lists.{every}
 use Rattle.rules.specs.Memory.{Mem, tasks, edges, graphIn}
 use Rattle.rules.specs.Sizes.{KeepsLimits, Lengths}
 use Rattle.rules.specs.Steps.{step}
@@ -31,13 +33,7 @@ use Rattle.rules.proofs.Kept.{same-graph, step-keeps, SameGraph}
 use Rattle.rules.proofs.Begin.{begin-accepted}
 use Rattle.rules.proofs.Begun.{laid-graph, laid-down}
 use Rattle.rules.proofs.Limits.{within-engine}
-use Rattle.runs.specs.Calls.{Call, stepCall, beginCall, lookupCall, says, leaves, Event, eventOf, acceptedSaid, began, memoryAfter, recalled, eventsAfter, begunMemory, reached, Run, KeptBy, memoryOf}
-
--- one list of calls after another
-pub memory-on : (cs ds : List Call) (m : Mem) → memoryAfter (cs ++ ds) m ≡ memoryAfter ds (memoryAfter cs m)
-unfolding memoryAfter
-memory-on [] ds m = refl
-memory-on (c ∷ cs) ds m = memory-on cs ds (leaves c m)
+use Rattle.runs.specs.Calls.{Call, stepCall, beginCall, lookupCall, says, leaves, plain, Event, eventOf, acceptedSaid, began, memoryAfter, recalled, eventsAfter, begunMemory, reached, Run, KeptBy, memoryOf}
 
 -- a call that moves nothing: a refused one, a lookup
 pub data Still : Call → Said → Type 0 where
@@ -46,7 +42,7 @@ pub data Still : Call → Said → Type 0 where
 
 -- it begins no other run
 pub still-began : (c : Call) (said : Said) → Still c said → began (record { call = c; said = said }) ≡ false
-unfolding began
+unfolding machine.began
 still-began (stepCall limits p k i s) said (refuses _ n d) = refl
 still-began (beginCall limits p k) said (refuses _ n d) = refl
 still-began (lookupCall side t) said h = refl
@@ -54,11 +50,11 @@ still-began (lookupCall side t) said h = refl
 module _ (limits : Limits) (p k : ℕ) (m : Mem) where
   -- nor does a step
   pub step-began : (i : ℕ) (s : Step) → began (eventOf (stepCall limits p k i s) m) ≡ false
-  unfolding began
+  unfolding machine.began
   step-began i s = refl
 
   pub begin-began : answerSays (begin limits p k m .answer) ≡ accepted → began (eventOf (beginCall limits p k) m) ≡ true
-  unfolding began says
+  unfolding machine.began says
   begin-began e = ap acceptedSaid e
 
 -- what a call does in memory begun with P and K, whatever its limits
@@ -119,24 +115,19 @@ module _ (p k : ℕ) (I : Mem → List Event → Type 0)
     (keep : (limits : Limits) (m : Mem) (past : List Event) (i : ℕ) (s : Step) → AcceptedStep limits p k i s m → I m past
     → I (step limits p k i s m .memory) (eventOf (stepCall limits p k i s) m ∷ past)) where
   -- then every call keeps it
-  each : (c : Call) (m : Mem) (past : List Event) → Lengths p k m → I m past → I (leaves c m) (recalled (eventOf c m) past)
-  unfolding recalled leaves
-  each c m past l h = go c (did p k m l c)
+  each : (c : Call) (m : Mem) (past : List Event) → Lengths p k m × I m past → Lengths p k (leaves c m) × I (leaves c m) (recalled (eventOf c m) past)
+  unfolding machine.recalled leaves
+  each c m past (l, h) = (lengths-kept p k m l c, go c (did p k m l c))
     where
       go : (c : Call) → Did p k m c → I (leaves c m) (recalled (eventOf c m) past)
       go c (stays _ q e) = rw (e, still-began c (says c m) q) (stay m past c (says c m) q h)
       go _ (steps limits i s a) = rw (step-began limits p k m i s) (keep limits m past i s a h)
       go _ (starts limits e) = rw (begin-began limits p k m e) (start limits m e)
 
-  -- and so does every list of calls
-  every : (cs : List Call) (m : Mem) (past : List Event) → Lengths p k m → I m past → I (memoryAfter cs m) (eventsAfter cs m past)
-  unfolding memoryAfter eventsAfter
-  every [] m past l h = h
-  every (c ∷ cs) m past l h = every cs (leaves c m) (recalled (eventOf c m) past) (lengths-kept p k m l c) (each c m past l h)
-
   pub throughout : (limits : Limits) (m : Mem) → answerSays (begin limits p k m .answer) ≡ accepted → (cs : List Call)
       → I (reached limits p k m cs) (eventsAfter cs (begunMemory limits p k m) [])
-  throughout limits m e cs = every cs (begunMemory limits p k m) [] (laid-down limits p k m e .lengths) (start limits m e)
+  throughout limits m e cs =
+      every plain (λ m past. Lengths p k m × I m past) each cs (begunMemory limits p k m) [] (laid-down limits p k m e .lengths, start limits m e) .1
 
 -- a property of the memory alone
 module _ (p k : ℕ) (I : Mem → Type 0)
@@ -156,9 +147,9 @@ module _ (p k : ℕ) {A : Type 0} (f : Mem → A)
   call-unwritten m _ (starts limits e) = begun limits m e
 
   unwritten : (cs : List Call) (m : Mem) → Lengths p k m → f (memoryAfter cs m) ≡ f m
-  unfolding memoryAfter
-  unwritten [] m l = refl
-  unwritten (c ∷ cs) m l = unwritten cs (leaves c m) (lengths-kept p k m l c) ∙ call-unwritten m c (did p k m l c)
+  unwritten cs m l =
+      every plain (λ m′ past. Lengths p k m′ × (f m′ ≡ f m)) (λ c m′ past h. (lengths-kept p k m′ (h .0) c, call-unwritten m′ c (did p k m′ (h .0) c) ∙ h .1)) cs m
+      [] (l, refl) .1
 
 -- so it is as begin was lent it: weights and predecessor tables, and with them the graph and N
 module _ (r : Run) where

@@ -15,6 +15,7 @@ use Rattle.task.specs.Refusals.{Said, taskFetched, outcomeSays}
 use Rattle.task.specs.declared.Limits.{Limits}
 use Rattle.task.specs.declared.Step.{Step}
 use Rattle.task.specs.declared.Step.the-variants.{Fetch, Start, Complete, Release}
+use Rattle.machine.specs.Machine as machine
 use Rattle.rules.specs.Memory.{Mem}
 use Rattle.rules.specs.Sizes.{Lengths}
 use Rattle.rules.specs.Steps.{step}
@@ -25,7 +26,7 @@ use Rattle.algorithm1.specs.Reading.{queueIn, stateOf}
 use Rattle.algorithm1.proofs.Readings.{queue-at}
 use Rattle.algorithm1.proofs.Accepted.{step-does}
 use Rattle.algorithm1.proofs.RoundRobin.{Takes, Own, Nearer, stands-near, spares-none, spared-near, taken-near}
-use Rattle.runs.specs.Calls.{Call, stepCall, isFetch, fetchBy, says, leaves, eventOf, acceptedSaid, began, memoryAfter, begins, memoryOf}
+use Rattle.runs.specs.Calls.{Call, stepCall, isFetch, fetchBy, says, leaves, eventOf, acceptedSaid, began, memoryOf}
 use Rattle.runs.specs.Fairness.{oneMore, fetches, TakenWithin, FairFetching}
 use Rattle.runs.proofs.Calls.{Still, refuses, looks, still-began, step-began, begin-began, Did, stays, steps, starts, did, lengths-kept}
 use Rattle.runs.proofs.Honest.{honest-run}
@@ -50,7 +51,7 @@ fetches-first owner c cs m same = rw same refl
 taken-later : (p k owner filler t : ℕ) (behind : List ℕ) (c : Call) (cs : List Call) (m : Mem) → began (eventOf c m) ≡ false
     → (x n : ℕ) → oneMore (owned owner c m) x ≡ n
     → TakenWithin p k owner filler t behind x cs (leaves c m) → TakenWithin p k owner filler t behind n (c ∷ cs) m
-unfolding memoryAfter begins
+unfolding machine.memoryAfter machine.begins
 taken-later p k owner filler t behind c cs m same x n e w =
     rw (sym e)
     (record {
@@ -120,7 +121,7 @@ module _ (p k : ℕ) where
       fetches-it : (added : List ℕ) (n : ℕ) → 0 < n
           → Own (queueOf (stateOf p k m) owner) (queueOf (stateOf p k next) owner) filler (fetch .task) t (behind ++ added)
           → TakenWithin p k owner filler t behind n (this ∷ cs) m
-      unfolding memoryAfter begins fetches leaves
+      unfolding machine.memoryAfter machine.begins fetches leaves
       fetches-it added n h own =
           record {
             earlier = [];

@@ -8,12 +8,14 @@ use native.Mathlib.Decide.{decLe}
 use Rattle.task.specs.Rows.{Acceptance}
 use Rattle.task.specs.declared.Limits.{Limits}
 use Rattle.task.specs.declared.Step.{Step}
+use Rattle.machine.specs.Machine as machine
+use Rattle.machine.proofs.Lists.{memory-on}
 use Rattle.rules.specs.Memory.{tasks, edges, acceptedIn}
 use Rattle.rules.proofs.Moves.{accepted-step}
 use Rattle.rules.proofs.Moved.{counts}
-use Rattle.runs.specs.Calls.{Call, stepCall, leaves, memoryAfter, begunMemory, Run, KeptBy, memoryOf, eventsOf, longer}
+use Rattle.runs.specs.Calls.{Call, stepCall, leaves, plain, begunMemory, Run, KeptBy, memoryOf, eventsOf, longer}
 use Rattle.runs.specs.Demand.{acceptedCompletes, acceptedSteps, Finished, nextSays, CanFinish}
-use Rattle.runs.proofs.Calls.{memory-on, tasks-reached, edges-reached}
+use Rattle.runs.proofs.Calls.{tasks-reached, edges-reached}
 use Rattle.runs.proofs.Events.{accepted-word}
 use Rattle.runs.proofs.Demand.{demand-3}
 
@@ -41,10 +43,10 @@ module _ (r : Run) where
 
     -- the run with one more accepted step counts one more
     one-more : acceptedSteps (eventsOf (longer r (c ∷ []))) ≡ suc (acceptedSteps (eventsOf r))
-    unfolding memoryAfter leaves
+    unfolding machine.memoryAfter leaves
     one-more =
         sym (accepted-word (longer r (c ∷ [])))
-        ∙ ap acceptedIn (memory-on (r .calls) (c ∷ []) (begunMemory (r .limits) (r .workers) (r .slots) (r .lent)))
+        ∙ ap acceptedIn (memory-on plain (r .calls) (c ∷ []) (begunMemory (r .limits) (r .workers) (r .slots) (r .lent)))
         ∙ counts limits (r .workers) (r .slots) i s (memoryOf r) a
         ∙ ap suc (accepted-word r)
 

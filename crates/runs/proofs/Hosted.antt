@@ -8,6 +8,7 @@ use Rattle.lists.proofs.Appends.{head-same}
 use Rattle.task.specs.Refusals.{Said, accepted}
 use Rattle.task.specs.declared.Limits.{Limits}
 use Rattle.task.specs.declared.Step.the-variants.{Fetch}
+use Rattle.machine.specs.Machine as machine
 use Rattle.rules.specs.Memory.{Mem}
 use Rattle.runs.specs.Calls.{Call, stepCall, beginCall, leaves, Event, eventOf, memoryAfter, eventsAfter, recalled, begins, begunMemory}
 use Rattle.runs.specs.Fairness.{fetches, TakenWithin}
@@ -31,13 +32,13 @@ chained-later (s ∷ a) b m c = chained-later a b (s .left) (c .1)
 
 -- what the rules say of the calls made is what was seen
 last-after : (seen : List Seen) (m : Mem) → Chained m seen → memoryAfter (callsMade seen) m ≡ lastLeft m seen
-unfolding memoryAfter callsMade lastLeft
+unfolding machine.memoryAfter callsMade lastLeft
 last-after [] m c = refl
 last-after (s ∷ rest) m c = ap (memoryAfter (callsMade rest)) (sym (c .0 .written)) ∙ last-after rest (s .left) (c .1)
 
 events-after : (seen : List Seen) (m : Mem) (past : List Event) → Chained m seen
     → eventsAfter (callsMade seen) m past ≡ eventsSeen seen past
-unfolding eventsAfter callsMade eventsSeen
+unfolding machine.eventsAfter callsMade eventsSeen
 events-after [] m past c = refl
 events-after (s ∷ rest) m past c =
     ap (λ (m′ : Mem). eventsAfter (callsMade rest) m′ (recalled (eventOf (s .call) m) past)) (sym (c .0 .written))
@@ -50,7 +51,7 @@ fetches-after i [] m c = refl
 fetches-after i (s ∷ rest) m c = rw (sym (c .0 .written), sym (c .0 .answered), fetches-after i rest (s .left) (c .1)) refl
 
 begins-after : (seen : List Seen) (m : Mem) → Chained m seen → begins (callsMade seen) m ≡ beginsSeen seen
-unfolding begins callsMade beginsSeen
+unfolding machine.begins callsMade beginsSeen
 begins-after [] m c = refl
 begins-after (s ∷ rest) m c = rw (sym (c .0 .written), sym (c .0 .answered), begins-after rest (s .left) (c .1)) refl
 

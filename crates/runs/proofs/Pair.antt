@@ -23,6 +23,7 @@ use Rattle.choice.specs.Least.{load, leastFrom, least}
 use Rattle.choice.specs.Search.{search}
 use Rattle.exchange.specs.Exchange.{Chain}
 use Rattle.exchange.specs.Pairs.{differently, pairsDiffering, eachOnce}
+use Rattle.machine.specs.Machine as machine
 use Rattle.rules.specs.Memory.{Mem, graphIn, allSteps, allEntries}
 use Rattle.rules.specs.Sizes.{numbersFit, othersFit, lengthsFit}
 use Rattle.rules.specs.Words.{countersFit}
@@ -31,7 +32,7 @@ use Rattle.rules.specs.Plans.{counted, carriedOut}
 use Rattle.rules.specs.Steps.{scan, fetchTask, fetchFrom, fetchRule, startRule, completeSink, completeInner, completeRule, releasedRow, findRoom, releaseTo, releaseReady, releaseWaiting, releaseRule, ruleOf, stepPlan, step}
 use Rattle.rules.specs.Begin.{cleared, rootsPlaced, begun, rootsAnswer, beginAnswer, begin}
 use Rattle.rules.proofs.Examples.{lent, beginSays}
-use Rattle.runs.specs.Calls.{Call, stepCall, beginCall, says, leaves, Event, began, memoryAfter, recalled, eventsAfter, begunMemory, Run, memoryOf, eventsOf}
+use Rattle.runs.specs.Calls.{Call, stepCall, beginCall, says, leaves, Event, begunMemory, Run, memoryOf, eventsOf}
 use Rattle.runs.specs.Demand.{acceptedOf, acceptedSteps, Finished, orderOf, OneGraph}
 use Rattle.runs.proofs.Demand.{demand-3}
 
@@ -103,7 +104,7 @@ record Pair : Type 0 where
   differing : pairsDiffering 4 (0 ∷ 3 ∷ 2 ∷ 1 ∷ []) (0 ∷ 1 ∷ 2 ∷ 3 ∷ []) ≡ 3
 
 pair : Pair
-unfolding ℕ-discrete decLe decLt firstBelow occOf placeOf joined tabulate allOf sumTo after around capped nextPhase part sizesFit firstBad firstTwice firstOnCycle tablesAnswer checkAnswer below? among? light? good? bad? endsFit? twice? twiceIn? find-twice edge? thru? path? leads? onCycle? succsBelow succStart succStarts succWords degreeList roots capacity slotAt endsAt storeEnds sound empty full headOn tailOn sumToZ load leastFrom least search allSteps allEntries numbersFit othersFit lengthsFit countersFit updated written counted carriedOut scan fetchTask fetchFrom fetchRule startRule completeSink completeInner completeRule releasedRow findRoom releaseTo releaseReady releaseWaiting releaseRule ruleOf stepPlan step cleared rootsPlaced begun rootsAnswer beginAnswer begin says leaves began memoryAfter recalled eventsAfter acceptedOf orderOf answersIn differently pairsDiffering
+unfolding ℕ-discrete decLe decLt firstBelow occOf placeOf joined tabulate allOf sumTo after around capped nextPhase part sizesFit firstBad firstTwice firstOnCycle tablesAnswer checkAnswer below? among? light? good? bad? endsFit? twice? twiceIn? find-twice edge? thru? path? leads? onCycle? succsBelow succStart succStarts succWords degreeList roots capacity slotAt endsAt storeEnds sound empty full headOn tailOn sumToZ load leastFrom least search allSteps allEntries numbersFit othersFit lengthsFit countersFit updated written counted carriedOut scan fetchTask fetchFrom fetchRule startRule completeSink completeInner completeRule releasedRow findRoom releaseTo releaseReady releaseWaiting releaseRule ruleOf stepPlan step cleared rootsPlaced begun rootsAnswer beginAnswer begin says leaves machine.began machine.memoryAfter machine.recalled machine.eventsAfter acceptedOf orderOf answersIn differently pairsDiffering
 pair =
     record {
       finished = (record { completes = omega arith }, record { completes = omega arith });
@@ -167,7 +168,7 @@ pub record Mixed : Type 0 where
   pub counted : memoryOf mixed .run ≡ 4 ∷ 15 ∷ []
 
 pub mixed-run : Mixed
-unfolding ℕ-discrete decLe decLt firstBelow occOf placeOf joined tabulate allOf sumTo after around capped nextPhase part sizesFit firstBad firstTwice firstOnCycle tablesAnswer checkAnswer below? among? light? good? bad? endsFit? twice? twiceIn? find-twice edge? thru? path? leads? onCycle? succsBelow succStart succStarts succWords degreeList roots capacity slotAt endsAt storeEnds sound empty full headOn tailOn sumToZ load leastFrom least search allSteps allEntries numbersFit othersFit lengthsFit countersFit updated written counted carriedOut scan fetchTask fetchFrom fetchRule startRule completeSink completeInner completeRule releasedRow findRoom releaseTo releaseReady releaseWaiting releaseRule ruleOf stepPlan step cleared rootsPlaced begun rootsAnswer beginAnswer begin says leaves began memoryAfter recalled eventsAfter acceptedOf orderOf answersIn
+unfolding ℕ-discrete decLe decLt firstBelow occOf placeOf joined tabulate allOf sumTo after around capped nextPhase part sizesFit firstBad firstTwice firstOnCycle tablesAnswer checkAnswer below? among? light? good? bad? endsFit? twice? twiceIn? find-twice edge? thru? path? leads? onCycle? succsBelow succStart succStarts succWords degreeList roots capacity slotAt endsAt storeEnds sound empty full headOn tailOn sumToZ load leastFrom least search allSteps allEntries numbersFit othersFit lengthsFit countersFit updated written counted carriedOut scan fetchTask fetchFrom fetchRule startRule completeSink completeInner completeRule releasedRow findRoom releaseTo releaseReady releaseWaiting releaseRule ruleOf stepPlan step cleared rootsPlaced begun rootsAnswer beginAnswer begin says leaves machine.began machine.memoryAfter machine.recalled machine.eventsAfter acceptedOf orderOf answersIn
 mixed-run = record { finished = record { completes = omega arith }; begunAgain = refl; answers = refl; order = refl; recorded = refl; counted = refl }
 
 -- A run begun by the engine with P 5, which the preview doesn't take: with begin's own P and K the preview's calls are refused with 2, and the engine's
@@ -207,5 +208,5 @@ pub record BeyondRun : Type 0 where
   pub counted : memoryOf beyond .run ≡ 4 ∷ 15 ∷ []
 
 pub beyond-run : BeyondRun
-unfolding ℕ-discrete decLe decLt firstBelow occOf placeOf joined tabulate allOf sumTo after around capped nextPhase part sizesFit firstBad firstTwice firstOnCycle tablesAnswer checkAnswer below? among? light? good? bad? endsFit? twice? twiceIn? find-twice edge? thru? path? leads? onCycle? succsBelow succStart succStarts succWords degreeList roots capacity slotAt endsAt storeEnds sound empty full headOn tailOn sumToZ load leastFrom least search allSteps allEntries numbersFit othersFit lengthsFit countersFit updated written counted carriedOut scan fetchTask fetchFrom fetchRule startRule completeSink completeInner completeRule releasedRow findRoom releaseTo releaseReady releaseWaiting releaseRule ruleOf stepPlan step cleared rootsPlaced begun rootsAnswer beginAnswer begin says leaves began memoryAfter recalled eventsAfter acceptedOf orderOf answersIn
+unfolding ℕ-discrete decLe decLt firstBelow occOf placeOf joined tabulate allOf sumTo after around capped nextPhase part sizesFit firstBad firstTwice firstOnCycle tablesAnswer checkAnswer below? among? light? good? bad? endsFit? twice? twiceIn? find-twice edge? thru? path? leads? onCycle? succsBelow succStart succStarts succWords degreeList roots capacity slotAt endsAt storeEnds sound empty full headOn tailOn sumToZ load leastFrom least search allSteps allEntries numbersFit othersFit lengthsFit countersFit updated written counted carriedOut scan fetchTask fetchFrom fetchRule startRule completeSink completeInner completeRule releasedRow findRoom releaseTo releaseReady releaseWaiting releaseRule ruleOf stepPlan step cleared rootsPlaced begun rootsAnswer beginAnswer begin says leaves machine.began machine.memoryAfter machine.recalled machine.eventsAfter acceptedOf orderOf answersIn
 beyond-run = record { finished = record { completes = omega arith }; answers = refl; order = refl; recorded = refl; counted = refl }

@@ -16,6 +16,8 @@ use Rattle.task.specs.declared.Row.{Row}
 use Rattle.task.specs.declared.Step.{Step}
 use Rattle.task.specs.declared.Step.the-variants.{Fetch, Start, Complete, Release}
 use Rattle.graph.proofs.Refusals.{judge-follows}
+use Rattle.machine.specs.Machine as machine
+use Rattle.machine.proofs.Lists.{memory-on}
 use Rattle.rules.specs.Memory.{Mem, tasks, edges, ringNumber, counterIn, degreeIn, rowIn, held, entriesIn, acceptedIn, successor}
 use Rattle.rules.specs.Steps.{step}
 use Rattle.rules.specs.Tables.{BadRange, NextTask, fetchRows, startRows, completeRows, releaseRows, ownRows, stepRows}
@@ -26,11 +28,11 @@ use Rattle.rules.proofs.Numbers.{TwoOrOne, other-step}
 use Rattle.algorithm1.specs.State.{threadOf}
 use Rattle.algorithm1.specs.Reading.{stateOf}
 use Rattle.algorithm1.proofs.Readings.{phase-at}
-use Rattle.runs.specs.Calls.{Call, stepCall, beginCall, lookupCall, says, Event, eventOf, began, recalled, memoryAfter, eventsAfter, Run, memoryOf, eventsOf}
+use Rattle.runs.specs.Calls.{Call, stepCall, beginCall, lookupCall, says, plain, Event, eventOf, began, recalled, eventsAfter, Run, memoryOf, eventsOf}
 use Rattle.runs.specs.Demand.{Finished}
 use Rattle.runs.specs.Undamaged.{NoDamage, NoDamageIn, Undamaged}
 use Rattle.runs.proofs.Invariant.{pendingOf}
-use Rattle.runs.proofs.Calls.{memory-on, tasks-reached}
+use Rattle.runs.proofs.Calls.{tasks-reached}
 use Rattle.runs.proofs.Hands.{hand-running}
 use Rattle.runs.proofs.Honest.{Honest, honest-run}
 use Rattle.runs.proofs.Weights.{honest-within}
@@ -208,7 +210,7 @@ module _ (r : Run) where
       harmless-says (judge-follows side _ t) (ordinary-row (omega arith) (λ _. ordinary-row (omega arith) (λ _. ordinary-row (omega arith) (λ _. harmless-end))))
 
 recalled-undamaged : (e : Event) (past : List Event) → NoDamage (e .said) → NoDamageIn past → NoDamageIn (recalled e past)
-unfolding recalled
+unfolding machine.recalled
 recalled-undamaged e past b all = go (began e)
   where
     go : (x : Bool) → NoDamageIn (cond x [] (e ∷ past))
@@ -220,15 +222,15 @@ abbrev withCalls : Run → List Call → Run
 withCalls r cs = record { limits = r .limits; workers = r .workers; slots = r .slots; lent = r .lent; accepts = r .accepts; calls = cs }
 
 further-undamaged : (r : Run) (cs : List Call) (past : List Event) → NoDamageIn past → NoDamageIn (eventsAfter cs (memoryOf r) past)
-unfolding memoryAfter eventsAfter
+unfolding machine.memoryAfter machine.eventsAfter
 further-undamaged r [] past all = all
 further-undamaged r (c ∷ cs) past all =
-    rw (memory-on (r .calls) (c ∷ []) _) at
+    rw (memory-on plain (r .calls) (c ∷ []) _) at
     (further-undamaged (withCalls r (r .calls ++ (c ∷ []))) cs (recalled (eventOf c (memoryOf r)) past)
     (recalled-undamaged (eventOf c (memoryOf r)) past (call-undamaged r c) all))
 
 events-undamaged : (r : Run) → NoDamageIn (eventsOf r)
-unfolding memoryAfter
+unfolding machine.memoryAfter
 events-undamaged r = further-undamaged (withCalls r []) (r .calls) [] tt
 
 pub undamaged : Undamaged

@@ -38,6 +38,9 @@ use Rattle.choice.specs.Search.{search}
 use Rattle.exchange.specs.Exchange.{Chain, none, more}
 use Rattle.exchange.specs.Pairs.{eachOnce, TaskExchanges}
 use Rattle.exchange.proofs.Theorem.{exchange-tasks}
+use Rattle.machine.specs.Machine.{Machine}
+use Rattle.machine.specs.Machine as machine
+use Rattle.machine.proofs.Lists.{Alike, alike-memory, alike-events}
 use Rattle.rules.specs.Memory.{Mem, tasks, edges, graphIn, allSteps, allEntries, degreeIn, succCount, rowIn, withPlaces, held, entriesIn, acceptedIn, oldest, successor}
 use Rattle.rules.specs.Sizes.{KeepsLimits, numbersFit, othersFit, lengthsFit}
 use Rattle.rules.specs.Words.{countersFit}
@@ -46,7 +49,7 @@ use Rattle.rules.specs.Plans.{Plan, refuse, accept, counted, Result, carriedOut
 use Rattle.rules.specs.Steps.{scan, fetchTask, fetchFrom, fetchRule, startRule, completeSink, completeInner, completeRule, releasedRow, advance, findRoom, releaseTo, releaseReady, releaseWaiting, releaseRule, ruleOf, stepPlan, step}
 use Rattle.rules.specs.Begin.{cleared, rootsPlaced, begun, rootsAnswer, beginAnswer, begin}
 use Rattle.rules.proofs.Examples.{lent, Call, by, single, twoRoots, fork}
-use Rattle.runs.specs.Calls.{stepCall, beginCall, lookupCall, isStep, says, leaves, Event, eventOf, began, memoryAfter, recalled, eventsAfter, Run, memoryOf, eventsOf}
+use Rattle.runs.specs.Calls.{stepCall, beginCall, lookupCall, isStep, says, leaves, kindOf, plain, Event, Run, memoryOf, eventsOf}
 use Rattle.runs.specs.Calls as calls
 use Rattle.runs.specs.Demand.{acceptedOf, acceptedSteps, acceptedCompletes, Finished, taskWord, workerWord, orderOf, AllowedOrder, OneRun, Agree, Demand3}
 use Rattle.runs.proofs.Demand.{order-agreed, demand-3}
@@ -81,18 +84,9 @@ leftBy g (stepCall limits p k i s) m = g .takes limits p k i s m .memory
 leftBy g (beginCall limits p k) m = g .begins limits p k m .memory
 leftBy g (lookupCall side t) m = m
 
-abbrev pub eventBy : Program → calls.Call → Mem → Event
-eventBy g c m = record { call = c; said = answerBy g c m }
-
--- the memory after some calls, and the events of the run that then goes on, the latest first, `past` being what came before: as `memoryAfter` and
--- `eventsAfter` are of the rules
-unfoldable pub leftAfter : Program → List calls.Call → Mem → Mem
-leftAfter g [] m = m
-leftAfter g (c ∷ cs) m = leftAfter g cs (leftBy g c m)
-
-unfoldable pub eventsBy : Program → List calls.Call → Mem → List Event → List Event
-eventsBy g [] m past = past
-eventsBy g (c ∷ cs) m past = eventsBy g cs (leftBy g c m) (recalled (eventBy g c m) past)
+-- as the rules are `plain`
+abbrev pub machineOf : Program → Machine Mem calls.Call
+machineOf g = record { says = answerBy g; leaves = leftBy g; kind = kindOf }
 
 abbrev pub BeginAccepted : Program → Trial → Type 0
 BeginAccepted g r = answerSays (g .begins (r .limits) (r .workers) (r .slots) (r .memory) .answer) ≡ accepted
@@ -101,10 +95,10 @@ abbrev pub begunBy : Program → Trial → Mem
 begunBy g r = g .begins (r .limits) (r .workers) (r .slots) (r .memory) .memory
 
 abbrev pub endOf : Program → Trial → Mem
-endOf g r = leftAfter g (r .calls) (begunBy g r)
+endOf g r = machine.memoryAfter (machineOf g) (r .calls) (begunBy g r)
 
 abbrev pub eventsIn : Program → Trial → List Event
-eventsIn g r = eventsBy g (r .calls) (begunBy g r) []
+eventsIn g r = machine.eventsAfter (machineOf g) (r .calls) (begunBy g r) []
 
 abbrev pub orderIn : Program → Trial → List ℕ
 orderIn g r = tabulate (tasks (r .memory)) (taskWord (endOf g r))
@@ -152,25 +146,18 @@ same-left (stepCall limits p k i s) m = refl
 same-left (beginCall limits p k) m = refl
 same-left (lookupCall side t) m = refl
 
-same-memory : (cs : List calls.Call) (m : Mem) → memoryAfter cs m ≡ leftAfter rules cs m
-unfolding memoryAfter leftAfter
-same-memory [] m = refl
-same-memory (c ∷ cs) m = rw (same-left c m) (same-memory cs (leaves c m))
-
-same-events : (cs : List calls.Call) (m : Mem) (past : List Event) → eventsAfter cs m past ≡ eventsBy rules cs m past
-unfolding eventsAfter eventsBy
-same-events [] m past = refl
-same-events (c ∷ cs) m past = rw (same-left c m, same-answer c m) (same-events cs (leaves c m) (recalled (eventOf c m) past))
+alike : Alike plain (machineOf rules)
+alike = record { says = λ c m. sym (same-answer c m); leaves = λ c m. sym (same-left c m); kind = λ c. refl }
 
 abbrev asRun : (r : Trial) → BeginAccepted rules r → Run
 asRun r b = record { limits = r .limits; workers = r .workers; slots = r .slots; lent = r .memory; accepts = b; calls = r .calls }
 
 module _ (r : Trial) (b : BeginAccepted rules r) where
   memory-is : memoryOf (asRun r b) ≡ endOf rules r
-  memory-is = same-memory (r .calls) (begunBy rules r)
+  memory-is = alike-memory plain (machineOf rules) alike (r .calls) (begunBy rules r)
 
   events-are : eventsOf (asRun r b) ≡ eventsIn rules r
-  events-are = same-events (r .calls) (begunBy rules r) []
+  events-are = alike-events plain (machineOf rules) alike (r .calls) (begunBy rules r) []
 
   order-is : orderOf (asRun r b) ≡ orderIn rules r
   unfolding orderOf
@@ -498,7 +485,7 @@ record WrongRuns : Type 0 where
       (0 ∷ 1 ∷ []) (0 ∷ 0 ∷ [])
 
 wrong-runs : WrongRuns
-unfolding ℕ-discrete decLe decLt firstBelow occOf placeOf joined tabulate allOf sumTo after around capped nextPhase part sizesFit firstBad firstTwice firstOnCycle tablesAnswer checkAnswer below? among? light? good? bad? endsFit? twice? twiceIn? find-twice edge? thru? path? leads? onCycle? succsBelow succStart succStarts succWords degreeList roots capacity slotAt endsAt storeEnds sound empty full headOn tailOn sumToZ load leastFrom least search allSteps allEntries numbersFit othersFit lengthsFit countersFit updated written counted carriedOut scan fetchTask fetchFrom fetchRule startRule completeSink completeInner completeRule releasedRow findRoom releaseTo releaseReady releaseWaiting releaseRule ruleOf stepPlan step cleared rootsPlaced begun rootsAnswer beginAnswer begin began recalled acceptedOf answerBy leftBy leftAfter eventsBy stepsAmong
+unfolding ℕ-discrete decLe decLt firstBelow occOf placeOf joined tabulate allOf sumTo after around capped nextPhase part sizesFit firstBad firstTwice firstOnCycle tablesAnswer checkAnswer below? among? light? good? bad? endsFit? twice? twiceIn? find-twice edge? thru? path? leads? onCycle? succsBelow succStart succStarts succWords degreeList roots capacity slotAt endsAt storeEnds sound empty full headOn tailOn sumToZ load leastFrom least search allSteps allEntries numbersFit othersFit lengthsFit countersFit updated written counted carriedOut scan fetchTask fetchFrom fetchRule startRule completeSink completeInner completeRule releasedRow findRoom releaseTo releaseReady releaseWaiting releaseRule ruleOf stepPlan step cleared rootsPlaced begun rootsAnswer beginAnswer begin machine.began machine.memoryAfter machine.recalled machine.eventsAfter acceptedOf answerBy leftBy stepsAmong
 wrong-runs =
     record {
       forgets-a-root = record { begins = refl; taken = refl; unfinished = omega arith; refusals = refl };

@@ -1,16 +1,19 @@
 -- "A run starts at an accepted begin .. A list of calls follows: Fetch, Start, Complete and Release with any worker, P and K, accepted or
 -- refused, and refused begins. Each finds the words that the last one left; a lookup in between writes nothing." Each call has limits of its own, as
 -- the engine's or the preview's.
-use Prim.Native.Nat.{ℕ, suc}
+use Prim.Native.Nat.{ℕ}
 use mathlib.Core.Path.{_≡_}
 use mathlib.Core.Bool.{Bool, true, false, cond}
-use mathlib.Core.List.{List, [], _∷_, _++_}
+use mathlib.Core.List.{List, [], _++_}
 use lib.Dec.{eqb}
-use Rattle.task.specs.Refusals.{Said, refused, answered, accepted, answerSays, stepSays}
+use Rattle.task.specs.Refusals.{Said, accepted, answerSays, stepSays}
 use Rattle.task.specs.declared.Limits.{Limits}
 use Rattle.task.specs.declared.Side.{Side}
 use Rattle.task.specs.declared.Step.{Step}
 use Rattle.task.specs.declared.Step.the-variants.{Fetch, Start, Complete, Release}
+use Rattle.machine.specs.Machine.{Kind, beginning, forward, lookup, Machine}
+use Rattle.machine.specs.Machine as machine
+pub use Rattle.machine.specs.Machine.{acceptedSaid}
 use Rattle.graph.specs.Lookup.{lentOf, judgeAnswer}
 use Rattle.rules.specs.Memory.{Mem, tasks, edges}
 use Rattle.rules.specs.Sizes.{KeepsLimits}
@@ -68,45 +71,36 @@ leaves (stepCall limits p k i s) m = step limits p k i s m .memory
 leaves (beginCall limits p k) m = begin limits p k m .memory
 leaves (lookupCall side t) m = m
 
--- a call and its answer
-pub record Event : Type 0 where
-  pub call : Call
-  pub said : Said
+abbrev pub kindOf : Call → Kind
+kindOf (stepCall limits p k i s) = forward
+kindOf (beginCall limits p k) = beginning
+kindOf (lookupCall side t) = lookup
+
+-- no step of these is taken back
+abbrev pub plain : Machine Mem Call
+plain = record { says = says; leaves = leaves; kind = kindOf }
+
+-- lists of these calls: as `specs/Machine.antt` of `machine` says of any
+abbrev pub Event : Type 0
+Event = machine.Event Call
 
 abbrev pub eventOf : Call → Mem → Event
-eventOf c m = record { call = c; said = says c m }
+eventOf = machine.eventOf plain
 
-abbrev pub acceptedSaid : Said → Bool
-acceptedSaid (refused n d) = false
-acceptedSaid (answered k vs) = true
+abbrev pub began : Event → Bool
+began = machine.began plain
 
--- the event is an accepted begin
-abbrev pub beganBy : Call → Bool → Bool
-beganBy (stepCall limits p k i s) a = false
-beganBy (beginCall limits p k) a = a
-beganBy (lookupCall side t) a = false
+abbrev pub memoryAfter : List Call → Mem → Mem
+memoryAfter = machine.memoryAfter plain
 
-unfoldable pub began : Event → Bool
-began e = beganBy (e .call) (acceptedSaid (e .said))
+abbrev pub recalled : Event → List Event → List Event
+recalled = machine.recalled plain
 
--- the memory after a list of calls
-unfoldable pub memoryAfter : List Call → Mem → Mem
-memoryAfter [] m = m
-memoryAfter (c ∷ cs) m = memoryAfter cs (leaves c m)
+abbrev pub eventsAfter : List Call → Mem → List Event → List Event
+eventsAfter = machine.eventsAfter plain
 
--- the events of the run so far, the latest first: "a further accepted begin starts another run"
-unfoldable pub recalled : Event → List Event → List Event
-recalled e past = cond (began e) [] (e ∷ past)
-
--- after a list of calls, `past` being what came before it
-unfoldable pub eventsAfter : List Call → Mem → List Event → List Event
-eventsAfter [] m past = past
-eventsAfter (c ∷ cs) m past = eventsAfter cs (leaves c m) (recalled (eventOf c m) past)
-
--- how many of the calls are accepted begins
-unfoldable pub begins : List Call → Mem → ℕ
-begins [] m = 0
-begins (c ∷ cs) m = cond (began (eventOf c m)) (suc (begins cs (leaves c m))) (begins cs (leaves c m))
+abbrev pub begins : List Call → Mem → ℕ
+begins = machine.begins plain
 
 -- the memory that begin leaves, and that after the run's calls
 abbrev pub begunMemory : Limits → ℕ → ℕ → Mem → Mem
