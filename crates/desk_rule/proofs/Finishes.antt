@@ -20,6 +20,8 @@ use Rattle.task.specs.declared.Step.the-variants.{Fetch, Start, Complete, Relea
 use Rattle.task.specs.declared.StepOutcome.{StepOutcome}
 use Rattle.task.specs.declared.StepAnswer.{StepAnswer}
 use Rattle.task.specs.declared.StepAnswer.the-variants.{Refused, Accepted}
+use Rattle.machine.specs.Machine as machine
+use Rattle.machine.proofs.Lists.{memory-on}
 use Rattle.layout.specs.Marks.{Each}
 use Rattle.rules.specs.Memory.{Mem, tasks, edges, allSteps, entriesIn, acceptedIn}
 use Rattle.rules.specs.Steps.{step}
@@ -30,9 +32,9 @@ use Rattle.rules.proofs.Untouched.{refused-step}
 use Rattle.rules.proofs.Moves.{accepted-step}
 use Rattle.rules.proofs.Moved.{counts}
 use Rattle.rules.proofs.Words.{all-steps-are}
-use Rattle.runs.specs.Calls.{Call, leaves, memoryAfter, begunMemory, Run, eventsOf}
+use Rattle.runs.specs.Calls.{Call, leaves, plain, memoryAfter, begunMemory, Run, eventsOf}
 use Rattle.runs.specs.Demand.{acceptedCompletes, Finished, nextSays}
-use Rattle.runs.proofs.Calls.{memory-on, tasks-reached, preds-reached}
+use Rattle.runs.proofs.Calls.{tasks-reached, preds-reached}
 use Rattle.runs.proofs.Demand.{demand-3, finished-full, finished-count}
 use Rattle.desk_rule.specs.Promise.{unlessAccepted, turnCalls, turnsCalls, DeskFinishes}
 
@@ -76,7 +78,7 @@ turned i (s ∷ ss) m = go (answerOf i s m) refl (turned i ss m)
 
 -- what the calls of a turn leave
 turn-calls : (i : ℕ) (ss : List Step) (m : Mem) → memoryAfter (turnCalls i ss m) m ≡ turn engine 2 4 i ss m
-unfolding turnCalls turn memoryAfter leaves
+unfolding turnCalls turn machine.memoryAfter leaves
 turn-calls i [] m = refl
 turn-calls i (s ∷ ss) m = go (answerOf i s m) refl (turn-calls i ss (left i s m))
   where
@@ -104,7 +106,7 @@ turns-over (suc n) i m h = rw (le-ltb _ _ h)
 
 -- and those of all turns
 turns-calls : (n i : ℕ) (m : Mem) → memoryAfter (turnsCalls n i m) m ≡ turns engine 2 4 n i m
-unfolding turnsCalls turns memoryAfter
+unfolding turnsCalls turns machine.memoryAfter
 turns-calls zero i m = refl
 turns-calls (suc n) i m = go (ltb (acceptedIn m) (allSteps m)) (turns-calls n (after 2 i) (turn engine 2 4 i tries m))
   where
@@ -114,7 +116,7 @@ turns-calls (suc n) i m = go (ltb (acceptedIn m) (allSteps m)) (turns-calls n (a
         → memoryAfter (cond b (turnCalls i tries m ++ turnsCalls n (after 2 i) (turn engine 2 4 i tries m)) []) m
         ≡ cond b (turns engine 2 4 n (after 2 i) (turn engine 2 4 i tries m)) m
     go true later =
-        memory-on (turnCalls i tries m) (turnsCalls n (after 2 i) (turn engine 2 4 i tries m)) m
+        memory-on plain (turnCalls i tries m) (turnsCalls n (after 2 i) (turn engine 2 4 i tries m)) m
         ∙ ap (memoryAfter (turnsCalls n (after 2 i) (turn engine 2 4 i tries m))) (turn-calls i tries m)
         ∙ later
     go false later = refl
@@ -125,7 +127,7 @@ record Leads (m m′ : Mem) : Type 0 where
   there : memoryAfter calls m ≡ m′
 
 leads-none : (m : Mem) → Leads m m
-unfolding memoryAfter
+unfolding machine.memoryAfter
 leads-none m = record { calls = []; there = refl }
 
 leads-turn : (m m′ : Mem) (i : ℕ) → Leads m m′ → Leads m (turn engine 2 4 i tries m′)
@@ -133,7 +135,7 @@ leads-turn m m′ i l =
     record {
       calls = l .calls ++ turnCalls i tries m′;
       there =
-          memory-on (l .calls) (turnCalls i tries m′) m
+          memory-on plain (l .calls) (turnCalls i tries m′) m
           ∙ ap (memoryAfter (turnCalls i tries m′)) (l .there)
           ∙ turn-calls i tries m′;
     }

@@ -51,10 +51,10 @@ module _ {M C : Type 0} (on : Machine M C) where
   standing [] = []
   standing (e ∷ es) = cond (acceptedSaid (e .said)) (stoodBy (on .kind (e .call)) e (standing es)) (standing es)
 
-  -- the accepted calls that stand as long as no step is taken back
-  unfoldable pub acceptedIn : List (Event C) → List (Event C)
-  acceptedIn [] = []
-  acceptedIn (e ∷ es) = cond (keeps (on .kind (e .call)) && acceptedSaid (e .said)) (e ∷ acceptedIn es) (acceptedIn es)
+  -- the accepted steps and calls aside, in their order: what stands as long as no step is taken back
+  unfoldable pub keptIn : List (Event C) → List (Event C)
+  keptIn [] = []
+  keptIn (e ∷ es) = cond (keeps (on .kind (e .call)) && acceptedSaid (e .said)) (e ∷ keptIn es) (keptIn es)
 
   -- how many of the events are accepted steps, and how many accepted steps back
   abbrev pub stepsIn : List (Event C) → ℕ

@@ -5,9 +5,10 @@ use mathlib.Core.Path.{_≡_, refl, sym, ap, _∙_}
 use mathlib.Core.Bool.{true, false}
 use mathlib.Core.Logic.{inl, inr}
 use mathlib.Core.List.{List, [], _∷_}
+use Rattle.lists.proofs.Apart.{unequal}
 use Rattle.lists.proofs.Decided.{both?}
 use Rattle.task.specs.Types.{engine}
-use Rattle.task.specs.Refusals.{Said, refused, accepted, answerSays, stepSays}
+use Rattle.task.specs.Refusals.{Said, refused, answered, accepted, answerSays, stepSays}
 use Rattle.task.specs.Rows.{Acceptance}
 use Rattle.task.specs.declared.Limits.{Limits}
 use Rattle.task.specs.declared.Side.{Side}
@@ -18,7 +19,10 @@ use Rattle.task.specs.declared.StepAnswer.{StepAnswer}
 use Rattle.task.specs.declared.StepAnswer.the-variants.{Refused, Accepted}
 use lib.ListN.{length}
 use Rattle.machine.specs.Machine as machine
+use Rattle.machine.specs.Machine.{back, lookup}
+use Rattle.machine.specs.Standing.{callsOf, keptIn}
 use Rattle.machine.proofs.Lists.{every}
+use Rattle.machine.proofs.Onward.{kept-alone}
 use Rattle.rules.specs.Memory.{Mem, tasks, edges, graphIn}
 use Rattle.rules.specs.Sizes.{KeepsLimits, Lengths}
 use Rattle.rules.specs.Steps.{step}
@@ -33,7 +37,7 @@ use Rattle.rules.proofs.Kept.{same-graph, step-keeps, SameGraph}
 use Rattle.rules.proofs.Begin.{begin-accepted}
 use Rattle.rules.proofs.Begun.{laid-graph, laid-down}
 use Rattle.rules.proofs.Limits.{within-engine}
-use Rattle.runs.specs.Calls.{Call, stepCall, beginCall, lookupCall, says, leaves, plain, Event, eventOf, acceptedSaid, began, memoryAfter, recalled, eventsAfter, begunMemory, reached, Run, KeptBy, memoryOf}
+use Rattle.runs.specs.Calls.{Call, stepCall, beginCall, lookupCall, says, leaves, kindOf, plain, Event, eventOf, acceptedSaid, began, memoryAfter, recalled, eventsAfter, begunMemory, reached, Run, KeptBy, memoryOf, eventsOf}
 
 -- a call that moves nothing: a refused one, a lookup
 pub data Still : Call → Said → Type 0 where
@@ -193,3 +197,41 @@ module _ (r : Run) where
   -- and so are the engine's
   pub engine-kept : KeptBy engine r
   engine-kept = within-engine begun-within
+
+-- No step is taken back, and what is refused or looked up moves nothing: so a run's memory is that after its accepted steps alone.
+plain-onward : (c : Call) → ¬ (kindOf c ≡ back)
+plain-onward (stepCall limits p k i s) e = unequal cc
+plain-onward (beginCall limits p k) e = unequal cc
+plain-onward (lookupCall side t) e = unequal cc
+
+plain-still : (c : Call) (m : Mem) → acceptedSaid (says c m) ≡ false → leaves c m ≡ m
+unfolding says leaves
+plain-still (stepCall limits p k i s) m = go (stepSays (step limits p k i s m .answer)) refl
+  where
+    go : (said : Said) → stepSays (step limits p k i s m .answer) ≡ said → acceptedSaid said ≡ false → step limits p k i s m .memory ≡ m
+    go (refused n d) e _ = refused-step limits p k i s m n d e
+    go (answered n vs) e f = unequal cc
+plain-still (beginCall limits p k) m = go (answerSays (begin limits p k m .answer)) refl
+  where
+    go : (said : Said) → answerSays (begin limits p k m .answer) ≡ said → acceptedSaid said ≡ false → begin limits p k m .memory ≡ m
+    go (refused n d) e _ = refused-begin limits p k m n d e
+    go (answered n vs) e f = unequal cc
+plain-still (lookupCall side t) m = λ _. refl
+
+plain-looks : (c : Call) (m : Mem) → kindOf c ≡ lookup → leaves c m ≡ m
+unfolding leaves
+plain-looks (stepCall limits p k i s) m e = unequal cc
+plain-looks (beginCall limits p k) m e = unequal cc
+plain-looks (lookupCall side t) m e = refl
+
+module _ (r : Run) where
+  abbrev first : Mem
+  first = begunMemory (r .limits) (r .workers) (r .slots) (r .lent)
+
+  -- the memory that the run's last accepted begin left
+  abbrev pub lastBegun : Mem
+  lastBegun = machine.begunIn plain (r .calls) first first
+
+  pub steps-alone : (memoryOf r ≡ memoryAfter (callsOf (keptIn plain (eventsOf r))) lastBegun)
+      × (eventsAfter (callsOf (keptIn plain (eventsOf r))) lastBegun [] ≡ keptIn plain (eventsOf r))
+  steps-alone = kept-alone plain plain-onward plain-still plain-looks (r .calls) first

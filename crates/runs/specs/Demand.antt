@@ -1,7 +1,6 @@
 -- Demand 3, one claim about whole lists of a run's calls. What is counted is counted from the calls and their answers; the record is the lent words.
-use Prim.Native.Nat.{ℕ, suc, _+_, _*_, _≤_, _<_}
+use Prim.Native.Nat.{ℕ, _+_, _*_, _≤_, _<_}
 use mathlib.Core.Path.{_≡_}
-use mathlib.Core.Bool.{Bool, cond, _&&_}
 use mathlib.Core.Logic.{_↔_}
 use mathlib.Core.List.{List, [], _∷_}
 use native.Mathlib.Decide.{ℕ-discrete}
@@ -12,18 +11,15 @@ use Rattle.task.specs.Refusals.{Said, stepSays}
 use Rattle.task.specs.Rows.{Acceptance}
 use Rattle.task.specs.declared.Limits.{Limits}
 use Rattle.task.specs.declared.Step.{Step}
+unfoldable pub use Rattle.machine.specs.Machine.{acceptedOf}
 use Rattle.graph.specs.Graph.{Edge}
 use Rattle.exchange.specs.Exchange.{Allows}
 use Rattle.exchange.specs.Pairs.{eachOnce, TaskExchanges}
 use Rattle.rules.specs.Memory.{Mem, tasks, edges, graphIn, acceptedIn}
 use Rattle.rules.specs.Steps.{step}
-use Rattle.runs.specs.Calls.{Call, stepCall, isStep, isComplete, Event, acceptedSaid, Run, KeptBy, memoryOf, eventsOf, longer}
+use Rattle.runs.specs.Calls.{Call, stepCall, isStep, isComplete, Event, Run, KeptBy, memoryOf, eventsOf, longer}
 
--- how many of the events are accepted calls of the kind; a lookup or a begin is of neither kind below
-unfoldable pub acceptedOf : (Call → Bool) → List Event → ℕ
-acceptedOf kind [] = 0
-acceptedOf kind (e ∷ es) = cond (kind (e .call) && acceptedSaid (e .said)) (suc (acceptedOf kind es)) (acceptedOf kind es)
-
+-- how many of the events are accepted calls of the kind; a lookup or a begin is of neither kind
 abbrev pub acceptedSteps : List Event → ℕ
 acceptedSteps = acceptedOf isStep
 

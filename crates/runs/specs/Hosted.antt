@@ -2,35 +2,28 @@
 -- call says what it answers and leaves (`proofs/Links.antt`); here such single facts are put together.
 use Prim.Native.Nat.{ℕ}
 use mathlib.Core.Path.{_≡_, sym}
-use mathlib.Core.List.{List, [], _∷_}
+use mathlib.Core.List.{List, []}
 use lib.ListN.{take}
-use Rattle.task.specs.Refusals.{Said, accepted, answerSays}
+use Rattle.task.specs.Refusals.{accepted, answerSays}
 use Rattle.task.specs.declared.Limits.{Limits}
+use Rattle.machine.specs.Seen as seen
+pub use Rattle.machine.specs.Seen.{seenAs, eventSeen}
+unfoldable pub use Rattle.machine.specs.Seen.{callsMade, lastLeft}
 use Rattle.rules.specs.Memory.{Mem}
 use Rattle.rules.specs.Begin.{begin}
-use Rattle.runs.specs.Calls.{Call, beginCall, says, leaves, Event, recalled, Run, memoryOf, eventsOf}
+use Rattle.runs.specs.Calls.{Call, beginCall, says, plain, Event, Run, memoryOf, eventsOf}
 
 -- a call that a host made, what it was answered, and the words of the lists afterwards
-pub record Seen : Type 0 where
-  pub call : Call
-  pub said : Said
-  pub left : Mem
-
-abbrev pub seenAs : Call → Said → Mem → Seen
-seenAs c said m = record { call = c; said = said; left = m }
-
-abbrev pub eventSeen : Seen → Event
-eventSeen s = record { call = s .call; said = s .said }
+abbrev pub Seen : Type 0
+Seen = seen.Seen Mem Call
 
 -- the call was made on the words m, and answered and left what its rule says
-pub record Link (m : Mem) (s : Seen) : Type 0 where
-  pub answered : s .said ≡ says (s .call) m
-  pub written : s .left ≡ leaves (s .call) m
+abbrev pub Link : Mem → Seen → Type 0
+Link = seen.Link plain
 
 -- each call was made on the words that the last one left
 abbrev pub Chained : Mem → List Seen → Type 0
-Chained m [] = Unit {0}
-Chained m (s ∷ rest) = Link m s × Chained (s .left) rest
+Chained = seen.Chained plain
 
 -- what a host sees from an accepted begin on
 pub record Hosting : Type 0 where
@@ -45,19 +38,9 @@ pub record Hosting : Type 0 where
   pub seen : List Seen
   pub chained : Chained begun seen
 
-unfoldable pub callsMade : List Seen → List Call
-callsMade [] = []
-callsMade (s ∷ rest) = s .call ∷ callsMade rest
-
--- the words in the end
-unfoldable pub lastLeft : Mem → List Seen → Mem
-lastLeft m [] = m
-lastLeft m (s ∷ rest) = lastLeft (s .left) rest
-
 -- the events of the run that then goes on, from calls and answers as they were seen
-unfoldable pub eventsSeen : List Seen → List Event → List Event
-eventsSeen [] past = past
-eventsSeen (s ∷ rest) past = eventsSeen rest (recalled (eventSeen s) past)
+abbrev pub eventsSeen : List Seen → List Event → List Event
+eventsSeen = seen.eventsSeen plain
 
 pub begin-accepts : (limits : Limits) (p k : ℕ) (m b : Mem) → Link m (seenAs (beginCall limits p k) accepted b)
     → answerSays (begin limits p k m .answer) ≡ accepted

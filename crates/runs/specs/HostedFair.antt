@@ -1,5 +1,5 @@
 -- Fair fetching in what a host sees: words, calls and answers as they were seen, and no other.
-use Prim.Native.Nat.{ℕ, suc, _+_, _*_, _≤_, _<_}
+use Prim.Native.Nat.{ℕ, _+_, _*_, _≤_, _<_}
 use mathlib.Core.Path.{_≡_}
 use mathlib.Core.Bool.{cond, false}
 use mathlib.Core.List.{List, [], _∷_, _++_}
@@ -7,9 +7,10 @@ use lib.ListN.{length, drop}
 use Rattle.task.specs.Refusals.{taskFetched}
 use Rattle.task.specs.declared.Limits.{Limits}
 use Rattle.task.specs.declared.Step.the-variants.{Fetch}
+use Rattle.machine.specs.Seen as seen
 use Rattle.rules.specs.Memory.{Mem}
 use Rattle.algorithm1.specs.Reading.{queueIn}
-use Rattle.runs.specs.Calls.{stepCall, fetchBy, acceptedSaid, began}
+use Rattle.runs.specs.Calls.{stepCall, fetchBy, plain, acceptedSaid, began}
 use Rattle.runs.specs.Fairness.{oneMore}
 use Rattle.runs.specs.Hosted.{Seen, eventSeen, Hosting, lastLeft, wordsAfter}
 
@@ -20,9 +21,8 @@ fetchesSeen i (s ∷ rest) =
     cond (began (eventSeen s)) 0 (oneMore (cond (fetchBy i (s .call)) (acceptedSaid (s .said)) false) (fetchesSeen i rest))
 
 -- how many of them are accepted begins
-unfoldable pub beginsSeen : List Seen → ℕ
-beginsSeen [] = 0
-beginsSeen (s ∷ rest) = cond (began (eventSeen s)) (suc (beginsSeen rest)) (beginsSeen rest)
+abbrev pub beginsSeen : List Seen → ℕ
+beginsSeen = seen.beginsSeen plain
 
 -- Of the calls seen from the words m on, one of the first `bound` accepted Fetches by the owner is answered t and takes it, the t that has `behind`
 -- behind it, from the owner's ring that the filler fills.
