@@ -45,7 +45,8 @@ module _ {M C : Type 0} (on : Machine M C) where
 
   -- an accepted begin starts anew, whatever came before
   pub begun-anew : (c : C) (cs : List C) (m b : M) (past : List (Event C)) → began on (eventOf on c m) ≡ true
-      → (eventsAfter on (c ∷ cs) m past ≡ eventsAfter on cs (on .leaves c m) []) × (begunIn on (c ∷ cs) m b ≡ begunIn on cs (on .leaves c m) (on .leaves c m))
+      → (eventsAfter on (c ∷ cs) m past ≡ eventsAfter on cs (on .leaves c m) [])
+      × (begunIn on (c ∷ cs) m b ≡ begunIn on cs (on .leaves c m) (on .leaves c m))
   unfolding eventsAfter recalled begunIn
   begun-anew c cs m b past e = (rw e refl, rw e refl)
 
@@ -115,22 +116,26 @@ module _ {M C : Type 0} (on : Machine M C) where
       go (no none) false e last = absurd (none (rw e at h))
 
   -- the run that then goes on is that of the calls after it, from the memory that it left
-  pub since-begin : (cs : List C) (m b : M) (past : List (Event C)) (l : LastBegin cs m)
-      → (memoryAfter on cs m ≡ memoryAfter on (l .later) (on .leaves (l .this) (memoryAfter on (l .earlier) m)))
-      × (eventsAfter on cs m past ≡ eventsAfter on (l .later) (on .leaves (l .this) (memoryAfter on (l .earlier) m)) [])
-      × (begunIn on cs m b ≡ on .leaves (l .this) (memoryAfter on (l .earlier) m))
-  unfolding memoryAfter
-  since-begin cs m b past l =
-      (
-        rw (l .split) (memory-on (l .earlier) (l .this ∷ l .later) m),
-        rw (l .split) (events-on (l .earlier) (l .this ∷ l .later) m past ∙ begun-anew (l .this) (l .later) before b (eventsAfter on (l .earlier) m past) (l .accepts) .0),
-        rw (l .split)
-        (begun-on (l .earlier) (l .this ∷ l .later) m b ∙ begun-anew (l .this) (l .later) before (begunIn on (l .earlier) m b) past (l .accepts) .1
-        ∙ same-begun (l .later) (on .leaves (l .this) before) (on .leaves (l .this) before) (l .sameRun)),
-      )
-    where
-      before : M
-      before = memoryAfter on (l .earlier) m
+  module _ (cs : List C) (m : M) (l : LastBegin cs m) where
+    abbrev pub lastBegun : M
+    lastBegun = on .leaves (l .this) (memoryAfter on (l .earlier) m)
+
+    pub memory-since : memoryAfter on cs m ≡ memoryAfter on (l .later) lastBegun
+    unfolding memoryAfter
+    memory-since = ap (λ (ds : List C). memoryAfter on ds m) (l .split) ∙ memory-on (l .earlier) (l .this ∷ l .later) m
+
+    pub events-since : (past : List (Event C)) → eventsAfter on cs m past ≡ eventsAfter on (l .later) lastBegun []
+    events-since past =
+        ap (λ (ds : List C). eventsAfter on ds m past) (l .split)
+        ∙ events-on (l .earlier) (l .this ∷ l .later) m past
+        ∙ begun-anew (l .this) (l .later) (memoryAfter on (l .earlier) m) m (eventsAfter on (l .earlier) m past) (l .accepts) .0
+
+    pub begun-since : (b : M) → begunIn on cs m b ≡ lastBegun
+    begun-since b =
+        ap (λ (ds : List C). begunIn on ds m b) (l .split)
+        ∙ begun-on (l .earlier) (l .this ∷ l .later) m b
+        ∙ begun-anew (l .this) (l .later) (memoryAfter on (l .earlier) m) (begunIn on (l .earlier) m b) [] (l .accepts) .1
+        ∙ same-begun (l .later) lastBegun lastBegun (l .sameRun)
 
   -- what is true of the memory and the events, and stays so with each call, is true after every list
   module _ (I : M → List (Event C) → Type 0)

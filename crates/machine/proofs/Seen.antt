@@ -49,7 +49,8 @@ module _ {M C : Type 0} where
     pub calls : callsMade earlier ≡ before
     pub call : this .call ≡ c
 
-  parted-more : {seen : List (Seen M C)} {before : List C} {c b : C} (s : Seen M C) → s .call ≡ b → Parted seen before c → Parted (s ∷ seen) (b ∷ before) c
+  parted-more : {seen : List (Seen M C)} {before : List C} {c b : C} (s : Seen M C) → s .call ≡ b → Parted seen before c
+      → Parted (s ∷ seen) (b ∷ before) c
   unfolding callsMade
   parted-more s e p =
       record {

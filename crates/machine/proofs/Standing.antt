@@ -1,11 +1,13 @@
--- PROMISE: after any list of calls the memory looks as after those alone that stand, made from the last begin on, and each of these then answers as it did.
-use Prim.Native.Nat.{ℕ, zero, suc, _+_, _<_}
+-- PROMISE: after any list of calls the memory looks as after those alone that stand, made from the last accepted begin on, and each of these then
+-- answers as it did.
+use Prim.Native.Nat.{suc, _+_, _<_}
 use mathlib.Core.Path.{_≡_, refl, sym, ap, _∙_}
 use mathlib.Core.Bool.{Bool, true, false, cond}
-use mathlib.Core.List.{List, [], _∷_, _++_}
+use mathlib.Core.List.{List, [], _∷_}
 use native.Mathlib.Omega.{arith}
 use lib.ListN.{drop}
 use Rattle.lists.proofs.Apart.{unequal}
+use Rattle.lists.proofs.Appends.{head-same}
 use Rattle.machine.specs.Machine.{Kind, beginning, forward, back, aside, lookup, Machine, Event, acceptedSaid, beganBy, acceptedOf, eventOf, began, memoryAfter, recalled, eventsAfter, begunIn}
 use Rattle.machine.specs.Standing.{isForward, keeps, callsOf, withoutLast, stoodBy, standing, stepsIn, backsIn, AllKept, Stands, Laws}
 use Rattle.machine.proofs.Lists.{memory-on, events-on}
@@ -27,7 +29,8 @@ kept-began lookup a e = unequal cc
 
 module _ {M C : Type 0} (on : Machine M C) where
   -- the calls of events and of one more
-  pub memory-next : (e : Event C) (es : List (Event C)) (b : M) → memoryAfter on (callsOf (e ∷ es)) b ≡ on .leaves (e .call) (memoryAfter on (callsOf es) b)
+  pub memory-next : (e : Event C) (es : List (Event C)) (b : M)
+      → memoryAfter on (callsOf (e ∷ es)) b ≡ on .leaves (e .call) (memoryAfter on (callsOf es) b)
   unfolding callsOf memoryAfter
   memory-next e es b = memory-on on (callsOf es) (e .call ∷ []) b
 
@@ -61,18 +64,38 @@ module _ {M C : Type 0} (on : Machine M C) where
       go true q later = rw (q, k .1) refl
       go false q later = rw q (later (rw q at h))
 
+  -- the events of calls made again: one more of them answers as it did
+  pub again-more : (e : Event C) (es : List (Event C)) (b : M) → keeps (on .kind (e .call)) ≡ true → eventsAfter on (callsOf es) b [] ≡ es
+      → on .says (e .call) (memoryAfter on (callsOf es) b) ≡ e .said → eventsAfter on (callsOf (e ∷ es)) b [] ≡ e ∷ es
+  unfolding recalled began
+  again-more e es b k a s =
+      events-next e es b ∙ rw (kept-began (on .kind (e .call)) (acceptedSaid (on .says (e .call) (memoryAfter on (callsOf es) b))) k, a, s) refl
+
+  pub again-first : (e : Event C) (es : List (Event C)) (b : M) → keeps (on .kind (e .call)) ≡ true → eventsAfter on (callsOf (e ∷ es)) b [] ≡ e ∷ es
+      → (eventsAfter on (callsOf es) b [] ≡ es) × (on .says (e .call) (memoryAfter on (callsOf es) b) ≡ e .said)
+  unfolding recalled began
+  again-first e es b k a = (ap (drop 1) split, ap (λ (x : Event C). x .said) (head-same split))
+    where
+      split : eventOf on (e .call) (memoryAfter on (callsOf es) b) ∷ eventsAfter on (callsOf es) b [] ≡ e ∷ es
+      split = rw (kept-began (on .kind (e .call)) (acceptedSaid (on .says (e .call) (memoryAfter on (callsOf es) b))) k) at (sym (events-next e es b)) ∙ a
+
   -- for `restores` where the last that stands is a step: what is left is to show that the memory looks as before it, and its journal
   pub taken-back : {W : Type 0} (see : M → W) (Journal : M → List (Event C) → M → Type 0) (b m m′ : M) (e : Event C) (es : List (Event C))
       → on .kind (e .call) ≡ forward → Stands on see Journal b (e ∷ es) m → see m′ ≡ see (memoryAfter on (callsOf es) b) → Journal b es m′
       → Stands on see Journal b (withoutLast on (e ∷ es)) m′
-  unfolding withoutLast recalled began
+  unfolding withoutLast
   taken-back see Journal b m m′ e es q h seen journal =
       rw q (record {
         seen = seen;
-        again = ap (drop 1) (rw q at (sym (events-next e es b)) ∙ h .again);
+        again = again-first e es b (h .kept .0) (h .again) .0;
         kept = h .kept .2;
         journal = journal;
       })
+
+  -- and where it is one aside
+  pub passed-over : (e : Event C) (es : List (Event C)) → isForward (on .kind (e .call)) ≡ false → withoutLast on (e ∷ es) ≡ e ∷ withoutLast on es
+  unfolding withoutLast
+  passed-over e es q = rw q refl
 
   module _ {W : Type 0} (see : M → W) (Journal : M → List (Event C) → M → Type 0) (laws : Laws on see Journal) where
     abbrev Standing : M → List (Event C) → M → Type 0
@@ -81,13 +104,10 @@ module _ {M C : Type 0} (on : Machine M C) where
     -- one more that stands
     pushed : (c : C) (b m : M) (es : List (Event C)) → keeps (on .kind c) ≡ true → acceptedSaid (on .says c m) ≡ true → Standing b es m
         → Standing b (eventOf on c m ∷ es) (on .leaves c m)
-    unfolding recalled began
     pushed c b m es k a h =
         record {
           seen = laws .stepped c m there k (h .seen) ∙ ap see (sym (memory-next (eventOf on c m) es b));
-          again =
-              events-next (eventOf on c m) es b
-              ∙ rw (kept-began (on .kind c) (acceptedSaid (on .says c there)) k, h .again, laws .answers c m there k (h .seen)) refl;
+          again = again-more (eventOf on c m) es b k (h .again) (sym (laws .answers c m there k (h .seen)));
           kept = (k, a, h .kept);
           journal = laws .pushes c b m es k a h;
         }
@@ -102,7 +122,8 @@ module _ {M C : Type 0} (on : Machine M C) where
     one c b m past h = rw (standing-recalled (eventOf on c m) past) (go (acceptedSaid (on .says c m)) refl (on .kind c) refl)
       where
         go : (a : Bool) → acceptedSaid (on .says c m) ≡ a → (k : Kind) → on .kind c ≡ k
-            → Standing (cond (beganBy k a) (on .leaves c m) b) (cond a (stoodBy on k (eventOf on c m) (standing on past)) (standing on past)) (on .leaves c m)
+            → Standing (cond (beganBy k a) (on .leaves c m) b) (cond a (stoodBy on k (eventOf on c m) (standing on past)) (standing on past))
+            (on .leaves c m)
         go false a k e = rw (refused-began k, laws .still c m a) h
         go true a beginning e = record { seen = refl; again = refl; kept = tt; journal = laws .clears c m e a }
         go true a forward e = pushed c b m (standing on past) (rw e refl) a h
@@ -119,7 +140,8 @@ module _ {M C : Type 0} (on : Machine M C) where
         all-stand cs (cond (began on (eventOf on c m)) (on .leaves c m) b) (on .leaves c m) (recalled on (eventOf on c m) past) (one c b m past h)
 
     -- from a memory whose journal is begun, as an accepted begin leaves it
-    pub stands : (cs : List C) (m : M) → Journal m [] m → Stands on see Journal (begunIn on cs m m) (standing on (eventsAfter on cs m [])) (memoryAfter on cs m)
+    pub stands : (cs : List C) (m : M) → Journal m [] m
+        → Stands on see Journal (begunIn on cs m m) (standing on (eventsAfter on cs m [])) (memoryAfter on cs m)
     unfolding standing callsOf memoryAfter eventsAfter
     stands cs m j = all-stand cs m m [] (record { seen = refl; again = refl; kept = tt; journal = j })
 

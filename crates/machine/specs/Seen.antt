@@ -1,5 +1,5 @@
--- What a host sees of its calls: one after the other on the lent lists, each with its answer and with the memory that it left. What is known of each call
--- alone is put together.
+-- What a host sees of its calls: one after the other, each with its answer and with the memory that it left. What is known of each call alone is put
+-- together.
 use Prim.Native.Nat.{ℕ, suc}
 use mathlib.Core.Path.{_≡_}
 use mathlib.Core.Bool.{cond}

@@ -152,8 +152,8 @@ module _ (p k : ℕ) {A : Type 0} (f : Mem → A)
 
   unwritten : (cs : List Call) (m : Mem) → Lengths p k m → f (memoryAfter cs m) ≡ f m
   unwritten cs m l =
-      every plain (λ m′ past. Lengths p k m′ × (f m′ ≡ f m)) (λ c m′ past h. (lengths-kept p k m′ (h .0) c, call-unwritten m′ c (did p k m′ (h .0) c) ∙ h .1)) cs m
-      [] (l, refl) .1
+      every plain (λ m′ past. Lengths p k m′ × (f m′ ≡ f m))
+      (λ c m′ past h. (lengths-kept p k m′ (h .0) c, call-unwritten m′ c (did p k m′ (h .0) c) ∙ h .1)) cs m [] (l, refl) .1
 
 -- so it is as begin was lent it: weights and predecessor tables, and with them the graph and N
 module _ (r : Run) where
