@@ -1,5 +1,6 @@
+pub mod Examples
 pub mod Lists
 pub mod Standing
 pub mod Onward
-pub mod Examples
 pub mod Seen
+pub mod ExampleLaws

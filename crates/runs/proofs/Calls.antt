@@ -20,7 +20,7 @@ use Rattle.task.specs.declared.StepAnswer.the-variants.{Refused, Accepted}
 use lib.ListN.{length}
 use Rattle.machine.specs.Machine as machine
 use Rattle.machine.specs.Machine.{back, lookup}
-use Rattle.machine.specs.Standing.{callsOf, keptIn}
+use Rattle.machine.specs.Standing.{isForward, callsOf, keptIn, stepsIn}
 use Rattle.machine.proofs.Lists.{every}
 use Rattle.machine.proofs.Onward.{kept-alone}
 use Rattle.rules.specs.Memory.{Mem, tasks, edges, graphIn}
@@ -37,7 +37,8 @@ use Rattle.rules.proofs.Kept.{same-graph, step-keeps, SameGraph}
 use Rattle.rules.proofs.Begin.{begin-accepted}
 use Rattle.rules.proofs.Begun.{laid-graph, laid-down}
 use Rattle.rules.proofs.Limits.{within-engine}
-use Rattle.runs.specs.Calls.{Call, stepCall, beginCall, lookupCall, says, leaves, kindOf, plain, Event, eventOf, acceptedSaid, began, memoryAfter, recalled, eventsAfter, begunMemory, reached, Run, KeptBy, memoryOf, eventsOf}
+use Rattle.runs.specs.Calls.{Call, stepCall, beginCall, lookupCall, isStep, says, leaves, kindOf, plain, Event, eventOf, acceptedSaid, began, memoryAfter, recalled, eventsAfter, begunMemory, reached, Run, KeptBy, memoryOf, eventsOf}
+use Rattle.runs.specs.Demand.{acceptedOf, acceptedSteps}
 
 -- a call that moves nothing: a refused one, a lookup
 pub data Still : Call → Said → Type 0 where
@@ -223,6 +224,17 @@ unfolding leaves
 plain-looks (stepCall limits p k i s) m e = unequal cc
 plain-looks (beginCall limits p k) m e = unequal cc
 plain-looks (lookupCall side t) m e = refl
+
+-- the steps that the machine counts are those that demand 3 counts
+plain-step : (c : Call) → isForward (kindOf c) ≡ isStep c
+plain-step (stepCall limits p k i s) = refl
+plain-step (beginCall limits p k) = refl
+plain-step (lookupCall side t) = refl
+
+pub plain-steps : (es : List Event) → stepsIn plain es ≡ acceptedSteps es
+unfolding acceptedOf
+plain-steps [] = refl
+plain-steps (e ∷ es) = rw (plain-step (e .call), plain-steps es) refl
 
 module _ (r : Run) where
   abbrev first : Mem

@@ -24,6 +24,7 @@ use Rattle.choice.specs.Search.{search}
 use Rattle.exchange.specs.Exchange.{Chain}
 use Rattle.exchange.specs.Pairs.{differently, pairsDiffering, eachOnce}
 use Rattle.machine.specs.Machine as machine
+use Rattle.machine.specs.Standing.{standing}
 use Rattle.rules.specs.Memory.{Mem, graphIn, allSteps, allEntries}
 use Rattle.rules.specs.Sizes.{numbersFit, othersFit, lengthsFit}
 use Rattle.rules.specs.Words.{countersFit}
@@ -32,7 +33,7 @@ use Rattle.rules.specs.Plans.{counted, carriedOut}
 use Rattle.rules.specs.Steps.{scan, fetchTask, fetchFrom, fetchRule, startRule, completeSink, completeInner, completeRule, releasedRow, findRoom, releaseTo, releaseReady, releaseWaiting, releaseRule, ruleOf, stepPlan, step}
 use Rattle.rules.specs.Begin.{cleared, rootsPlaced, begun, rootsAnswer, beginAnswer, begin}
 use Rattle.rules.proofs.Examples.{lent, beginSays}
-use Rattle.runs.specs.Calls.{Call, stepCall, beginCall, says, leaves, Event, begunMemory, Run, memoryOf, eventsOf}
+use Rattle.runs.specs.Calls.{Call, stepCall, beginCall, says, leaves, plain, Event, begunMemory, Run, memoryOf, eventsOf}
 use Rattle.runs.specs.Demand.{acceptedOf, acceptedSteps, Finished, orderOf, OneGraph}
 use Rattle.runs.proofs.Demand.{demand-3}
 
@@ -170,6 +171,13 @@ pub record Mixed : Type 0 where
 pub mixed-run : Mixed
 unfolding ℕ-discrete decLe decLt firstBelow occOf placeOf joined tabulate allOf sumTo after around capped nextPhase part sizesFit firstBad firstTwice firstOnCycle tablesAnswer checkAnswer below? among? light? good? bad? endsFit? twice? twiceIn? find-twice edge? thru? path? leads? onCycle? succsBelow succStart succStarts succWords degreeList roots capacity slotAt endsAt storeEnds sound empty full headOn tailOn sumToZ load leastFrom least search allSteps allEntries numbersFit othersFit lengthsFit countersFit updated written counted carriedOut scan fetchTask fetchFrom fetchRule startRule completeSink completeInner completeRule releasedRow findRoom releaseTo releaseReady releaseWaiting releaseRule ruleOf stepPlan step cleared rootsPlaced begun rootsAnswer beginAnswer begin says leaves machine.began machine.memoryAfter machine.recalled machine.eventsAfter acceptedOf orderOf answersIn
 mixed-run = record { finished = record { completes = omega arith }; begunAgain = refl; answers = refl; order = refl; recorded = refl; counted = refl }
+
+-- What stands of its calls are the 15 accepted steps since the second begin.
+pub mixed-stands : answersIn (standing plain (eventsOf mixed))
+    ≡ accepted ∷ accepted ∷ taskFetched 1 ∷ accepted ∷ accepted ∷ taskFetched 2 ∷ accepted ∷ accepted ∷ taskFetched 3
+    ∷ taskPlaced 3 2 ∷ taskPlaced 2 1 ∷ taskPlaced 1 0 ∷ accepted ∷ accepted ∷ taskFetched 0 ∷ []
+unfolding ℕ-discrete decLe decLt firstBelow occOf placeOf joined tabulate allOf sumTo after around capped nextPhase part sizesFit firstBad firstTwice firstOnCycle tablesAnswer checkAnswer below? among? light? good? bad? endsFit? twice? twiceIn? find-twice edge? thru? path? leads? onCycle? succsBelow succStart succStarts succWords degreeList roots capacity slotAt endsAt storeEnds sound empty full headOn tailOn sumToZ load loads leastFrom least target search allSteps allEntries numbersFit othersFit lengthsFit countersFit updated written counted carriedOut scan fetchTask fetchFrom fetchRule startRule completeSink completeInner completeRule releasedRow findRoom releaseTo releaseReady releaseWaiting releaseRule ruleOf stepPlan step cleared rootsPlaced begun rootsAnswer beginAnswer begin says leaves machine.began machine.memoryAfter machine.recalled machine.eventsAfter acceptedOf orderOf answersIn standing
+mixed-stands = refl
 
 -- A run begun by the engine with P 5, which the preview doesn't take: with begin's own P and K the preview's calls are refused with 2, and the engine's
 -- go on to the end.
