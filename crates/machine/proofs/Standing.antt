@@ -1,5 +1,5 @@
--- PROMISE: after any list of calls the memory looks as after those alone that stand, made from the last accepted begin on, and each of these then
--- answers as it did.
+-- After any list of calls the memory looks as after those alone that stand, made from the last accepted begin on, and each of these then answers as
+-- it did.
 use Prim.Native.Nat.{suc, _+_, _<_}
 use mathlib.Core.Path.{_≡_, refl, sym, ap, _∙_}
 use mathlib.Core.Bool.{Bool, true, false, cond}
@@ -139,11 +139,17 @@ module _ {M C : Type 0} (on : Machine M C) where
     all-stand (c ∷ cs) b m past h =
         all-stand cs (cond (began on (eventOf on c m)) (on .leaves c m) b) (on .leaves c m) (recalled on (eventOf on c m) past) (one c b m past h)
 
-    -- from a memory whose journal is begun, as an accepted begin leaves it
+    -- from a memory whose journal is begun
     pub stands : (cs : List C) (m : M) → Journal m [] m
         → Stands on see Journal (begunIn on cs m m) (standing on (eventsAfter on cs m [])) (memoryAfter on cs m)
     unfolding standing callsOf memoryAfter eventsAfter
     stands cs m j = all-stand cs m m [] (record { seen = refl; again = refl; kept = tt; journal = j })
+
+    -- in a run: from the memory that an accepted begin left
+    pub run-stands : (c : C) (m : M) → on .kind c ≡ beginning → acceptedSaid (on .says c m) ≡ true → (cs : List C)
+        → Stands on see Journal (begunIn on cs (on .leaves c m) (on .leaves c m)) (standing on (eventsAfter on cs (on .leaves c m) []))
+        (memoryAfter on cs (on .leaves c m))
+    run-stands c m q a cs = stands cs (on .leaves c m) (laws .clears c m q a)
 
     -- "accepted steps less those taken back"
     abbrev Net : List (Event C) → Type 0

@@ -19,7 +19,7 @@ isBack back = true
 isBack aside = false
 isBack lookup = false
 
--- an accepted call of this kind stands: a step until it is taken back, a call aside for ever
+-- an accepted call of this kind stands: a step until it is taken back, a call aside until the run ends
 abbrev pub keeps : Kind → Bool
 keeps beginning = false
 keeps forward = true
@@ -68,8 +68,8 @@ module _ {M C : Type 0} (on : Machine M C) where
   AllKept [] = Unit {0}
   AllKept (e ∷ es) = (keeps (on .kind (e .call)) ≡ true) × (acceptedSaid (e .said) ≡ true) × AllKept es
 
-  -- What is seen of a memory is all that is promised of it: the words outside the journal. The journal of m leads back from it through the events, the
-  -- latest first, to the memory that they began with.
+  -- What is seen of a memory is all that is promised of it: the words outside the journal, and of the journal what a step judges, as its length. The
+  -- journal of m leads back from it through the events, the latest first, to the memory that they began with.
   module _ {W : Type 0} (see : M → W) (Journal : M → List (Event C) → M → Type 0) where
     -- m looks as the calls that stand leave it, made from b on alone: each then answers as it did
     pub record Stands (b : M) (es : List (Event C)) (m : M) : Type 0 where

@@ -76,29 +76,36 @@ kindOf (stepCall limits p k i s) = forward
 kindOf (beginCall limits p k) = beginning
 kindOf (lookupCall side t) = lookup
 
--- no step of these is taken back
+-- the machine of these calls: no step is taken back
 abbrev pub plain : Machine Mem Call
 plain = record { says = says; leaves = leaves; kind = kindOf }
 
--- lists of these calls: as `specs/Machine.antt` of `machine` says of any
+-- Lists of these calls, as of any machine's (`crates/machine/specs/Machine.antt`).
+
+-- a call and its answer
 abbrev pub Event : Type 0
 Event = machine.Event Call
 
 abbrev pub eventOf : Call → Mem → Event
 eventOf = machine.eventOf plain
 
+-- the event is an accepted begin
 abbrev pub began : Event → Bool
 began = machine.began plain
 
+-- the memory after a list of calls
 abbrev pub memoryAfter : List Call → Mem → Mem
 memoryAfter = machine.memoryAfter plain
 
+-- the events of the run so far, the latest first: "a further accepted begin starts another run"
 abbrev pub recalled : Event → List Event → List Event
 recalled = machine.recalled plain
 
+-- after a list of calls, `past` being what came before it
 abbrev pub eventsAfter : List Call → Mem → List Event → List Event
 eventsAfter = machine.eventsAfter plain
 
+-- how many of the calls are accepted begins
 abbrev pub begins : List Call → Mem → ℕ
 begins = machine.begins plain
 
