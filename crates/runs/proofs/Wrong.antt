@@ -84,7 +84,7 @@ leftBy g (stepCall limits p k i s) m = g .takes limits p k i s m .memory
 leftBy g (beginCall limits p k) m = g .begins limits p k m .memory
 leftBy g (lookupCall side t) m = m
 
--- as the rules are `plain`
+-- the machine of these calls, as `plain` is of the rules
 abbrev pub machineOf : Program → Machine Mem calls.Call
 machineOf g = record { says = answerBy g; leaves = leftBy g; kind = kindOf }
 
