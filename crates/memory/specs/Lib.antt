@@ -1,0 +1,5 @@
+pub mod Family
+pub mod Field
+pub mod Memory
+pub mod Updates
+pub mod Shape
