@@ -4,7 +4,7 @@ use mathlib.Core.Path.{_≡_, refl, sym, ap, _∙_, subst}
 use mathlib.Core.Bool.{Bool, true, false, cond, not, _&&_}
 use native.Mathlib.Nat.{mul-le-mul}
 use native.Mathlib.Omega.{arith}
-use lib.ListN.{replicate, length-replicate}
+use lib.ListN.{length, replicate, length-replicate}
 use lib.Dec.{leb, eqb}
 use lib.IntN.{pos}
 use borrow.Author.Tests.{leb-true, le-ltb, le-leb, lt-leb, eqb-true, not-true, not-false}
@@ -18,13 +18,18 @@ use Rattle.task.specs.declared.Step.{Step}
 use Rattle.task.specs.declared.Next.{Next}
 use Rattle.task.specs.declared.Next.the-variants as next
 use Rattle.graph.specs.Check.{sizesFit}
-use Rattle.rules.specs.Memory.{Mem, memOf, tasks, edges, withHand}
+use Rattle.memory.specs.Field.{Field}
+use Rattle.memory.specs.Field as list
+use Rattle.memory.specs.Memory.{get}
+use Rattle.memory.specs.Shape.{sizesIn, allFit}
+use Rattle.memory.proofs.Shape.{shaped-same}
+use Rattle.rules.specs.Memory.{plain, Mem, memOf, tasks, edges, withHand}
 use Rattle.rules.specs.Sizes.{Fits, numbersFit, othersFit, lengthsFit}
 use Rattle.rules.specs.Words.{phaseFits}
 use Rattle.rules.specs.Plans.{Plan, refuse, checked, suited}
 use Rattle.rules.specs.Steps.{stepPlan}
 use Rattle.rules.proofs.Headers.{fits-are}
-use Rattle.admission.specs.Admission.{sizesOf, Judges, Measured, Knows, Allows}
+use Rattle.admission.specs.Admission.{sizesOf, sizeAt, Judges, Measured, Knows, Allows}
 use Rattle.admission.specs.declared.Sizes.{Sizes}
 use Rattle.admission.specs.declared.Judged.the-variants as judged
 use Rattle.admission.specs.declared.Admitted.the-variants.{To}
@@ -67,7 +72,7 @@ module _ (sizes : Sizes) (p k : ℕ) (m : Mem) (e : sizesOf m ≡ sizes) where
       && (eqb (sizes .run) 2
       && eqb (sizes .rows) p))))))))
       ≡ othersFit p k m
-  unfolding othersFit
+  unfolding othersFit allFit
   others-are = rw (← e) refl
 
   pub lengths-are : (others : Bool) → others ≡ othersFit p k m → eqb (sizes .«pred_starts») (sizes .weights + 1) && others ≡ lengthsFit p k m
@@ -104,6 +109,22 @@ blank z =
 blank-sizes : (z : Sizes) → sizesOf (blank z) ≡ z
 blank-sizes z = simp length-replicate
 
+-- a memory's lengths, list by list
+sizes-at : (m : Mem) (f : Field) → sizeAt (sizesOf m) f ≡ length (get f m)
+sizes-at m list.weights = refl
+sizes-at m list.predStarts = refl
+sizes-at m list.preds = refl
+sizes-at m list.succStarts = refl
+sizes-at m list.succs = refl
+sizes-at m list.degrees = refl
+sizes-at m list.rings = refl
+sizes-at m list.ends = refl
+sizes-at m list.counters = refl
+sizes-at m list.buffers = refl
+sizes-at m list.executed = refl
+sizes-at m list.run = refl
+sizes-at m list.rows = refl
+
 measured : (limits : Limits) (p k i : ℕ) (sizes : Sizes) (m : Mem) → sizesOf m ≡ sizes → Fits limits p k m → i < p → Measured p k i sizes
 unfolding capped
 measured limits p k i sizes m e f h = subst (Measured p k i) e (record {
@@ -113,17 +134,7 @@ measured limits p k i sizes m e f h = subst (Measured p k i) e (record {
   twoSlots = f .limits .twoSlots;
   fewSlots = omega (arith, f .limits .fewSlots);
   worker = h;
-  predStarts = f .lengths .predStarts;
-  succStarts = f .lengths .others .succStarts;
-  succs = f .lengths .others .succs;
-  degrees = f .lengths .others .degrees;
-  rings = f .lengths .others .rings;
-  ends = f .lengths .others .ends;
-  counters = f .lengths .others .counters;
-  buffers = f .lengths .others .buffers;
-  executed = f .lengths .others .executed;
-  run = f .lengths .others .run;
-  rows = f .lengths .others .rows;
+  lengths = shaped-same plain p k (sizesIn m) (sizeAt (sizesOf m)) (sizes-at m) (f .lengths);
 })
 
 module _ (limits : Limits) (p k : ℕ) (sizes : Sizes) (numbers fit : Bool) (hn : numbers ≡ numbersFit limits p k)

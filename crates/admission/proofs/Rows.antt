@@ -14,9 +14,10 @@ use Rattle.task.specs.declared.Row.{Row}
 use Rattle.task.specs.declared.Step.{Step}
 use Rattle.task.specs.declared.StepAnswer.the-variants as answer
 use Rattle.task.specs.declared.StepOutcome.{StepOutcome}
+use Rattle.memory.specs.Updates.{written}
 use Rattle.rules.specs.Memory.{Mem, allSteps, rowIn, acceptedIn}
 use Rattle.rules.specs.Words.{phaseFits}
-use Rattle.rules.specs.Updates.{Update, written}
+use Rattle.rules.specs.Updates.{Update}
 use Rattle.rules.specs.Plans.{refuse, accept, checked, suited, withCount, counted, resultOf, carriedOut}
 use Rattle.rules.specs.Steps.{ruleOf, stepPlan, step}
 use Rattle.rules.proofs.Headers.{fits-are}

@@ -1,5 +1,5 @@
 -- What is known once a step is admitted, and what a refusal before its rule means.
-use Prim.Native.Nat.{ℕ, _+_, _*_, _≤_, _<_}
+use Prim.Native.Nat.{ℕ, _≤_, _<_}
 use mathlib.Core.Path.{_≡_}
 use mathlib.Core.Bool.{true, _&&_}
 use mathlib.Core.List.{List}
@@ -12,7 +12,10 @@ use Rattle.task.specs.declared.Step.{Step}
 use Rattle.task.specs.declared.StepAnswer.{StepAnswer}
 use Rattle.task.specs.declared.StepAnswer.the-variants as answer
 use Rattle.graph.specs.Check.{sizesFit}
-use Rattle.rules.specs.Memory.{Mem, tasks, edges, rowIn, withHand}
+use Rattle.memory.specs.Field.{Field}
+use Rattle.memory.specs.Field as list
+use Rattle.memory.specs.Shape.{Shaped}
+use Rattle.rules.specs.Memory.{plain, Mem, tasks, edges, rowIn, withHand}
 use Rattle.rules.specs.Sizes.{Fits, numbersFit, lengthsFit}
 use Rattle.rules.specs.Words.{phaseFits}
 use Rattle.rules.specs.Plans.{Plan, refuse, checked, suited}
@@ -44,6 +47,21 @@ sizesOf m =
       rows = length (m .rows);
     }
 
+abbrev pub sizeAt : Sizes → Field → ℕ
+sizeAt z list.weights = z .weights
+sizeAt z list.predStarts = z .«pred_starts»
+sizeAt z list.preds = z .preds
+sizeAt z list.succStarts = z .«succ_starts»
+sizeAt z list.succs = z .succs
+sizeAt z list.degrees = z .degrees
+sizeAt z list.rings = z .rings
+sizeAt z list.ends = z .ends
+sizeAt z list.counters = z .counters
+sizeAt z list.buffers = z .buffers
+sizeAt z list.executed = z .executed
+sizeAt z list.run = z .run
+sizeAt z list.rows = z .rows
+
 -- 2, 1 and 7: every step on lists of these lengths is refused, or numbers, lengths and worker pass
 abbrev pub Judges : Limits → ℕ → ℕ → ℕ → Sizes → Judged → Type 0
 Judges limits p k i sizes (judged.Refused n d) = (s : Step) (m : Mem) → sizesOf m ≡ sizes → stepPlan limits p k i s m ≡ refuse n d
@@ -58,17 +76,7 @@ pub record Measured (p k i : ℕ) (sizes : Sizes) : Type 0 where
   pub twoSlots : 2 ≤ k
   pub fewSlots : k ≤ engine .slots
   pub worker : i < p
-  pub predStarts : sizes .«pred_starts» ≡ sizes .weights + 1
-  pub succStarts : sizes .«succ_starts» ≡ sizes .weights + 1
-  pub succs : sizes .succs ≡ sizes .preds
-  pub degrees : sizes .degrees ≡ sizes .weights
-  pub rings : sizes .rings ≡ p * p * k
-  pub ends : sizes .ends ≡ p * p * 2
-  pub counters : sizes .counters ≡ p * p
-  pub buffers : sizes .buffers ≡ p * sizes .weights
-  pub executed : sizes .executed ≡ 2 * sizes .weights
-  pub run : _≡_ {A = ℕ} (sizes .run) 2
-  pub rows : sizes .rows ≡ p
+  pub lengths : Shaped plain p k (sizeAt sizes)
 
 -- so a step is told: a refusal that some limits give, or that all fits
 abbrev pub Knows : ℕ → ℕ → ℕ → Sizes → Judged → Type 0

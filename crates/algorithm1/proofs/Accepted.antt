@@ -9,8 +9,9 @@ use Rattle.task.specs.declared.Step.{Step}
 use Rattle.task.specs.declared.Step.the-variants.{Fetch, Start, Complete, Release}
 use Rattle.task.specs.declared.StepOutcome.{StepOutcome}
 use Rattle.ring.specs.Ring.{capacity}
+use Rattle.memory.specs.Updates.{written}
 use Rattle.rules.specs.Memory.{Mem, acceptedIn}
-use Rattle.rules.specs.Updates.{Update, written}
+use Rattle.rules.specs.Updates.{Update}
 use Rattle.rules.specs.Steps.{step}
 use Rattle.rules.specs.Plans.{withCount}
 use Rattle.rules.specs.Moves.{Allowed, AcceptedStep}

@@ -8,16 +8,19 @@ use lib.ListN.{length, getD, set, length-set}
 use lib.Seq.{getD-set-same, getD-set-other}
 use Rattle.lists.proofs.Blocks.{tabulate-same, tabulate-snoc}
 use Rattle.lists.proofs.Places.{place-lt, place-same}
-use Rattle.task.specs.Types.{nil}
+use Rattle.task.specs.Types.{nil, idle}
 use Rattle.task.specs.Entries.{entryOf}
 use Rattle.task.specs.Phases.{suits}
 use Rattle.task.specs.declared.Limits.{Limits}
 use Rattle.task.specs.declared.Step.the-variants.{Complete}
 use Rattle.task.specs.declared.StepOutcome.{StepOutcome}
 use Rattle.ring.specs.Ring.{capacity}
+use Rattle.memory.specs.Field as list
+use Rattle.memory.specs.Updates.{storeWords, updated, written}
+use Rattle.memory.proofs.Fields.{set-again}
 use Rattle.rules.specs.Memory.{Mem, tasks, succCount, bufferAt, rowIn, withHand, withPlaces, held, entriesIn}
 use Rattle.rules.specs.Sizes.{Fits}
-use Rattle.rules.specs.Updates.{Update, putAccepted, updated, written}
+use Rattle.rules.specs.Updates.{Update, putAccepted}
 use Rattle.rules.specs.Moves as moves
 use Rattle.rules.specs.Moves.{sink, inner, Completing}
 use Rattle.algorithm1.specs.State.{successorsOf, threadOf}
@@ -54,7 +57,7 @@ module _ (limits : Limits) (p k i : ℕ) (m : Mem) (fits : Fits limits p k m) (w
 
   module _ (common : Completing i m) where
     successor-count : length (successorsIn m task) ≡ succCount m task
-    successor-count = length-successors m task (fits .lengths .others .succs) (common .task)
+    successor-count = length-successors m task (fits .lengths .list list.succs) (common .task)
 
     module _ (buffers : List ℕ) (end : ℕ) where
       abbrev m′ : Mem
@@ -71,7 +74,7 @@ module _ (limits : Limits) (p k i : ℕ) (m : Mem) (fits : Fits limits p k m) (w
           e = entriesIn m
 
           more : entriesIn m′ ≡ entriesIn m + 1
-          more = getD-set-same (set (m .run) 1 n) 0 (e + 1) 0 (omega (arith, fits .lengths .others .run, length-set (m .run) 1 n))
+          more = getD-set-same (set (m .run) 1 n) 0 (e + 1) 0 (omega (arith, fits .lengths .list list.run, length-set (m .run) 1 n))
 
           count : entriesIn m + 1 ≡ suc (entriesIn m)
           count = omega arith
@@ -80,7 +83,7 @@ module _ (limits : Limits) (p k i : ℕ) (m : Mem) (fits : Fits limits p k m) (w
           first = set (m .executed) (2 * e) task
 
           room : 2 * e + 1 < length (m .executed)
-          room = omega (arith, common .entries, fits .lengths .others .executed)
+          room = omega (arith, common .entries, fits .lengths .list list.executed)
 
           new : entryIn m′ e ≡ entryOf task i
           new =
@@ -111,7 +114,7 @@ module _ (limits : Limits) (p k i : ℕ) (m : Mem) (fits : Fits limits p k m) (w
 
   pub complete-does : (o : StepOutcome) (us : List Update) → rowIn m i .phase ≡ suits Complete → moves.Completes i m o us
       → Lines p (capacity k) i Complete (stateOf p k m) (stateOf p k (written (putAccepted n ∷ us) m)) o
-  unfolding written updated bufferIn
+  unfolding written updated storeWords bufferIn
   -- the row keeps its places, whatever they are
   complete-does o us phase (sink f) =
       rw (f .updates)
@@ -124,7 +127,8 @@ module _ (limits : Limits) (p k i : ℕ) (m : Mem) (fits : Fits limits p k m) (w
         outcome = f .outcome;
       })
   complete-does o us phase (inner f) =
-      rw (f .updates) (record { phase = phase-at p k m i worker ∙ phase; after = state-completes (f .common) buffers (write + 1) joins kept; outcome = f .outcome })
+      rw (f .updates, set-again (m .rows) i (withHand 0 nil (rowIn m i)) idle (withPlaces read (write + 1) (rowIn m i .cursor)))
+      (record { phase = phase-at p k m i worker ∙ phase; after = state-completes (f .common) buffers (write + 1) joins kept; outcome = f .outcome })
     where
       place : ℕ
       place = bufferAt m i write
@@ -141,7 +145,7 @@ module _ (limits : Limits) (p k i : ℕ) (m : Mem) (fits : Fits limits p k m) (w
       last : getD buffers (bufferAt m i (read + (write - read))) 0 ≡ task
       last =
           ap (λ (x : ℕ). getD buffers (bufferAt m i x) 0) (omega (arith, f .places))
-          ∙ getD-set-same (m .buffers) place task 0 (rw (fits .lengths .others .buffers) (place-lt (tasks m) p i write worker (f .room)))
+          ∙ getD-set-same (m .buffers) place task 0 (rw (fits .lengths .list list.buffers) (place-lt (tasks m) p i write worker (f .room)))
 
       -- one more word, at the write place
       joins : bufferFrom m′ i read (write + 1) ≡ buffered (successorsIn m task) task (bufferIn m i)

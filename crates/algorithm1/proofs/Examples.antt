@@ -20,9 +20,10 @@ use Rattle.choice.specs.Search.{search}
 use Rattle.rules.specs.Memory.{Mem, memOf, allSteps, allEntries}
 use Rattle.rules.specs.Sizes.{numbersFit, othersFit, lengthsFit}
 use Rattle.rules.specs.Words.{countersFit}
-use Rattle.rules.specs.Updates.{updated, written}
+use Rattle.memory.specs.Updates.{storeWords, updated, written}
+use Rattle.memory.specs.Shape.{allFit}
 use Rattle.rules.specs.Plans.{counted, carriedOut}
-use Rattle.rules.specs.Steps.{scan, fetchTask, fetchFrom, fetchRule, startRule, completeInner, completeRule, releasedRow, findRoom, releaseTo, releaseReady, releaseRule, ruleOf, stepPlan, step}
+use Rattle.rules.specs.Steps.{scan, fetchTask, fetchFrom, fetchRule, startRule, completeInner, completeRule, advanced, findRoom, releaseTo, releaseReady, releaseRule, ruleOf, stepPlan, step}
 use Rattle.rules.specs.Desk.{turn, turns, deskRun}
 use Rattle.rules.proofs.Examples.{rowOf, fresh, diamond}
 use Rattle.rules.proofs.Examples as desk
@@ -125,7 +126,7 @@ pub record Examples : Type 0 where
 
 -- begin's words and the run's last ones are known from the rules' examples
 pub examples : Examples
-unfolding tabulate allOf square sumToZ after around capped nextPhase part sizesFit slotAt endsAt storeEnds sound empty full headOn tailOn count queue load leastFrom least search allSteps allEntries numbersFit othersFit lengthsFit countersFit updated written counted carriedOut scan fetchTask fetchFrom fetchRule startRule completeInner completeRule releasedRow findRoom releaseTo releaseReady releaseRule ruleOf stepPlan step turn turns bufferIn threadIn recordIn stateOf
+unfolding tabulate allOf square sumToZ after around capped nextPhase part sizesFit slotAt endsAt storeEnds sound empty full headOn tailOn count queue load leastFrom least search allSteps allEntries numbersFit allFit othersFit lengthsFit countersFit storeWords updated written counted carriedOut scan fetchTask fetchFrom fetchRule startRule completeInner completeRule advanced findRoom releaseTo releaseReady releaseRule ruleOf stepPlan step turn turns bufferIn threadIn recordIn stateOf
 examples =
     record {
       begins = ap deskState (desk.examples .laidOut);

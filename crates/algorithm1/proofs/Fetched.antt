@@ -1,19 +1,22 @@
 -- An accepted Fetch and an accepted Start of document 01 are Algorithm 1's, whatever the lent memory holds.
-use Prim.Native.Nat.{ℕ, _<_}
+use Prim.Native.Nat.{ℕ, _+_, _%_, _<_}
 use mathlib.Core.Path.{_≡_, refl, sym, ap, _∙_}
 use mathlib.Core.List.{List, [], _∷_}
 use lib.IntN.{pos, _-ℤ_}
 use Rattle.lists.specs.Squares.{square, withCell}
 use Rattle.lists.specs.Circles.{after}
+use Rattle.task.specs.Types.{idle}
 use Rattle.task.specs.Phases.{suits}
 use Rattle.task.specs.declared.Limits.{Limits}
 use Rattle.task.specs.declared.Step.the-variants.{Fetch, Start}
 use Rattle.task.specs.declared.StepOutcome.{StepOutcome}
 use Rattle.ring.specs.Ring.{capacity, Empty, Rings, ringsOf, headOn, queue, takenAt}
 use Rattle.ring.proofs.Queues.{queue-empty, queue-take, queue-take-other}
-use Rattle.rules.specs.Memory.{Mem, ringNumber, endsIn, ringsIn, weightIn, rowIn, pointerIn}
+use Rattle.memory.specs.Updates.{updated, written}
+use Rattle.memory.proofs.Fields.{set-again}
+use Rattle.rules.specs.Memory.{Mem, ringNumber, endsIn, ringsIn, weightIn, rowIn, pointerIn, withHand, withPointer}
 use Rattle.rules.specs.Sizes.{Fits}
-use Rattle.rules.specs.Updates.{Update, putAccepted, updated, written}
+use Rattle.rules.specs.Updates.{Update, putAccepted}
 use Rattle.rules.specs.Moves as moves
 use Rattle.algorithm1.specs.State.{State, queueOf, threadOf}
 use Rattle.algorithm1.specs.Algorithm.{First, Lines}
@@ -90,7 +93,10 @@ module _ (limits : Limits) (p k i : ℕ) (m : Mem) (fits : Fits limits p k m) (w
         rest = rest o us f;
         head = head o us f;
         after =
-            rw (thread-at p k m i worker)
+            rw (
+              set-again (m .rows) i (withHand 1 (record { 0 = f .task }) (rowIn m i)) idle (withPointer ((f .filler + 1) % p)),
+              thread-at p k m i worker,
+            )
             (state-after p k i m worker (fits .lengths) _ _ _ _ _ n
             ∙ state-same refl refl refl (queues o us f)
             -- line 16: "W_i = W_i − w_T′"

@@ -20,7 +20,9 @@ use Rattle.task.specs.Types.{idle}
 use Rattle.task.specs.declared.Ends.{Ends}
 use Rattle.task.specs.declared.Row.{Row}
 use Rattle.ring.specs.Ring.{endWords, Sound, ringsOf, queue}
-use Rattle.rules.specs.Memory.{Mem, memOf, tasks, ringNumber, counterIn, bufferAt, rowIn, held, pointerIn}
+use Rattle.memory.specs.Field as list
+use Rattle.memory.specs.Memory.{put}
+use Rattle.rules.specs.Memory.{Mem, tasks, ringNumber, counterIn, bufferAt, rowIn, held, pointerIn}
 use Rattle.rules.specs.Sizes.{Lengths}
 use Rattle.rules.specs.Tables.{StopsAt}
 use Rattle.rules.specs.Words.{placesFit}
@@ -71,7 +73,15 @@ module _ (m : Mem) (i : ℕ) where
 -- The memory after a step of worker i: weights and tables as they were, its row this one, then the other lists, from the degrees on to the run
 -- words.
 abbrev pub memAfter : Mem → ℕ → Row → List ℕ → List ℕ → List ℕ → List ℤ → List ℕ → List ℕ → List ℕ → Mem
-memAfter m i row d r e c b x n = memOf (m .weights) (m .predStarts) (m .preds) (m .succStarts) (m .succs) d r e c b x n (set (m .rows) i row)
+memAfter m i row d r e c b x n =
+    put list.degrees d
+    (put list.rings r
+    (put list.ends e
+    (put list.counters c
+    (put list.buffers b
+    (put list.executed x
+    (put list.run n
+    (put list.rows (set (m .rows) i row) m)))))))
 
 -- worker h's own N places hold the same words in these buffers as in the memory's
 abbrev pub SameBuffer : Mem → List ℕ → ℕ → Type 0
@@ -99,7 +109,7 @@ module _ (p k i : ℕ) (m : Mem) (worker : i < p) (lengths : Lengths p k m) (row
         ∙ ap (λ (words : List ℕ). threadWith words (rowIn m h .cursor) (rowIn m h .phase) (held m h) (pointerIn m h))
         (buffer-kept h (rowIn m h .read) (rowIn m h .write) (kept h other)))
         ∙ ap (λ (own : Row). set (tabulate p (threadIn m)) i (threadFrom m′ i own))
-        (getD-set-same (m .rows) i row idle (omega (arith, worker, lengths .others .rows)))
+        (getD-set-same (m .rows) i row idle (omega (arith, worker, lengths .list list.rows)))
 
   -- after Fetch, Start and Release, which leave buffers and record as they are; the accepted word is no part of the state
   pub state-after : (n : ℕ) → stateOf p k (memAfter m i row d r e c (m .buffers) (m .executed) (set (m .run) 1 n))
@@ -124,7 +134,7 @@ module _ (p o j : ℕ) (owner : o < p) (filler : j < p) where
 
   module _ (k : ℕ) (m : Mem) (lengths : Lengths p k m) where
     pub ends-room : ringNumber p o j * endWords + endWords ≤ length (m .ends)
-    ends-room = rw (lengths .others .ends) (place-end endWords (p * p) (ringNumber p o j) (place-lt p p o j owner filler))
+    ends-room = rw (lengths .list list.ends) (place-end endWords (p * p) (ringNumber p o j) (place-lt p p o j owner filler))
 
     -- this counter alone changes
     pub counters-put : (change : ℤ → ℤ)
@@ -135,7 +145,7 @@ module _ (p o j : ℕ) (owner : o < p) (filler : j < p) where
         rw (counter-at p k m o j owner filler)
         (rings-put (counterIn m) (λ q. getD (set (m .counters) number new) q (pos 0)) (λ q. getD-set-other (m .counters) number q new (pos 0))
         ∙ ap (λ (c : ℤ). withCell (square p (λ a b. counterIn m (ringNumber p a b))) o j c)
-        (getD-set-same (m .counters) number new (pos 0) (rw (lengths .others .counters) (place-lt p p o j owner filler))))
+        (getD-set-same (m .counters) number new (pos 0) (rw (lengths .list list.counters) (place-lt p p o j owner filler))))
       where
         number : ℕ
         number = ringNumber p o j

@@ -19,9 +19,12 @@ use Rattle.task.specs.declared.StepOutcome.{StepOutcome}
 use Rattle.ring.specs.Ring.{capacity, slotAt, Sound, Full, tailOn, queue, appendedAt}
 use Rattle.ring.proofs.Queues.{queue-full, queue-most, queue-append, queue-append-other}
 use Rattle.choice.proofs.Least.{least-same}
-use Rattle.rules.specs.Memory.{Mem, tasks, ringNumber, endsIn, ringsIn, weightIn, degreeIn, rowIn, succCount, oldest, successor}
+use Rattle.memory.specs.Family.{Places}
+use Rattle.memory.specs.Field as list
+use Rattle.memory.specs.Updates.{updated, written}
+use Rattle.rules.specs.Memory.{Mem, tasks, ringNumber, endsIn, ringsIn, weightIn, degreeIn, rowIn, movedTo, succCount, oldest, successor}
 use Rattle.rules.specs.Sizes.{Lengths, Fits}
-use Rattle.rules.specs.Updates.{Update, putAccepted, updated, written}
+use Rattle.rules.specs.Updates.{Update, putAccepted}
 use Rattle.rules.specs.Tables.{StopsAt, offeredEnds}
 use Rattle.rules.specs.Moves as moves
 use Rattle.rules.specs.Moves.{Advances, next, last, Releasing, waiting, placed}
@@ -33,17 +36,18 @@ use Rattle.algorithm1.proofs.Memories.{between, between-first, threadFr
 
 -- worker i's words
 module _ (m : Mem) (i : ℕ) where
-  -- the row advances as the thread does; Release suits phase 0 alone, so the phase stays
-  advances-passes : (count : ℕ) (r row : Row) → _≡_ {A = ℕ} (r .phase) 0 → r .read < r .write → r .write ≤ tasks m → Advances count r row
-      → threadFrom m i row ≡ passed count (between m i (r .read + 1) (r .write)) (threadFrom m i r)
-  advances-passes count r row phase some fit (next h) = rw (ne-eqb (r .cursor + 1) count (λ e. omega arith), phase)
-  advances-passes count r row phase some fit (last h) =
-      rw (eq-eqb (r .cursor + 1) count (omega arith), places-fit m i (r .read + 1) (r .write) (omega arith) fit, phase)
+  -- the row advances as the thread does
+  advances-passes : (count : ℕ) (r : Row) (to : Places) → r .read < r .write → r .write ≤ tasks m → Advances count r to
+      → threadFrom m i (movedTo to r) ≡ passed count (between m i (r .read + 1) (r .write)) (threadFrom m i r)
+  advances-passes count r to some fit (next h) = rw (ne-eqb (r .cursor + 1) count (λ e. omega arith))
+  advances-passes count r to some fit (last h) =
+      rw (eq-eqb (r .cursor + 1) count (omega arith), places-fit m i (r .read + 1) (r .write) (omega arith) fit)
 
 module _ (p k i : ℕ) (m : Mem) (worker : i < p) (lengths : Lengths p k m) where
   -- line 6: the successor at the cursor is the one that Algorithm 1 passes
-  passes : (row : Row) → _≡_ {A = ℕ} (rowIn m i .phase) 0 → Releasing i m row → Passes i (stateOf p k m) (successor m i) (threadFrom m i row)
-  passes row phase f =
+  passes : (to : Places) → _≡_ {A = ℕ} (rowIn m i .phase) 0 → Releasing i m to
+      → Passes i (stateOf p k m) (successor m i) (threadFrom m i (movedTo to (rowIn m i)))
+  passes to phase f =
       record {
         phase = phase-at p k m i worker ∙ phase;
         oldest = oldest m i;
@@ -57,7 +61,7 @@ module _ (p k i : ℕ) (m : Mem) (worker : i < p) (lengths : Lengths p k m) wher
         waits = rw (degree-at p k m (successor m i)) (f .positive);
         thread =
             rw (thread-is, successors-are, count)
-            (advances-passes m i (succCount m (oldest m i)) (rowIn m i) row phase (f .notEmpty) (f .places) (f .advances));
+            (advances-passes m i (succCount m (oldest m i)) (rowIn m i) to (f .notEmpty) (f .places) (f .advances));
       }
     where
       thread-is : threadOf (stateOf p k m) i ≡ threadFrom m i (rowIn m i)
@@ -67,7 +71,7 @@ module _ (p k i : ℕ) (m : Mem) (worker : i < p) (lengths : Lengths p k m) wher
       successors-are = successors-at p k m (oldest m i) (f .task .below)
 
       count : length (successorsIn m (oldest m i)) ≡ succCount m (oldest m i)
-      count = length-successors m (oldest m i) (lengths .others .succs) (f .task)
+      count = length-successors m (oldest m i) (lengths .list list.succs) (f .task)
 
 -- The ring of owner o filled by worker i, where its ends are slots.
 module _ (p k i : ℕ) (m : Mem) (worker : i < p) (o : ℕ) (owner : o < p) (sound : Sound k (endsIn m (ringNumber p o i))) where
@@ -92,7 +96,7 @@ module _ (p k i : ℕ) (m : Mem) (worker : i < p) (o : ℕ) (owner : o < p) (sou
         ∙ rw (
           queue-at p k m o i owner worker,
           queue-append 0 k (ringsIn m) (ringNumber p o i) t sound free
-              (rw (lengths .others .rings) (place-end k (p * p) (ringNumber p o i) (place-lt p p o i owner worker)))
+              (rw (lengths .list list.rings) (place-end k (p * p) (ringNumber p o i) (place-lt p p o i owner worker)))
               (ends-room p o i owner worker k m lengths),
         )
 
@@ -111,11 +115,11 @@ module _ (limits : Limits) (p k i : ℕ) (m : Mem) (fits : Fits limits p k m) (w
       rw (f .updates)
       (lowers (record {
         task = successor m i;
-        next = threadFrom m i (f .row);
-        pass = passes p k i m worker (fits .lengths) (f .row) phase (f .common);
+        next = threadFrom m i (movedTo (f .to) (rowIn m i));
+        pass = passes p k i m worker (fits .lengths) (f .to) phase (f .common);
         some = λ z. f .notReady (omega (arith, z, f .common .positive));
         after =
-            state-after p k i m worker (fits .lengths) (f .row)
+            state-after p k i m worker (fits .lengths) _
             (set (m .degrees) (successor m i) (degreeIn m (successor m i) - 1)) (m .rings) (m .ends) (m .counters) n;
         outcome = f .outcome;
       }))
@@ -127,15 +131,15 @@ module _ (limits : Limits) (p k i : ℕ) (m : Mem) (fits : Fits limits p k m) (w
       rw (f .updates, f .ringIs)
       (allocates (record {
         task = successor m i;
-        next = threadFrom m i (f .row);
-        pass = passes p k i m worker (fits .lengths) (f .row) phase (f .common);
+        next = threadFrom m i (movedTo (f .to) (rowIn m i));
+        pass = passes p k i m worker (fits .lengths) (f .to) phase (f .common);
         zero = omega (arith, f .ready);
         target = f .target;
         least = least-same (workload-at p k m) (f .least);
         owner = f .owner;
         room = room;
         after =
-            state-after p k i m worker (fits .lengths) (f .row) _ _ _ _ n
+            state-after p k i m worker (fits .lengths) _ _ _ _ _ n
             ∙ state-same refl refl
             (ap (λ (d : ℕ). set (m .degrees) (successor m i) d) (omega (arith, f .ready)))
             (queues-appended p k i m worker (f .owner) (first-lt room) sound free (fits .lengths) (successor m i))

@@ -18,8 +18,9 @@ use Rattle.graph.specs.Successors.{succStarts, succWords, degreeList}
 use Rattle.graph.proofs.Accepted.{fits-sound}
 use Rattle.graph.proofs.Reversed.{length-degrees}
 use Rattle.ring.specs.Ring.{ringWords, endWords}
+use Rattle.memory.specs.Field as list
 use Rattle.rules.specs.Memory.{Mem, memOf}
-use Rattle.rules.specs.Sizes.{Others, Fits}
+use Rattle.rules.specs.Sizes.{Lengths, Fits}
 use Rattle.rules.specs.Plans.{resultOf}
 use Rattle.rules.specs.Begin.{cleared, begun, beginAnswer, beginResult, begin}
 use Rattle.rules.proofs.Begin.{begin-accepted}
@@ -74,26 +75,26 @@ module _ (limits : Limits) (p k : ℕ) (w s e : List ℕ) (ss sc d r n c b x u r
       let f = begin-accepted limits p k some .0 (ap (λ (z : Answer). answerSays (beginResult z p k some .answer)) (sym (judged some some-sizes) ∙ q)) in
       (f .0, f .1)
 
-  others : Others p k some
-  others = fits .0 .lengths .others
+  lengths : Lengths p k some
+  lengths = fits .0 .lengths
 
   pub fillable : Sound g × ((ss ≡ length w + 1) × ((sc ≡ length e) × (d ≡ length w)))
   fillable = (
     fits-sound (fits .1),
-    (sym (length-replicate ss 0) ∙ others .succStarts, (sym (length-replicate sc 0) ∙ others .succs, sym (length-replicate d 0) ∙ others .degrees)),
+    (sym (length-replicate ss 0) ∙ lengths .list list.succStarts, (sym (length-replicate sc 0) ∙ lengths .list list.succs, sym (length-replicate d 0) ∙ lengths .list list.degrees)),
   )
 
   rings-are : r ≡ p * p * ringWords k
-  rings-are = sym (length-replicate r 0) ∙ others .rings
+  rings-are = sym (length-replicate r 0) ∙ lengths .list list.rings
 
   ends-are : n ≡ p * p * endWords
-  ends-are = sym (length-replicate n 0) ∙ others .ends
+  ends-are = sym (length-replicate n 0) ∙ lengths .list list.ends
 
   counters-are : c ≡ p * p
-  counters-are = sym (length-replicate c (pos 0)) ∙ others .counters
+  counters-are = sym (length-replicate c (pos 0)) ∙ lengths .list list.counters
 
   rows-are : rows ≡ p
-  rows-are = sym (length-replicate rows idle) ∙ others .rows
+  rows-are = sym (length-replicate rows idle) ∙ lengths .list list.rows
 
   pub layable : (d′ rings ends : List ℕ) (counters : List ℤ) → d′ ≡ degreeList g → length rings ≡ r → length ends ≡ n → length counters ≡ c
       → Job p k w d′ × Room p k rings ends counters

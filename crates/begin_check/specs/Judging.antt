@@ -4,15 +4,16 @@ use mathlib.Core.Path.{_≡_}
 use mathlib.Core.List.{List}
 use Rattle.task.specs.declared.Limits.{Limits}
 use Rattle.task.specs.declared.Answer.{Answer}
-use Rattle.rules.specs.Memory.{Mem, memOf}
+use Rattle.memory.specs.Field as list
+use Rattle.memory.specs.Memory.{put}
+use Rattle.rules.specs.Memory.{Mem}
 use Rattle.rules.specs.Begin.{beginAnswer}
 use Rattle.admission.specs.Admission.{sizesOf}
 use Rattle.admission.specs.declared.Sizes.{Sizes}
 
 -- a memory with other weights and predecessor tables
 abbrev pub readIn : Mem → List ℕ → List ℕ → List ℕ → Mem
-readIn m weights starts preds =
-    memOf weights starts preds (m .succStarts) (m .succs) (m .degrees) (m .rings) (m .ends) (m .counters) (m .buffers) (m .executed) (m .run) (m .rows)
+readIn m weights starts preds = put list.weights weights (put list.predStarts starts (put list.preds preds m))
 
 -- begin's answer in every memory that has these and these lengths
 abbrev pub Judges : Limits → ℕ → ℕ → Sizes → List ℕ → List ℕ → List ℕ → Answer → Type 0

@@ -14,6 +14,8 @@ use Rattle.task.specs.declared.Step.the-variants.{Fetch, Start, Complete, Relea
 use Rattle.task.specs.declared.StepAnswer.{StepAnswer}
 use Rattle.task.specs.declared.StepAnswer.the-variants as answer
 use Rattle.rows.specs.Rows.{clearedRows}
+use Rattle.memory.specs.Field as list
+use Rattle.memory.specs.Memory.{put}
 use Rattle.rules.specs.Memory.{Mem, memOf}
 use Rattle.rules.specs.Plans.{resultOf}
 use Rattle.rules.specs.Begin.{begin}
@@ -33,7 +35,7 @@ use Rattle.begin.specs.declared.Begun.{Begun}
 
 -- where 2, 1 and 7 pass, the worker has a row
 pub row-there : (p k i : ℕ) (sizes : Sizes) (j : Judged) → Knows p k i sizes j → j ≡ judged.Fit → (rows : ℕ) → sizes .rows ≡ rows → i < rows
-row-there p k i sizes j known v rows e = let f = subst (Knows p k i sizes) v known in omega (arith, f .rows, f .worker)
+row-there p k i sizes j known v rows e = let f = subst (Knows p k i sizes) v known in omega (arith, f .lengths .list list.rows, f .worker)
 
 module _ (w ps p′ ss s d r e : List ℕ) (c : List ℤ) (b x n : List ℕ) (rows : List Row) where
   abbrev lent : Mem
@@ -75,20 +77,21 @@ module _ (w ps p′ ss s d r e : List ℕ) (c : List ℤ) (b x n : List ℕ) (ro
       module _ (rows′ : List Row) (row : Row) (a : Stepped) (y : StepAnswer) (loaded : row ≡ getD rows i idle)
           (ended : (y ≡ answerOf a) × (rows′ ≡ rowsAfter rows i a)) where
         pub start-made : (n′ : List ℕ) → Starts p k i sizes j row n n′ a
-            → resultOf y (memOf w ps p′ ss s d r e c b x n′ rows′) ≡ step limits p k i Start lent
+            → resultOf y (put list.run n′ (put list.rows rows′ lent)) ≡ step limits p k i Start lent
         start-made n′ f = rw (ended .0, ended .1) (f limits lent judges (sym measured) (sym loaded))
 
         pub fetch-made : (e′ : List ℕ) (c′ : List ℤ) (n′ : List ℕ) → Fetches p k i sizes j row w r e e′ c c′ n n′ a
-            → resultOf y (memOf w ps p′ ss s d r e′ c′ b x n′ rows′) ≡ step limits p k i Fetch lent
+            → resultOf y (put list.ends e′ (put list.counters c′ (put list.run n′ (put list.rows rows′ lent)))) ≡ step limits p k i Fetch lent
         fetch-made e′ c′ n′ f = rw (ended .0, ended .1) (f limits lent judges (sym measured) (sym loaded))
 
         pub complete-made : (b′ x′ n′ : List ℕ) → Completes p k i sizes j row ss b b′ x x′ n n′ a
-            → resultOf y (memOf w ps p′ ss s d r e c b′ x′ n′ rows′) ≡ step limits p k i Complete lent
+            → resultOf y (put list.buffers b′ (put list.executed x′ (put list.run n′ (put list.rows rows′ lent)))) ≡ step limits p k i Complete lent
         complete-made b′ x′ n′ f = rw (ended .0, ended .1) (f limits lent judges (sym measured) (sym loaded))
 
         pub release-made : (d′ r′ e′ : List ℕ) (c′ : List ℤ) (n′ : List ℕ)
             → Releases p k i sizes j row (tablesOf w ss s b) (wordsOf d r e c n) (wordsOf d′ r′ e′ c′ n′) a
-            → resultOf y (memOf w ps p′ ss s d′ r′ e′ c′ b x n′ rows′) ≡ step limits p k i Release lent
+            → resultOf y (put list.degrees d′ (put list.rings r′ (put list.ends e′ (put list.counters c′ (put list.run n′ (put list.rows rows′ lent))))))
+            ≡ step limits p k i Release lent
         release-made d′ r′ e′ c′ n′ f = rw (ended .0, ended .1) (f limits lent judges (sym measured) (sym loaded))
 
   pub begin-made : (limits : Limits) (p k : ℕ) (rows′ : List Row) (a : Begun) (ss′ s′ d′ r′ e′ : List ℕ) (c′ : List ℤ) (b′ x′ n′ : List ℕ) (count : ℕ) → length rows ≡ count

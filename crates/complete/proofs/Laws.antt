@@ -10,14 +10,16 @@ use borrow.Author.Tests.{ltb-true, lt-ltb, le-ltb, le-leb, lt-leb, eq-eqb, ne-eq
 use Rattle.lists.proofs.Apart.{unequal}
 use Rattle.lists.proofs.Places.{place-lt}
 use Rattle.lists.proofs.Told.{and-true, or-false, cond-either}
-use Rattle.task.specs.Types.{nil, engine}
+use Rattle.task.specs.Types.{nil, idle, engine}
 use Rattle.task.specs.Refusals.{recordFull}
 use Rattle.task.specs.declared.Limits.{Limits}
 use Rattle.task.specs.declared.Row.{Row}
 use Rattle.task.specs.declared.Step.the-variants.{Complete}
 use Rattle.task.specs.declared.StepOutcome.the-variants.{Moved}
+use Rattle.memory.specs.Field as list
+use Rattle.memory.specs.Updates.{storeWords, updated, written}
+use Rattle.memory.proofs.Fields.{set-again}
 use Rattle.rules.specs.Memory.{Mem, allEntries, allSteps, rowIn, withHand, withPlaces}
-use Rattle.rules.specs.Updates.{updated, written}
 use Rattle.rules.specs.Plans.{Plan, refuse, refuseIf, checked, counted}
 use Rattle.rules.specs.Steps.{completeSink, completeInner, completeRule, ruleOf}
 use Rattle.admission.specs.Admission.{sizesOf, Judges, Measured, Admits, Enters}
@@ -137,14 +139,14 @@ module _ (n e : ℕ) (row : Row) (succStarts run : List ℕ) where
 module _ (p k i : ℕ) (sizes : Sizes) (f : Measured p k i sizes) where
   pub plan-asks : (starts words : ℕ) → starts ≡ sizes .«succ_starts» → words ≡ sizes .run
       → (sizes .weights ≤ engine .tasks) × ((sizes .preds ≤ engine .edges) × ((starts ≡ sizes .weights + 1) × (words ≡ 2)))
-  plan-asks starts words s r = (f .fewTasks, (f .fewEdges, (s ∙ f .succStarts, r ∙ f .run)))
+  plan-asks starts words s r = (f .fewTasks, (f .fewEdges, (s ∙ f .lengths .list list.succStarts, r ∙ f .lengths .list list.run)))
 
   pub record-asks : (places words : ℕ) (run : List ℕ) (entries accepted : ℕ) → places ≡ sizes .executed → words ≡ sizes .run
       → Room (sizes .weights) (sizes .preds) run entries accepted → Recordable places words entries accepted
   record-asks places words run entries accepted x r room = (
-    r ∙ f .run,
+    r ∙ f .lengths .list list.run,
     (
-      omega (arith, f .executed, room .entry),
+      omega (arith, f .lengths .list list.executed, room .entry),
       (omega (arith, f .fewTasks, room .entry), omega (arith, f .fewTasks, f .fewEdges, room .step)),
     ),
   )
@@ -154,7 +156,7 @@ module _ (p k i : ℕ) (sizes : Sizes) (f : Measured p k i sizes) where
   buffer-asks places write b h =
       let few = few-places p k (sizes .weights) (f .fewWorkers, (f .fewSlots, f .fewTasks)) in
       let lies = place-lt (sizes .weights) p i write (f .worker) h in
-      (omega (arith, f .buffers), omega (arith, f .buffers))
+      (omega (arith, f .lengths .list list.buffers), omega (arith, f .lengths .list list.buffers))
 
   pub place-asks : (write : ℕ) → write < sizes .weights → write < engine .tasks
   place-asks write h = omega (arith, f .fewTasks)
@@ -210,7 +212,7 @@ module _ (p k i : ℕ) (sizes : Sizes) (row : Row) (succStarts buffers executed 
         (records : Records entries accepted (after .held .0) i executed executed' run run') (a : Stepped) where
       pub sink-made : plan ≡ Sink entries accepted → a ≡ stepped.Taken Moved (left (after .write))
           → Completes p k i sizes judged row succStarts buffers buffers executed executed' run run' a
-      unfolding ruleOf written updated
+      unfolding ruleOf written updated storeWords
       sink-made w o limits m j e h =
           rw (o, records .0, records .1, room .entriesWord, room .acceptedWord, enters limits m j e h .leads)
           (rule-accepted limits p k i Complete (before m) after (enters limits m j e h) Moved _ (follows limits m j e h (Sink entries accepted) w))
@@ -218,7 +220,17 @@ module _ (p k i : ℕ) (sizes : Sizes) (row : Row) (succStarts buffers executed 
       pub inner-made : plan ≡ Inner entries accepted
           → (buffers' : List ℕ) → buffers' ≡ set buffers (i * sizes .weights + after .write) (after .held .0) → a ≡ stepped.Taken Moved (left (after .write + 1))
           → Completes p k i sizes judged row succStarts buffers buffers' executed executed' run run' a
-      unfolding ruleOf written updated
+      unfolding ruleOf written updated storeWords
       inner-made w buffers' hb o limits m j e h =
-          rw (o, records .0, records .1, room .entriesWord, room .acceptedWord, hb, ← tasks-are limits m j e h, enters limits m j e h .leads)
+          rw (
+            o,
+            records .0,
+            records .1,
+            room .entriesWord,
+            room .acceptedWord,
+            hb,
+            ← tasks-are limits m j e h,
+            enters limits m j e h .leads,
+            ← set-again (m .rows) i (withHand 0 nil (rowIn m i)) idle (withPlaces (rowIn m i .read) (rowIn m i .write + 1) (rowIn m i .cursor)),
+          )
           (rule-accepted limits p k i Complete (before m) after (enters limits m j e h) Moved _ (follows limits m j e h (Inner entries accepted) w))

@@ -5,7 +5,9 @@ use mathlib.Core.List.{List}
 use Rattle.task.specs.declared.Limits.{Limits}
 use Rattle.task.specs.declared.Row.{Row}
 use Rattle.task.specs.declared.Step.the-variants as step-name
-use Rattle.rules.specs.Memory.{Mem, memOf, rowIn, withHand, withPlaces}
+use Rattle.memory.specs.Field as list
+use Rattle.memory.specs.Memory.{put}
+use Rattle.rules.specs.Memory.{Mem, rowIn, withHand, withPlaces}
 use Rattle.rules.specs.Plans.{resultOf}
 use Rattle.rules.specs.Steps.{step}
 use Rattle.admission.specs.Admission.{sizesOf, Judges, answerOf, rowsAfter}
@@ -17,7 +19,11 @@ use Rattle.admission.specs.declared.Stepped.the-variants.{Refused, Taken}
 -- a memory with the lists that Complete reads and writes
 abbrev pub lent : Mem → List ℕ → List ℕ → List ℕ → List ℕ → List Row → Mem
 lent m succStarts buffers executed run rows =
-    memOf (m .weights) (m .predStarts) (m .preds) succStarts (m .succs) (m .degrees) (m .rings) (m .ends) (m .counters) buffers executed run rows
+    put list.succStarts succStarts
+    (put list.buffers buffers
+    (put list.executed executed
+    (put list.run run
+    (put list.rows rows m))))
 
 -- whatever the other lists hold
 abbrev pub Completes : ℕ → ℕ → ℕ → Sizes → Judged → Row → List ℕ → List ℕ → List ℕ → List ℕ → List ℕ → List ℕ → List ℕ → Stepped → Type 0

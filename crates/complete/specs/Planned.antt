@@ -8,9 +8,9 @@ use Rattle.task.specs.declared.Row.{Row}
 use Rattle.task.specs.declared.Step.the-variants.{Complete}
 use Rattle.task.specs.declared.StepOutcome.the-variants.{Moved}
 use Rattle.rules.specs.Memory.{Mem, tasks, edges, bufferAt, rowIn, held}
-use Rattle.rules.specs.Updates.{putBuffer, putRow}
+use Rattle.rules.specs.Updates.{putBuffer, putPlaces}
 use Rattle.rules.specs.Plans.{Plan, refuse, accept, withCount}
-use Rattle.rules.specs.Steps.{completedRow, recordEntry, completeRule}
+use Rattle.rules.specs.Steps.{letGo, recordEntry, completeRule}
 use Rattle.admission.specs.Admission.{entered}
 use Rattle.complete.specs.declared.CompletePlan.{CompletePlan}
 use Rattle.complete.specs.declared.CompletePlan.the-variants.{Refused, Sink, Inner}
@@ -18,10 +18,14 @@ use Rattle.complete.specs.declared.CompletePlan.the-variants.{Refused, S
 -- a plan as the rules have it, for worker i
 abbrev pub planOf : ℕ → Mem → CompletePlan → Plan
 planOf i m (Refused n d) = refuse n d
-planOf i m (Sink entries accepted) = accept Moved (withCount m (putRow i (completedRow (rowIn m i .write) (rowIn m i)) ∷ recordEntry i m))
+planOf i m (Sink entries accepted) = accept Moved (withCount m (letGo i ∷ recordEntry i m))
 planOf i m (Inner entries accepted) =
     accept Moved
-    (withCount m (putBuffer (bufferAt m i (rowIn m i .write)) (held m i) ∷ putRow i (completedRow (rowIn m i .write + 1) (rowIn m i)) ∷ recordEntry i m))
+    (withCount m
+    (putBuffer (bufferAt m i (rowIn m i .write)) (held m i)
+    ∷ letGo i
+    ∷ putPlaces i (record { read = rowIn m i .read; write = rowIn m i .write + 1; cursor = rowIn m i .cursor })
+    ∷ recordEntry i m))
 
 -- the plan is the rule's, in every memory with the words that are read, for a row in the phase that Complete leads to
 abbrev pub Plans : ℕ → ℕ → Row → List ℕ → List ℕ → CompletePlan → Type 0

@@ -10,7 +10,8 @@ use lib.ListN.{length, getD, set}
 use lib.IntN.{ℤ, pos, _-ℤ_}
 use Rattle.lists.specs.Circles.{after}
 use Rattle.lists.proofs.Places.{place-end}
-use Rattle.task.specs.Types.{engine}
+use Rattle.task.specs.Types.{idle, engine}
+use Rattle.task.specs.Phases.{leadsTo}
 use Rattle.task.specs.declared.Ends.{Ends}
 use Rattle.task.specs.declared.Limits.{Limits}
 use Rattle.task.specs.declared.Row.{Row}
@@ -21,11 +22,14 @@ use Rattle.task.specs.declared.WorkerId.{WorkerId}
 use Rattle.ring.specs.Ring.{endWords, Sound, Empty, empty, slotAt, endsAt, storeEnds, headOn}
 use Rattle.ring.proofs.Ends.{empty-told}
 use Rattle.choice.specs.Search as rules
+use Rattle.memory.specs.Field as list
+use Rattle.memory.specs.Updates.{updated, written}
+use Rattle.memory.proofs.Fields.{set-again}
 use Rattle.rules.specs.Memory.{Mem, allSteps, ringNumber, rowIn, withHand, withPointer, pointerIn}
 use Rattle.rules.specs.Words.{counterFits}
-use Rattle.rules.specs.Updates.{Update, putEnds, putRow, updated, written}
+use Rattle.rules.specs.Updates.{Update, putEnds, putHand, putPointer}
 use Rattle.rules.specs.Plans.{accept, withCount, counted}
-use Rattle.rules.specs.Steps.{scan, fetchedRow, leave, fetchTask, fetchFrom, fetchRule, ruleOf}
+use Rattle.rules.specs.Steps.{scan, leave, fetchTask, fetchFrom, fetchRule, ruleOf}
 use Rattle.rules.proofs.Searches.{Looked, search-looked}
 use Rattle.searches.specs.Searches.{foundOf, Reads}
 use Rattle.searches.specs.declared.Found.{Found}
@@ -232,7 +236,8 @@ module _ (p k i steps : ℕ) (row : Row) (weights rings ends : List ℕ) (counte
         withCount (before m)
         (putEnds ring (headOn k (endsAt ends ring))
         ∷ leave p i (head .task .0) (before m)
-        ∷ putRow i (fetchedRow p (head .filler .0) (head .task .0) (rowIn m i))
+        ∷ putHand i (leadsTo Fetch) (head .task .0)
+        ∷ putPointer i (after p (head .filler .0))
         ∷ [])
 
     planned : (m : Mem) → stepsWith weights m ≡ steps → pointerIn m i ≡ row .pointer .0
@@ -267,6 +272,7 @@ module _ (p k i steps : ℕ) (row : Row) (weights rings ends : List ℕ) (counte
           takes .reads,
           takes .task .weighs,
           takes .task .counts,
+          ← set-again (m .rows) i (withHand (leadsTo Fetch) (head .task) (rowIn m i)) idle (withPointer (after p (head .filler .0))),
         )
         (rule-accepted limits p k i Fetch (before m) row enters (Fetched (head .task)) (updates m) (planned m e (points-at limits m enters)))
 
@@ -288,11 +294,11 @@ module _ (p k i : ℕ) (sizes : Sizes) (judged : Judged) (known : Knows p k i si
         fewWorkers = measured .fewWorkers;
         fewSlots = measured .fewSlots;
         worker = measured .worker;
-        allEnds = e ∙ measured .ends;
-        allCounters = c ∙ measured .counters;
-        bothWords = n ∙ measured .run;
+        allEnds = e ∙ measured .lengths .list list.ends;
+        allCounters = c ∙ measured .lengths .list list.counters;
+        bothWords = n ∙ measured .lengths .list list.run;
       };
-      allRings = r ∙ measured .rings;
+      allRings = r ∙ measured .lengths .list list.rings;
     },
     omega (arith, row-steps),
   )

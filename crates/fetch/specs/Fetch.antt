@@ -7,7 +7,9 @@ use lib.IntN.{ℤ}
 use Rattle.task.specs.declared.Limits.{Limits}
 use Rattle.task.specs.declared.Row.{Row}
 use Rattle.task.specs.declared.Step.the-variants as step-name
-use Rattle.rules.specs.Memory.{Mem, memOf, edges, rowIn, withHand, withPointer}
+use Rattle.memory.specs.Field as list
+use Rattle.memory.specs.Memory.{put}
+use Rattle.rules.specs.Memory.{Mem, edges, rowIn, withHand, withPointer}
 use Rattle.rules.specs.Plans.{resultOf}
 use Rattle.rules.specs.Steps.{step}
 use Rattle.admission.specs.Admission.{sizesOf, Judges, Enters, answerOf, rowsAfter}
@@ -19,7 +21,12 @@ use Rattle.admission.specs.declared.Stepped.the-variants.{Refused, Taken}
 -- a memory with the lists that Fetch reads and writes
 abbrev pub lent : Mem → List ℕ → List ℕ → List ℕ → List ℤ → List ℕ → List Row → Mem
 lent m weights rings ends counters run rows =
-    memOf weights (m .predStarts) (m .preds) (m .succStarts) (m .succs) (m .degrees) rings ends counters (m .buffers) (m .executed) run rows
+    put list.weights weights
+    (put list.rings rings
+    (put list.ends ends
+    (put list.counters counters
+    (put list.run run
+    (put list.rows rows m)))))
 
 -- how many steps a run has, with these weights
 abbrev pub stepsWith : List ℕ → Mem → ℕ

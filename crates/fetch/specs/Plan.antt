@@ -1,5 +1,5 @@
 -- What is read and checked before a Fetch writes: the lists as the rule finds them, in its stages.
-use Prim.Native.Nat.{ℕ, _*_, _≤_, _<_}
+use Prim.Native.Nat.{ℕ, _≤_, _<_}
 use mathlib.Core.Path.{_≡_}
 use mathlib.Core.Bool.{true, not}
 use mathlib.Core.List.{List}
@@ -8,9 +8,11 @@ use lib.IntN.{ℤ, pos, _-ℤ_}
 use Rattle.lists.specs.Circles.{around}
 use Rattle.task.specs.Types.{engine}
 use Rattle.task.specs.declared.Ends.{Ends}
-use Rattle.ring.specs.Ring.{endWords, Sound, sound, empty, slotAt, endsAt}
+use Rattle.ring.specs.Ring.{Sound, sound, empty, slotAt, endsAt}
 use Rattle.choice.specs.Search.{Found, at, search}
-use Rattle.rules.specs.Memory.{Mem, ringNumber, pointerIn}
+use Rattle.memory.specs.Field as list
+use Rattle.memory.specs.Shape.{fixedLength}
+use Rattle.rules.specs.Memory.{plain, Mem, ringNumber, pointerIn}
 use Rattle.rules.specs.Words.{counterFits}
 use Rattle.rules.specs.Plans.{refuse}
 use Rattle.rules.specs.Steps.{fetchTask, fetchRule}
@@ -24,14 +26,14 @@ pub record Ready (p k i : ℕ) (ends : List ℕ) (counters : List ℤ) (run : Li
   pub fewWorkers : p ≤ engine .workers
   pub fewSlots : k ≤ engine .slots
   pub worker : i < p
-  pub allEnds : length ends ≡ p * p * endWords
-  pub allCounters : length counters ≡ p * p
-  pub bothWords : _≡_ {A = ℕ} (length run) 2
+  pub allEnds : length ends ≡ fixedLength plain p k list.ends
+  pub allCounters : length counters ≡ fixedLength plain p k list.counters
+  pub bothWords : length run ≡ fixedLength plain p k list.run
 
 -- and of the rings, which are only read
 pub record Sized (p k i : ℕ) (rings ends : List ℕ) (counters : List ℤ) (run : List ℕ) : Type 0 where
   pub ready : Ready p k i ends counters run
-  pub allRings : length rings ≡ p * p * k
+  pub allRings : length rings ≡ fixedLength plain p k list.rings
 
 -- what a scan of owner i's rings finds
 abbrev pub scanOf : ℕ → ℕ → ℕ → ℕ → List ℕ → Found

@@ -7,7 +7,6 @@ use native.Mathlib.Omega.{arith}
 use lib.ListN.{length, getD, set}
 use lib.IntN.{ℤ, pos, _+ℤ_}
 use borrow.Author.Tests.{eq-eqb, ne-eqb, le-leb, lt-leb}
-use Rattle.task.specs.Phases.{leadsTo}
 use Rattle.task.specs.Refusals.{damaged}
 use Rattle.task.specs.declared.Ends.{Ends}
 use Rattle.task.specs.declared.Row.{Row}
@@ -17,11 +16,11 @@ use Rattle.task.specs.declared.StepOutcome.the-variants.{Released}
 use Rattle.task.specs.declared.ReleaseOutcome.the-variants.{DegreeLeft, Placed}
 use Rattle.ring.specs.Ring.{Sound, endsAt, Rings, ringsOf, appendedAt, Inside}
 use Rattle.ring.proofs.Inside.{ring-inside}
+use Rattle.memory.specs.Updates.{updated, written}
 use Rattle.rules.specs.Memory.{Mem, ringNumber, weightIn, successor, withPlaces}
-use Rattle.rules.specs.Updates.{updated, written}
 use Rattle.rules.specs.Words.{counterFits, weightFits}
 use Rattle.rules.specs.Plans.{Plan, refuse, checked}
-use Rattle.rules.specs.Steps.{releasedRow, releaseTo, releaseWaiting}
+use Rattle.rules.specs.Steps.{advanced, releaseTo, releaseWaiting}
 use Rattle.admission.specs.declared.Stepped.{Stepped}
 use Rattle.admission.specs.declared.Stepped.the-variants.{Refused, Taken}
 use Rattle.admission.proofs.Rows.{count-refused, count-accepted, refused-result, accepted-result}
@@ -30,19 +29,19 @@ use Rattle.release_plan.specs.declared.Successor.{Successor}
 use Rattle.release_plan.specs.declared.Owner.{Owner}
 use Rattle.release_plan.specs.declared.Owner.the-variants as owner
 use Rattle.release.specs.Release.{Words, wordsOf}
-use Rattle.release.specs.Parts.{Sized, Stands, withWords, Lowers, Places, PlacesReady}
+use Rattle.release.specs.Parts.{advancedRow, Sized, Stands, withWords, Lowers, Places, PlacesReady}
 
 -- The row after a successor.
 module _ (row : Row) (count read cursor : ℕ) where
   pub advance-last : row .cursor + 1 ≡ count → read ≡ row .read + 1 → cursor ≡ 0
-      → row .phase ≡ leadsTo Release → withPlaces read (row .write) cursor row ≡ releasedRow count row
-  unfolding releasedRow
-  advance-last e f g h = rw (f, g, h, eq-eqb _ _ e)
+      → withPlaces read (row .write) cursor row ≡ advancedRow count row
+  unfolding advanced
+  advance-last e f g = rw (f, g, eq-eqb _ _ e)
 
   pub advance-on : ¬ (row .cursor + 1 ≡ count) → read ≡ row .read → cursor ≡ row .cursor + 1
-      → row .phase ≡ leadsTo Release → withPlaces read (row .write) cursor row ≡ releasedRow count row
-  unfolding releasedRow
-  advance-on n f g h = rw (f, g, h, ne-eqb _ _ n)
+      → withPlaces read (row .write) cursor row ≡ advancedRow count row
+  unfolding advanced
+  advance-on n f g = rw (f, g, ne-eqb _ _ n)
 
 -- The degree stays above 0.
 module _ (a : ℕ) (row : Row) (next : Successor) (d run : List ℕ) where
@@ -51,11 +50,11 @@ module _ (a : ℕ) (row : Row) (next : Successor) (d run : List ℕ) where
   lower-refused h limits p k i m s e = refused-result limits p k i Release _ 8 0 (e ∙ count-refused _ _ refl _ _ (rw (s .steps) h))
 
   pub lower-accepted : getD run 1 0 < a → (left : ℕ) → left ≡ getD d (next .task .0) 0 - 1
-      → (after : Row) → (row .phase ≡ leadsTo Release → after ≡ releasedRow (next .count) row)
+      → (after : Row) → after ≡ advancedRow (next .count) row
       → Lowers a row next d run (set d (next .task .0) left) (set run 1 (getD run 1 0 + 1)) (Taken (Released (DegreeLeft left)) after)
   unfolding releaseWaiting written updated
   lower-accepted h left l after f limits p k i m s e =
-      rw (l, f (s .phase), ← s .next .task, ← s .next .count, ← s .row)
+      rw (l, f, ← s .next .task, ← s .next .count, ← s .row)
       (accepted-result limits p k i Release _ _ _ (e ∙ count-accepted _ _ refl _ _ (rw (s .steps) h)))
 
 -- Ring y, whose owner o was found: that which worker i fills is sound, its ends are known, and each counter is in its range.
@@ -101,7 +100,7 @@ module _ (p k i a : ℕ) (row : Row) (next : Successor) (o : ℕ) (w : List ℕ)
     pub place-accepted : getD (x .run) 1 0 < a → (y : ℕ) → y ≡ o * p + i → (rings ends : List ℕ)
         → ringsOf rings ends ≡ appendedAt k y (next .task .0) (ringsOf (x .rings) (x .ends))
         → (counters : List ℤ) → counters ≡ set (x .counters) y (getD (x .counters) y (pos 0) +ℤ pos (getD w (next .task .0) 0))
-        → (after : Row) → (row .phase ≡ leadsTo Release → after ≡ releasedRow (next .count) row)
+        → (after : Row) → after ≡ advancedRow (next .count) row
         → Places p k i a row next o w x
         (wordsOf (set (x .degrees) (next .task .0) 0) rings ends counters (set (x .run) 1 (getD (x .run) 1 0 + 1)))
         (Taken (Released (Placed (record { 0 = next .task .0 }) (record { 0 = o }))) after)
@@ -112,7 +111,7 @@ module _ (p k i a : ℕ) (row : Row) (next : Successor) (o : ℕ) (w : List ℕ)
           ap (λ (t : Rings ℕ). t .ends) hr,
           hc,
           hy,
-          f (s .phase),
+          f,
           ← g,
           ← s .next .task,
           ← s .next .count,

@@ -9,6 +9,7 @@ use Rattle.task.specs.Phases.{leadsTo}
 use Rattle.task.specs.declared.Limits.{Limits}
 use Rattle.task.specs.declared.Row.{Row}
 use Rattle.task.specs.declared.Step.the-variants.{Release}
+use Rattle.memory.specs.Field as list
 use Rattle.rules.specs.Memory.{Mem, rowIn, withHand}
 use Rattle.rules.specs.Plans.{Plan}
 use Rattle.rules.specs.Steps.{releaseWaiting, releaseReady, releaseRule, ruleOf, stepPlan}
@@ -59,10 +60,10 @@ module _ (p k i : ℕ) (sizes : Sizes) (judged : Judged) (row : Row) (t : Tables
 
     pub tables-fit : (length (t .succStarts) ≡ length (x .degrees) + 1) × (i * length (x .degrees) + length (x .degrees) ≤ length (t .buffers))
     tables-fit =
-        let n : length (x .degrees) ≡ sizes .weights = given .1 .degrees ∙ measured .degrees in
+        let n : length (x .degrees) ≡ sizes .weights = given .1 .degrees ∙ measured .lengths .list list.degrees in
         rw n (
-          given .1 .succStarts ∙ measured .succStarts,
-          omega (arith, mul-le-mul-right (sizes .weights) (measured .worker), suc-mul i (sizes .weights), given .1 .buffers, measured .buffers),
+          given .1 .succStarts ∙ measured .lengths .list list.succStarts,
+          omega (arith, mul-le-mul-right (sizes .weights) (measured .worker), suc-mul i (sizes .weights), given .1 .buffers, measured .lengths .list list.buffers),
         )
 
     words-fit : Sized p k i (length (t .weights)) x
@@ -71,10 +72,10 @@ module _ (p k i : ℕ) (sizes : Sizes) (judged : Judged) (row : Row) (t : Tables
           worker = measured .worker;
           fewWorkers = measured .fewWorkers;
           fewSlots = measured .fewSlots;
-          degrees = given .1 .degrees ∙ measured .degrees ∙ sym (given .1 .weights);
-          rings = given .1 .rings ∙ measured .rings;
-          ends = given .1 .ends ∙ measured .ends;
-          counters = given .1 .counters ∙ measured .counters;
+          degrees = given .1 .degrees ∙ measured .lengths .list list.degrees ∙ sym (given .1 .weights);
+          rings = given .1 .rings ∙ measured .lengths .list list.rings;
+          ends = given .1 .ends ∙ measured .lengths .list list.ends;
+          counters = given .1 .counters ∙ measured .lengths .list list.counters;
         }
 
     -- the memory that is lent shows these lists
@@ -83,7 +84,7 @@ module _ (p k i : ℕ) (sizes : Sizes) (judged : Judged) (row : Row) (t : Tables
       shows =
           record {
             tasks = sym (words-fit .degrees);
-            edges = ap (λ (z : Sizes). z .preds) e ∙ sym (given .1 .succs ∙ measured .succs);
+            edges = ap (λ (z : Sizes). z .preds) e ∙ sym (given .1 .succs ∙ measured .lengths .list list.succs);
             row = h ∙ sym (same-row row judged r told after v);
             succStarts = refl;
             succs = refl;
@@ -115,7 +116,7 @@ module _ (p k i : ℕ) (sizes : Sizes) (judged : Judged) (row : Row) (t : Tables
               place = g .place;
               cursor = g .cursor;
               task = g .task;
-              run = given .1 .run ∙ measured .run;
+              run = given .1 .run ∙ measured .lengths .list list.run;
             }
 
         stands : (m : Mem) → sizesOf (lent m t x (m .rows)) ≡ sizes → rowIn m i ≡ row → Stands i steps after s (lent m t x (m .rows))

@@ -9,14 +9,21 @@ use Rattle.task.specs.declared.Limits.{Limits}
 use Rattle.task.specs.declared.Row.{Row}
 use Rattle.task.specs.declared.Step.the-variants as step-name
 use Rattle.choice.specs.Search.{at}
-use Rattle.rules.specs.Memory.{Mem, memOf, tasks, edges, rowIn}
+use Rattle.memory.specs.Field as list
+use Rattle.memory.specs.Memory.{put}
+use Rattle.memory.specs.Shape.{lengthOf, fixedLength}
+use Rattle.rules.specs.Memory.{plainShape, plain, Mem, tasks, edges, rowIn, movedTo}
 use Rattle.rules.specs.Plans.{Plan, resultOf}
-use Rattle.rules.specs.Steps.{releaseTo, releaseReady, releaseWaiting, stepPlan, step}
+use Rattle.rules.specs.Steps.{advanced, releaseTo, releaseReady, releaseWaiting, stepPlan, step}
 use Rattle.admission.specs.Admission.{answerOf, rowsAfter}
 use Rattle.admission.specs.declared.Stepped.{Stepped}
 use Rattle.release_plan.specs.Picks.{Next}
 use Rattle.release_plan.specs.declared.Successor.{Successor}
 use Rattle.release.specs.Release.{Words, wordsOf}
+
+-- the row after a successor: its places advance
+abbrev pub advancedRow : ℕ → Row → Row
+advancedRow count row = movedTo (advanced count row) row
 
 -- what a Release knows of its numbers: a run has n tasks and a steps (at most 3·1,024 + 8,192), and `words` are its run words
 pub record Goes (a : ℕ) (r : Row) (s : Successor) (n : ℕ) (words : List ℕ) : Type 0 where
@@ -24,17 +31,17 @@ pub record Goes (a : ℕ) (r : Row) (s : Successor) (n : ℕ) (words : List ℕ)
   pub place : r .read < r .write
   pub cursor : r .cursor < s .count
   pub task : s .task .0 < n
-  pub run : _≡_ {A = ℕ} (length words) 2
+  pub run : length words ≡ plainShape .runWords
 
 -- worker i's rings and the words lie within their lists
 pub record Sized (p k i n : ℕ) (x : Words) : Type 0 where
   pub worker : i < p
   pub fewWorkers : p ≤ engine .workers
   pub fewSlots : k ≤ engine .slots
-  pub degrees : length (x .degrees) ≡ n
-  pub rings : length (x .rings) ≡ p * p * k
-  pub ends : length (x .ends) ≡ p * p * 2
-  pub counters : length (x .counters) ≡ p * p
+  pub degrees : length (x .degrees) ≡ lengthOf plain p k n 0 list.degrees
+  pub rings : length (x .rings) ≡ fixedLength plain p k list.rings
+  pub ends : length (x .ends) ≡ fixedLength plain p k list.ends
+  pub counters : length (x .counters) ≡ fixedLength plain p k list.counters
 
 -- a memory with that row of worker i, in the phase that a Release leads to, and that successor, where a steps are a run
 pub record Stands (i a : ℕ) (r : Row) (s : Successor) (m : Mem) : Type 0 where
@@ -46,7 +53,12 @@ pub record Stands (i a : ℕ) (r : Row) (s : Successor) (m : Mem) : Type 0 where
 -- a memory with these words and rows
 abbrev pub withWords : Mem → Words → List Row → Mem
 withWords m x rows =
-    memOf (m .weights) (m .predStarts) (m .preds) (m .succStarts) (m .succs) (x .degrees) (x .rings) (x .ends) (x .counters) (m .buffers) (m .executed) (x .run) rows
+    put list.degrees (x .degrees)
+    (put list.rings (x .rings)
+    (put list.ends (x .ends)
+    (put list.counters (x .counters)
+    (put list.run (x .run)
+    (put list.rows rows m)))))
 
 -- a Release by worker i that has come to the plan `rest` ends so, its words x become x′
 abbrev pub Finishes : Limits → (p k i : ℕ) → (Mem → Plan) → Mem → Words → Words → Stepped → Type 0

@@ -7,7 +7,9 @@ use lib.IntN.{ℤ}
 use Rattle.task.specs.declared.Limits.{Limits}
 use Rattle.task.specs.declared.Row.{Row}
 use Rattle.task.specs.declared.Step.the-variants as step-name
-use Rattle.rules.specs.Memory.{Mem, memOf, rowIn, withPlaces}
+use Rattle.memory.specs.Field as list
+use Rattle.memory.specs.Memory.{put}
+use Rattle.rules.specs.Memory.{Mem, rowIn, withPlaces}
 use Rattle.rules.specs.Plans.{resultOf}
 use Rattle.rules.specs.Steps.{step}
 use Rattle.admission.specs.Admission.{sizesOf, Judges, answerOf, rowsAfter}
@@ -40,7 +42,16 @@ wordsOf d r e c n = record { degrees = d; rings = r; ends = e; counters = c; run
 -- a memory with these lists
 abbrev pub lent : Mem → Tables → Words → List Row → Mem
 lent m t x rows =
-    memOf (t .weights) (m .predStarts) (m .preds) (t .succStarts) (t .succs) (x .degrees) (x .rings) (x .ends) (x .counters) (t .buffers) (m .executed) (x .run) rows
+    put list.weights (t .weights)
+    (put list.succStarts (t .succStarts)
+    (put list.succs (t .succs)
+    (put list.degrees (x .degrees)
+    (put list.rings (x .rings)
+    (put list.ends (x .ends)
+    (put list.counters (x .counters)
+    (put list.buffers (t .buffers)
+    (put list.run (x .run)
+    (put list.rows rows m)))))))))
 
 -- whatever the other lists hold
 abbrev pub Releases : ℕ → ℕ → ℕ → Sizes → Judged → Row → Tables → Words → Words → Stepped → Type 0

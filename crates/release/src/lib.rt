@@ -2,14 +2,12 @@
 ghost use mathlib.Core.Path.{_≡_};
 ghost use Prim.Native.Nat.{_-_, _<_};
 ghost use lib.ListN.{length, getD};
-ghost use Rattle.task.specs.Phases.{leadsTo};
 ghost use Rattle.ring.specs.Ring.{endsAt};
 ghost use Rattle.rules.specs.Memory.{ringNumber, withPlaces};
-ghost use Rattle.rules.specs.Steps.{releasedRow};
 ghost use Rattle.admission.specs.Admission.{Knows};
 ghost use Rattle.release_plan.specs.Owners.{Takes};
 ghost use Rattle.release.specs.Release.{tablesOf, wordsOf, Lent, Releases, ReadAndCursor};
-ghost use Rattle.release.specs.Parts.{Goes, Sized, Lowers, Places, PlacesReady};
+ghost use Rattle.release.specs.Parts.{advancedRow, Goes, Sized, Lowers, Places, PlacesReady};
 use admission::Admitted;
 use admission::Judged;
 use admission::Sizes;
@@ -28,7 +26,7 @@ use task::refusal;
 // The row after a successor: the cursor goes on, and after the last one the place of the oldest task.
 fn advanced(row: Row, count: u32) -> Row
     requires { ⌜ (row .read < row .write) × (row .cursor < count) ⌝ }
-    ensures { λ r. ⌜ (row .phase ≡ leadsTo Step.Release → r ≡ releasedRow count row) ⌝ }
+    ensures { λ r. ⌜ r ≡ advancedRow count row ⌝ }
     ensures { λ r. ⌜ r ≡ withPlaces (r .read) (row .write) (r .cursor) row ⌝ }
 {
     let mut read = row.read;

@@ -17,6 +17,7 @@ use Rattle.layout.specs.Layout.{Spells}
 use Rattle.layout.specs.Reader.{Read, readAs, readText}
 use Rattle.layout.specs.Tables.{Lent, Within}
 use Rattle.layout.proofs.Accepted.{ReadAs, read-accepted}
+use Rattle.memory.specs.Field as list
 use Rattle.rules.specs.Memory.{Mem, tasks, entriesIn, acceptedIn}
 use Rattle.rules.specs.Sizes.{Fits}
 use Rattle.rules.specs.Plans.{resultOf}
@@ -57,7 +58,7 @@ module _ (limits : Limits) (l : limits ≡ engine) (lent begun : Mem) (a : Answe
     pub begun-ready : Ready (lent .weights) (lent .preds) (lent .executed) (lent .run)
     unfolding capped
     begun-ready =
-        record { tasks = fits .limits .fewTasks; edges = fits .limits .fewEdges; executed = fits .lengths .others .executed; run = fits .lengths .others .run }
+        record { tasks = fits .limits .fewTasks; edges = fits .limits .fewEdges; executed = fits .lengths .list list.executed; run = fits .lengths .list list.run }
 
     module _ (ran : Mem) (d : ran ≡ deskRun begun) where
       pub entries-all : entriesIn ran ≡ tasks lent

@@ -25,9 +25,9 @@ use Rattle.graph.proofs.Reversed.{length-degrees}
 use Rattle.ring.specs.Ring.{Sound, slotAt, endsAt, storeEnds, tailOn, Rings, ringsOf, appendedAt, Inside}
 use Rattle.ring.proofs.Ends.{length-stored, ends-cleared, stored-sound, sound-append}
 use Rattle.ring.proofs.Inside.{ring-inside}
+use Rattle.memory.specs.Updates.{updated, written}
 use Rattle.rules.specs.Memory.{Mem}
 use Rattle.rules.specs.Words.{counterFits}
-use Rattle.rules.specs.Updates.{updated, written}
 use Rattle.rules.specs.Steps.{join}
 use Rattle.rules.specs.Begin.{rootsPlaced}
 use Rattle.roots.specs.Laying.{rootsBelow, laidIn, Placed, Job, Room, Laid}

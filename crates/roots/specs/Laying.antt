@@ -11,7 +11,10 @@ use Rattle.lists.specs.Lists.{joined}
 use Rattle.task.specs.Types.{engine}
 use Rattle.graph.specs.Conditions.{Light}
 use Rattle.ring.specs.Ring.{ringWords, endWords, endsAt, Sound}
-use Rattle.rules.specs.Memory.{Mem, memOf}
+use Rattle.memory.specs.Field as list
+use Rattle.memory.specs.Memory.{put}
+use Rattle.memory.specs.Shape.{fixedLength}
+use Rattle.rules.specs.Memory.{plain, Mem}
 use Rattle.rules.specs.Begin.{rootsPlaced}
 
 -- the tasks below t whose degree is 0, rising
@@ -21,7 +24,10 @@ rootsBelow degrees t = joined t (λ u. cond (holds (ℕ-discrete (getD degrees u
 -- a memory with other weights, rings, ends and counters
 abbrev pub laidIn : Mem → List ℕ → List ℕ → List ℕ → List ℤ → Mem
 laidIn m w r e c =
-    memOf w (m .predStarts) (m .preds) (m .succStarts) (m .succs) (m .degrees) r e c (m .buffers) (m .executed) (m .run) (m .rows)
+    put list.weights w
+    (put list.rings r
+    (put list.ends e
+    (put list.counters c m)))
 
 -- in any memory the roots below t are placed, from cleared lists
 abbrev pub Placed : ℕ → ℕ → List ℕ → List ℕ → ℕ → List ℕ → List ℕ → List ℤ → Type 0
@@ -42,9 +48,9 @@ pub record Job (p k : ℕ) (weights degrees : List ℕ) : Type 0 where
   pub light : Light weights
 
 pub record Room (p k : ℕ) (r e : List ℕ) (c : List ℤ) : Type 0 where
-  pub rings : length r ≡ p * p * ringWords k
-  pub ends : length e ≡ p * p * endWords
-  pub counters : length c ≡ p * p
+  pub rings : length r ≡ fixedLength plain p k list.rings
+  pub ends : length e ≡ fixedLength plain p k list.ends
+  pub counters : length c ≡ fixedLength plain p k list.counters
 
 -- the roots below t are laid down, and the next one goes to the owner: what lets the next task be laid down
 pub record Laid (p k : ℕ) (weights degrees : List ℕ) (t owner : ℕ) (rings ends : List ℕ) (counters : List ℤ) : Type 0 where

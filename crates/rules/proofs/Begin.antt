@@ -1,6 +1,7 @@
 -- PROMISES: begin is refused under the table's conditions and no others; so it accepts exactly what fits and has room for its roots.
 use Prim.Native.Nat.{ℕ, _+_, _-_, _*_, _≤_, _<_}
 use mathlib.Core.Path.{_≡_, refl, sym, ap}
+use mathlib.Core.Bool.{true}
 use mathlib.Core.Logic.{_⊎_, inl, inr, _↔_}
 use mathlib.Core.List.{List, [], _∷_, _++_}
 use native.Mathlib.Omega.{arith}
@@ -8,6 +9,7 @@ use native.Mathlib.Decide.{ℕ-discrete, decLe}
 use lib.ListN.{length}
 use lib.Dec.{ltb}
 use borrow.Author.Tests.{ltb-true, ltb-false}
+use Rattle.lists.proofs.Apart.{true-and-false}
 use Rattle.lists.proofs.Decided.{stable}
 use Rattle.lists.proofs.Told.{told, neither, told-pass}
 use Rattle.task.specs.Refusals.{accepted, answerSays, tooManyRoots}
@@ -25,20 +27,27 @@ use Rattle.graph.proofs.Reversed.{length-roots}
 use Rattle.graph.proofs.Accepted.{said-accepted, clear-fits, fits-clear}
 use Rattle.ring.specs.Ring.{capacity}
 use Rattle.ring.proofs.Ends.{capacity-is}
-use Rattle.rules.specs.Memory.{Mem, tasks, edges, graphIn}
-use Rattle.rules.specs.Sizes.{Others, Lengths, Fits, numbersFit, othersFit}
+use Rattle.memory.specs.Field as list
+use Rattle.memory.specs.Shape.{sizesIn}
+use Rattle.memory.proofs.Shape.{fits-shaped}
+use Rattle.rules.specs.Memory.{plain, Mem, tasks, edges, graphIn}
+use Rattle.rules.specs.Sizes.{Lengths, Fits, numbersFit, othersFit}
 use Rattle.rules.specs.Begin.{rootsAnswer, beginAnswer, beginResult, begin}
 use Rattle.rules.specs.Tables.{BeyondPK, rootCount, beginRows}
-use Rattle.rules.proofs.Headers.{numbers-told, others-told, lengths-are, lengths-told, within-fits, fits-within}
+use Rattle.rules.proofs.Headers.{numbers-told, others-fit, lengths-are, lengths-told, within-fits, fits-within}
 
 answer-given : (a : Answer) (p k : ℕ) (m : Mem) → beginResult a p k m .answer ≡ a
 answer-given (Refused n d) p k m = refl
 answer-given Accepted p k m = refl
 
 module _ (limits : Limits) (p k : ℕ) (m : Mem) where
+  -- the lists behind the graph's have their lengths
+  abbrev Others : Type 0
+  Others = othersFit p k m ≡ true
+
   -- the graph's check with begin's other numbers and lengths
   abbrev graphRows : List Refusal
-  graphRows = checkRows limits (BeyondPK limits p k) (¬ (Others p k m)) (m .weights) (m .predStarts) (m .preds)
+  graphRows = checkRows limits (BeyondPK limits p k) (¬ Others) (m .weights) (m .predStarts) (m .preds)
 
   abbrev rootRows : List Refusal
   rootRows = row tooManyRoots (only (rootCount m) (p * (k - 1) < rootCount m)) ∷ []
@@ -64,25 +73,29 @@ module _ (limits : Limits) (p k : ℕ) (m : Mem) where
   checks-follow =
       rw (answer-given (beginAnswer limits p k m) p k m)
       (follows-then graphRows rootRows (checkAnswer limits (numbersFit limits p k) (othersFit p k m) (m .weights) (m .predStarts) (m .preds)) (rootsAnswer p k m)
-      (check-follows limits (numbersFit limits p k) (othersFit p k m) (numbers-told limits p k) (λ _. others-told p k m) (m .weights) (m .predStarts) (m .preds))
+      (check-follows limits (numbersFit limits p k) (othersFit p k m) (numbers-told limits p k) (λ _. told (othersFit p k m) (λ e n. n e) (λ e o. true-and-false o e)) (m .weights) (m .predStarts) (m .preds))
       (λ _. roots-follow))
 
+  whole-lengths : length (m .predStarts) ≡ tasks m + 1 → Others → Lengths p k m
+  unfolding othersFit
+  whole-lengths e o = fits-shaped plain p k (sizesIn m) e o
+
   -- 1 in the table's words: a length isn't the stated one
-  lengths-iff : (¬ (length (m .predStarts) ≡ tasks m + 1) ⊎ ¬ (Others p k m)) ↔ ¬ (Lengths p k m)
+  lengths-iff : (¬ (length (m .predStarts) ≡ tasks m + 1) ⊎ ¬ Others) ↔ ¬ (Lengths p k m)
   lengths-iff = (to, λ n. from n (ℕ-discrete (length (m .predStarts)) (tasks m + 1)))
     where
-      to : ¬ (length (m .predStarts) ≡ tasks m + 1) ⊎ ¬ (Others p k m) → ¬ (Lengths p k m)
-      to (inl n) l = n (l .predStarts)
-      to (inr n) l = n (l .others)
+      to : ¬ (length (m .predStarts) ≡ tasks m + 1) ⊎ ¬ Others → ¬ (Lengths p k m)
+      to (inl n) l = n (l .list list.predStarts)
+      to (inr n) l = n (others-fit p k m l)
 
-      from : ¬ (Lengths p k m) → Dec (length (m .predStarts) ≡ tasks m + 1) → ¬ (length (m .predStarts) ≡ tasks m + 1) ⊎ ¬ (Others p k m)
-      from n (yes e) = inr (λ o. n (record { predStarts = e; others = o }))
+      from : ¬ (Lengths p k m) → Dec (length (m .predStarts) ≡ tasks m + 1) → ¬ (length (m .predStarts) ≡ tasks m + 1) ⊎ ¬ Others
+      from n (yes e) = inr (λ o. n (whole-lengths e o))
       from n (no q) = inl q
 
   abbrev GraphHere : Type 0
   GraphHere = GraphFits limits (m .weights) (m .predStarts) (m .preds)
 
-  fits : ¬ (BeyondPK limits p k) → ¬ (¬ (Others p k m)) → GraphHere → Fits limits p k m
+  fits : ¬ (BeyondPK limits p k) → ¬ (¬ Others) → GraphHere → Fits limits p k m
   fits f o g = within-fits limits p k m (neither f small) (lengths-are p k m (told-pass (lengths-told p k m) whole))
     where
       small : ¬ (Beyond limits (tasks m) (edges m))
@@ -90,19 +103,19 @@ module _ (limits : Limits) (p k : ℕ) (m : Mem) where
       small (inr h) = omega (arith, g .edges)
 
       whole : ¬ (¬ (Lengths p k m))
-      whole n = o (λ x. n (record { predStarts = g .lengths; others = x }))
+      whole n = o (λ x. n (whole-lengths (g .lengths) x))
 
   clear-begin : Clear (graphRows ++ rootRows) ↔ (Fits limits p k m × GraphHere × (rootCount m ≤ p * (k - 1)))
   clear-begin = (λ c. to (clear-parts graphRows rootRows .0 c), λ a. clear-parts graphRows rootRows .1 (from a))
     where
       to : Clear graphRows × Clear rootRows → Fits limits p k m × GraphHere × (rootCount m ≤ p * (k - 1))
       to (c, (r, _)) =
-          let a : (¬ (BeyondPK limits p k)) × ((¬ (¬ (Others p k m))) × GraphHere) = clear-fits limits (m .weights) (m .predStarts) (m .preds) c in
+          let a : (¬ (BeyondPK limits p k)) × ((¬ (¬ Others)) × GraphHere) = clear-fits limits (m .weights) (m .predStarts) (m .preds) c in
           (fits (a .0) (a .1 .0) (a .1 .1), a .1 .1, stable (decLe (rootCount m) (p * (k - 1))) (λ n. r (rootCount m) (refl, omega arith)))
 
       from : Fits limits p k m × GraphHere × (rootCount m ≤ p * (k - 1)) → Clear graphRows × Clear rootRows
       from (a, g, r) = (
-        fits-clear limits (m .weights) (m .predStarts) (m .preds) (λ h. fits-within limits p k m a (inl h), (λ n. n (a .lengths .others), g)),
+        fits-clear limits (m .weights) (m .predStarts) (m .preds) (λ h. fits-within limits p k m a (inl h), (λ n. n (others-fit p k m (a .lengths)), g)),
         (λ d h. omega (arith, h .1), tt),
       )
 

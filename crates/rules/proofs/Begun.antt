@@ -33,9 +33,13 @@ use Rattle.graph.proofs.Reversed.{succ-part, table-reversed, table-good, succs-
 use Rattle.ring.specs.Ring.{capacity, slotAt, endsAt}
 use Rattle.ring.proofs.Ends.{capacity-is, ends-cleared}
 use Rattle.ring.proofs.Queues.{queue-cleared}
-use Rattle.rules.specs.Memory.{Mem, tasks, graphIn, ringNumber, ringsIn, endsIn, weightIn, rowIn}
+use Rattle.memory.specs.Field.{Field}
+use Rattle.memory.specs.Field as list
+use Rattle.memory.specs.Memory.{get}
+use Rattle.memory.specs.Shape.{lengthOf}
+use Rattle.memory.specs.Updates.{updated, written}
+use Rattle.rules.specs.Memory.{plain, Mem, tasks, edges, graphIn, ringNumber, ringsIn, endsIn, weightIn, rowIn}
 use Rattle.rules.specs.Sizes.{Lengths}
-use Rattle.rules.specs.Updates.{updated, written}
 use Rattle.rules.specs.Steps.{join}
 use Rattle.rules.specs.Begin.{cleared, rootsPlaced, begun, beginAnswer, beginResult, begin}
 use Rattle.rules.specs.Begun.{rootsOf, LaidDown}
@@ -131,33 +135,32 @@ module _ (p k : ℕ) (m : Mem) (lengths : Lengths p k m) (sound : Sound (graphIn
   unfolding cleared
   cleared-filled =
       record {
-        lengths =
-            record {
-              predStarts = lengths .predStarts;
-              others =
-                  record {
-                    succStarts = length-succStarts (graphIn m);
-                    succs = length-succWords (graphIn m) sound;
-                    degrees = length-degrees (graphIn m);
-                    rings = length-replicate _ _ ∙ lengths .others .rings;
-                    ends = length-replicate _ _ ∙ lengths .others .ends;
-                    counters = length-replicate _ _ ∙ lengths .others .counters;
-                    buffers = length-replicate _ _ ∙ lengths .others .buffers;
-                    executed = length-replicate _ _ ∙ lengths .others .executed;
-                    run = length-replicate _ _ ∙ lengths .others .run;
-                    rows = length-replicate _ _ ∙ lengths .others .rows;
-                  };
-            };
+        lengths = record { list = long };
         weights = refl;
         rings = λ q h.
             record {
               ends = none q;
               slot = λ x hx. zeros (length (m .rings)) (slotAt k q x);
               items = queue-cleared 0 k (ringsIn (cleared m)) q (none q);
-              counter = getD-replicate (length (m .counters)) q (pos 0) (pos 0) (omega (arith, h, lengths .others .counters)) ∙ ap pos (sym (sumOf-nil (weightIn m)));
+              counter = getD-replicate (length (m .counters)) q (pos 0) (pos 0) (omega (arith, h, lengths .list list.counters)) ∙ ap pos (sym (sumOf-nil (weightIn m)));
             };
       }
     where
+      long : (f : Field) → length (get f (cleared m)) ≡ lengthOf plain p k (tasks m) (edges m) f
+      long list.weights = refl
+      long list.predStarts = lengths .list list.predStarts
+      long list.preds = refl
+      long list.succStarts = length-succStarts (graphIn m)
+      long list.succs = length-succWords (graphIn m) sound
+      long list.degrees = length-degrees (graphIn m)
+      long list.rings = length-replicate _ _ ∙ lengths .list list.rings
+      long list.ends = length-replicate _ _ ∙ lengths .list list.ends
+      long list.counters = length-replicate _ _ ∙ lengths .list list.counters
+      long list.buffers = length-replicate _ _ ∙ lengths .list list.buffers
+      long list.executed = length-replicate _ _ ∙ lengths .list list.executed
+      long list.run = length-replicate _ _ ∙ lengths .list list.run
+      long list.rows = length-replicate _ _ ∙ lengths .list list.rows
+
       none : (q : ℕ) → endsIn (cleared m) q ≡ filledEnds 0
       none q = ends-cleared (replicate (length (m .ends)) 0) q (zeros (length (m .ends)) (q * 2)) (zeros (length (m .ends)) (q * 2 + 1))
 
@@ -190,7 +193,7 @@ module _ (p k : ℕ) (m : Mem) (lengths : Lengths p k m) (sound : Sound (graphIn
         go (yes h) = ap (λ (e : Ends). e .head) (begun-filled .rings q h .ends)
         go (no n) =
             List·getD-eq-default (b .ends) 0 {n = q * 2}
-            (omega (arith, n, begun-filled .lengths .others .ends))
+            (omega (arith, n, begun-filled .lengths .list list.ends))
 
     begun-laid-down : LaidDown p k m b
     unfolding cleared written updated

@@ -25,12 +25,14 @@ use Rattle.graph.specs.Successors.{succsBelow, succStart, succStarts, succWords
 use Rattle.ring.specs.Ring.{capacity, slotAt, endsAt, storeEnds, sound, empty, full, headOn, tailOn}
 use Rattle.choice.specs.Least.{load, leastFrom, least}
 use Rattle.choice.specs.Search.{search}
+use Rattle.memory.specs.Shape.{allFit}
+use Rattle.memory.specs.Updates.{storeWords, updated, written}
 use Rattle.rules.specs.Memory.{Mem, memOf, allSteps, allEntries, entriesIn, acceptedIn}
 use Rattle.rules.specs.Sizes.{numbersFit, othersFit, lengthsFit}
 use Rattle.rules.specs.Words.{countersFit}
-use Rattle.rules.specs.Updates.{putEnds, putEntries, putRow, updated, written}
+use Rattle.rules.specs.Updates.{putEnds, putEntries, putHand}
 use Rattle.rules.specs.Plans.{counted, Result, carriedOut}
-use Rattle.rules.specs.Steps.{scan, fetchTask, fetchFrom, fetchRule, startRule, completeSink, completeInner, completeRule, releasedRow, findRoom, releaseTo, releaseReady, releaseWaiting, releaseRule, ruleOf, stepPlan, step}
+use Rattle.rules.specs.Steps.{scan, fetchTask, fetchFrom, fetchRule, startRule, completeSink, completeInner, completeRule, advanced, findRoom, releaseTo, releaseReady, releaseWaiting, releaseRule, ruleOf, stepPlan, step}
 use Rattle.rules.specs.Begin.{cleared, rootsPlaced, begun, rootsAnswer, beginAnswer, begin}
 use Rattle.rules.specs.Desk.{turn, turns, deskRun}
 
@@ -164,7 +166,7 @@ pub record Examples : Type 0 where
       (memOf (1 ∷ 1 ∷ 1 ∷ []) (0 ∷ 0 ∷ 1 ∷ 2 ∷ []) (0 ∷ 0 ∷ []) (0 ∷ 2 ∷ 2 ∷ 2 ∷ []) (1 ∷ 2 ∷ []) (0 ∷ 0 ∷ 0 ∷ [])
       (2 ∷ 1 ∷ []) (1 ∷ 1 ∷ []) (pos 0 ∷ []) (0 ∷ 0 ∷ 0 ∷ []) (0 ∷ 0 ∷ 1 ∷ 0 ∷ 2 ∷ 0 ∷ []) (3 ∷ 11 ∷ []) (rowOf 0 65535 0 1 1 0 ∷ []))
   -- 12: "entries word N, phase 2"
-  pub twelve : says 2 2 (by 0 Complete) (written (putEntries 1 ∷ putRow 0 (rowOf 2 0 0 0 0 0) ∷ []) (fresh 2 2 single)) ≡ refused 12 0
+  pub twelve : says 2 2 (by 0 Complete) (written (putEntries 1 ∷ putHand 0 2 0 ∷ []) (fresh 2 2 single)) ≡ refused 12 0
   -- N 0: "0 steps, begun is finished": as begun, the run words are what they are at the end of a run; and nothing is left to do
   pub noSteps : allSteps (fresh 1 2 nothing) ≡ 0
   pub noEntries : allEntries (fresh 1 2 nothing) ≡ 0
@@ -204,7 +206,7 @@ pub record Examples : Type 0 where
       diamondLeft
 
 pub examples : Examples
-unfolding ℕ-discrete decLe decLt firstBelow occOf joined tabulate allOf sumTo after around capped nextPhase part sizesFit firstBad firstTwice firstOnCycle tablesAnswer checkAnswer below? among? light? good? bad? endsFit? twice? twiceIn? find-twice edge? thru? path? leads? onCycle? succsBelow succStart succStarts succWords degreeList roots capacity slotAt endsAt storeEnds sound empty full headOn tailOn sumToZ load leastFrom least search allSteps allEntries numbersFit othersFit lengthsFit countersFit updated written counted carriedOut scan fetchTask fetchFrom fetchRule startRule completeSink completeInner completeRule releasedRow findRoom releaseTo releaseReady releaseWaiting releaseRule ruleOf stepPlan step cleared rootsPlaced begun rootsAnswer beginAnswer begin turn turns deskRun memoryAfter answers
+unfolding ℕ-discrete decLe decLt firstBelow occOf joined tabulate allOf sumTo after around capped nextPhase part sizesFit firstBad firstTwice firstOnCycle tablesAnswer checkAnswer below? among? light? good? bad? endsFit? twice? twiceIn? find-twice edge? thru? path? leads? onCycle? succsBelow succStart succStarts succWords degreeList roots capacity slotAt endsAt storeEnds sound empty full headOn tailOn sumToZ load leastFrom least search allSteps allEntries numbersFit allFit othersFit lengthsFit countersFit storeWords updated written counted carriedOut scan fetchTask fetchFrom fetchRule startRule completeSink completeInner completeRule advanced findRoom releaseTo releaseReady releaseWaiting releaseRule ruleOf stepPlan step cleared rootsPlaced begun rootsAnswer beginAnswer begin turn turns deskRun memoryAfter answers
 examples =
     record {
       one = refl;
@@ -302,7 +304,7 @@ pub record FurtherExamples : Type 0 where
       (rowOf 0 65535 0 0 0 0 ∷ rowOf 1 1 2 0 0 0 ∷ rowOf 0 65535 0 1 1 0 ∷ []))
 
 pub further : FurtherExamples
-unfolding ℕ-discrete decLe decLt firstBelow occOf joined tabulate allOf sumTo after around capped nextPhase part sizesFit firstBad firstTwice firstOnCycle tablesAnswer checkAnswer below? among? light? good? bad? endsFit? twice? twiceIn? find-twice edge? thru? path? leads? onCycle? succsBelow succStart succStarts succWords degreeList roots capacity slotAt endsAt storeEnds sound empty full headOn tailOn sumToZ load leastFrom least search allSteps allEntries numbersFit othersFit lengthsFit countersFit updated written counted carriedOut scan fetchTask fetchFrom fetchRule startRule completeSink completeInner completeRule releasedRow findRoom releaseTo releaseReady releaseWaiting releaseRule ruleOf stepPlan step cleared rootsPlaced begun rootsAnswer beginAnswer begin turn turns deskRun memoryAfter answers
+unfolding ℕ-discrete decLe decLt firstBelow occOf joined tabulate allOf sumTo after around capped nextPhase part sizesFit firstBad firstTwice firstOnCycle tablesAnswer checkAnswer below? among? light? good? bad? endsFit? twice? twiceIn? find-twice edge? thru? path? leads? onCycle? succsBelow succStart succStarts succWords degreeList roots capacity slotAt endsAt storeEnds sound empty full headOn tailOn sumToZ load leastFrom least search allSteps allEntries numbersFit allFit othersFit lengthsFit countersFit storeWords updated written counted carriedOut scan fetchTask fetchFrom fetchRule startRule completeSink completeInner completeRule advanced findRoom releaseTo releaseReady releaseWaiting releaseRule ruleOf stepPlan step cleared rootsPlaced begun rootsAnswer beginAnswer begin turn turns deskRun memoryAfter answers
 further =
     record {
       fan = record { begins = refl; answered = refl; leaves = refl };

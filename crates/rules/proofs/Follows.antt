@@ -6,6 +6,7 @@ use Rattle.task.specs.Rows.{Follows}
 use Rattle.task.specs.declared.Limits.{Limits}
 use Rattle.task.specs.declared.Step.{Step}
 use Rattle.task.specs.declared.Step.the-variants.{Fetch, Start, Complete, Release}
+use Rattle.memory.specs.Field as list
 use Rattle.rules.specs.Memory.{Mem}
 use Rattle.rules.specs.Sizes.{Fits}
 use Rattle.rules.specs.Steps.{ruleOf, stepPlan, step}
@@ -22,7 +23,7 @@ unfolding ruleOf
 rule-follows limits p k i Fetch m f h = fetch-follows p k i m
 rule-follows limits p k i Start m f h = start-follows i m
 rule-follows limits p k i Complete m f h = complete-follows i m
-rule-follows limits p k i Release m f h = release-follows p k i m (omega (arith, f .limits .oneWorker)) (f .lengths .others .counters)
+rule-follows limits p k i Release m f h = release-follows p k i m (omega (arith, f .limits .oneWorker)) (f .lengths .list list.counters)
 
 pub step-follows : (limits : Limits) (p k i : ℕ) (s : Step) (m : Mem) → Follows (stepRows limits p k i s m) (stepSays (step limits p k i s m .answer))
 unfolding step

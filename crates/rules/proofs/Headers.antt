@@ -21,8 +21,11 @@ use Rattle.task.specs.declared.Step.{Step}
 use Rattle.graph.specs.Check.{sizesFit}
 use Rattle.graph.specs.Tables.{Beyond}
 use Rattle.graph.proofs.Refusals.{sizes-told}
-use Rattle.rules.specs.Memory.{Mem, tasks, edges, rowIn}
-use Rattle.rules.specs.Sizes.{KeepsLimits, Others, Lengths, Fits, numbersFit, othersFit, lengthsFit}
+use Rattle.memory.specs.Field as list
+use Rattle.memory.specs.Shape.{sizesIn}
+use Rattle.memory.proofs.Shape.{fits-shaped, shaped-fits}
+use Rattle.rules.specs.Memory.{plain, Mem, tasks, edges, rowIn}
+use Rattle.rules.specs.Sizes.{KeepsLimits, Lengths, Fits, numbersFit, othersFit, lengthsFit}
 use Rattle.rules.specs.Plans.{Plan, suited}
 use Rattle.rules.specs.Steps.{ruleOf, stepPlan}
 use Rattle.rules.specs.Tables.{BeyondPK, ownRows, stepRows}
@@ -34,59 +37,19 @@ numbers-told limits p k =
     and-told _ _ (and-told _ _ (le-told 1 p) (le-told p (capped limits .workers))) (and-told _ _ (le-told 2 k) (le-told k (capped limits .slots)))
 
 module _ (p k : ℕ) (m : Mem) where
-  others-are : othersFit p k m ≡ true → Others p k m
-  unfolding othersFit
-  others-are e1 =
-      let (a1, e2) = and-true _ _ e1 in
-      let (a2, e3) = and-true _ _ e2 in
-      let (a3, e4) = and-true _ _ e3 in
-      let (a4, e5) = and-true _ _ e4 in
-      let (a5, e6) = and-true _ _ e5 in
-      let (a6, e7) = and-true _ _ e6 in
-      let (a7, e8) = and-true _ _ e7 in
-      let (a8, e9) = and-true _ _ e8 in
-      let (a9, a10) = and-true _ _ e9 in
-      record {
-        succStarts = eqb-true _ _ a1;
-        succs = eqb-true _ _ a2;
-        degrees = eqb-true _ _ a3;
-        rings = eqb-true _ _ a4;
-        ends = eqb-true _ _ a5;
-        counters = eqb-true _ _ a6;
-        buffers = eqb-true _ _ a7;
-        executed = eqb-true _ _ a8;
-        run = eqb-true _ _ a9;
-        rows = eqb-true _ _ a10;
-      }
-
-  others-fit : Others p k m → othersFit p k m ≡ true
-  unfolding othersFit
-  others-fit o =
-      rw (
-        eq-eqb _ _ (o .succStarts),
-        eq-eqb _ _ (o .succs),
-        eq-eqb _ _ (o .degrees),
-        eq-eqb _ _ (o .rings),
-        eq-eqb _ _ (o .ends),
-        eq-eqb _ _ (o .counters),
-        eq-eqb _ _ (o .buffers),
-        eq-eqb _ _ (o .executed),
-        eq-eqb _ _ (o .run),
-        eq-eqb _ _ (o .rows),
-      )
-
-  pub others-told : Told (othersFit p k m) (¬ (¬ (Others p k m))) (¬ (Others p k m))
-  others-told = told (othersFit p k m) (λ e n. n (others-are e)) (λ e o. true-and-false (others-fit o) e)
-
   pub lengths-are : lengthsFit p k m ≡ true → Lengths p k m
-  unfolding lengthsFit
+  unfolding lengthsFit othersFit
   lengths-are e =
       let (a, o) = and-true (eqb (length (m .predStarts)) (tasks m + 1)) (othersFit p k m) e in
-      record { predStarts = eqb-true _ _ a; others = others-are o }
+      fits-shaped plain p k (sizesIn m) (eqb-true _ _ a) o
+
+  pub others-fit : Lengths p k m → othersFit p k m ≡ true
+  unfolding othersFit
+  others-fit l = shaped-fits plain p k (sizesIn m) l
 
   lengths-fit : Lengths p k m → lengthsFit p k m ≡ true
   unfolding lengthsFit
-  lengths-fit l = rw (eq-eqb _ _ (l .predStarts), others-fit (l .others))
+  lengths-fit l = rw (eq-eqb _ _ (l .list list.predStarts), others-fit l)
 
   pub lengths-told : Told (lengthsFit p k m) (¬ (¬ (Lengths p k m))) (¬ (Lengths p k m))
   lengths-told = told _ (λ e n. n (lengths-are e)) (λ e l. true-and-false (lengths-fit l) e)

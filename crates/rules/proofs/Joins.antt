@@ -17,11 +17,12 @@ use Rattle.task.specs.declared.Ends.{Ends}
 use Rattle.ring.specs.Ring.{endWords, slotAt, tailOn, Sound, Full, queue, appendedAt}
 use Rattle.ring.proofs.Ends.{capacity-suc, ends-stored, ends-other}
 use Rattle.ring.proofs.Queues.{queue-full, queue-append, queue-append-other}
+use Rattle.memory.specs.Field as list
+use Rattle.memory.specs.Updates.{updated, written}
+use Rattle.memory.proofs.Shape.{written-shaped}
 use Rattle.rules.specs.Memory.{Mem, ringNumber, ringsIn, endsIn, counterIn, weightIn}
 use Rattle.rules.specs.Sizes.{Lengths}
-use Rattle.rules.specs.Updates.{updated, written}
 use Rattle.rules.specs.Steps.{join}
-use Rattle.rules.proofs.Kept.{written-keeps}
 
 -- a ring whose first n slots are taken
 abbrev pub filledEnds : ℕ → Ends
@@ -48,7 +49,7 @@ module _ (p k o i t : ℕ) (m : Mem) where
   join-appends = refl
 
   pub join-lengths : Lengths p k m → Lengths p k next
-  join-lengths = written-keeps (join p k o i t m) m .lengths p k
+  join-lengths = written-shaped p k (join p k o i t m) m
 
   -- the ring that it joins
   pub join-own : (weight : ℕ → ℕ) (l : List ℕ) → Lengths p k m → q < p * p → weightIn m t ≡ weight t → suc (length l) < k
@@ -60,7 +61,7 @@ module _ (p k o i t : ℕ) (m : Mem) where
         slot = λ x hx. slots x hx (ℕ-discrete x (length l));
         items = rw join-appends (queue-append 0 k (ringsIn m) q t sound free slots-room ends-room ∙ ap (λ (s : List ℕ). s ++ (t ∷ [])) (r .items));
         counter =
-            getD-set-same (m .counters) q _ (pos 0) (omega (arith, h, lengths .others .counters))
+            getD-set-same (m .counters) q _ (pos 0) (omega (arith, h, lengths .list list.counters))
             ∙ rw (r .counter, w, sumOf-append weight l (t ∷ []), sumOf-single weight t);
       }
     where
@@ -71,10 +72,10 @@ module _ (p k o i t : ℕ) (m : Mem) where
       tail-is = ap (λ (e : Ends). e .tail) (r .ends)
 
       ends-room : q * endWords + endWords ≤ length (m .ends)
-      ends-room = rw (lengths .others .ends) (omega (arith, h))
+      ends-room = rw (lengths .list list.ends) (omega (arith, h))
 
       slots-room : slotAt k q k ≤ length (m .rings)
-      slots-room = rw (lengths .others .rings) (place-end k (p * p) q h)
+      slots-room = rw (lengths .list list.rings) (place-end k (p * p) q h)
 
       sound : Sound k (endsIn m q)
       sound = rw (r .ends) (omega (arith, room), omega (arith, room))

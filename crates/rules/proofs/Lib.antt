@@ -13,6 +13,8 @@ pub mod Numbers
 pub mod Untouched
 pub mod Moves
 pub mod Makes
+pub mod RowsMade
+pub mod TakenBack
 pub mod Moved
 pub mod Kept
 pub mod Dealt

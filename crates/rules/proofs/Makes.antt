@@ -21,12 +21,15 @@ use Rattle.graph.specs.Conditions.{Good}
 use Rattle.ring.specs.Ring.{headOn, tailOn}
 use Rattle.choice.specs.Least.{load}
 use Rattle.choice.proofs.Least.{least-worker}
+use Rattle.memory.specs.Family.{Places}
+use Rattle.memory.specs.Field as list
+use Rattle.memory.specs.Updates.{written}
 use Rattle.rules.specs.Memory.{Mem, tasks, edges, ringNumber, headWord, counterIn, degreeIn, succCount, rowIn, held, acceptedIn, successor}
 use Rattle.rules.specs.Sizes.{Fits}
 use Rattle.rules.specs.Words.{acceptedFits}
-use Rattle.rules.specs.Updates.{Update, putAccepted, written}
+use Rattle.rules.specs.Updates.{Update, putAccepted}
 use Rattle.rules.specs.Plans.{Plan, accept, withCount, counted, carriedOut}
-use Rattle.rules.specs.Steps.{fetchTask, fetchFrom, fetchRule, startRule, completeSink, completeInner, completeRule, releasedRow, releaseTo, releaseReady, releaseWaiting, releaseRule, ruleOf, stepPlan, step}
+use Rattle.rules.specs.Steps.{fetchTask, fetchFrom, fetchRule, startRule, completeSink, completeInner, completeRule, advanced, releaseTo, releaseReady, releaseWaiting, releaseRule, ruleOf, stepPlan, step}
 use Rattle.rules.specs.Moves.{Fetches, Ranged, Completing, sink, inner, Advances, next, last, Releasing, ReleasesPlaced, waiting, placed, Made, Allowed}
 use Rattle.rules.proofs.Plans.{outcome-accepts}
 use Rattle.rules.proofs.Headers.{lengths-told, limits-told, fits-within}
@@ -47,11 +50,11 @@ completing-passes i m c =
       le-leb _ _ (c .task .inside),
     )
 
-releasing-passes : (p k i : ℕ) (m : Mem) (row : Row) → Releasing i m row
+releasing-passes : (p k i : ℕ) (m : Mem) (to : Places) → Releasing i m to
     → releaseRule p k i m
     ≡ cond (eqb (degreeIn m (successor m i)) 1) (releaseReady p k i m) (releaseWaiting i m)
 unfolding releaseRule
-releasing-passes p k i m row c =
+releasing-passes p k i m to c =
     rw (
       le-leb (rowIn m i .read) (rowIn m i .write) (omega (arith, c .notEmpty)),
       le-leb _ _ (c .places),
@@ -65,10 +68,10 @@ releasing-passes p k i m row c =
       le-leb _ _ (c .few),
     )
 
-released-is : {count : ℕ} {r row : Row} → Advances count r row → releasedRow count r ≡ row
-unfolding releasedRow
-released-is {count} {r} (next h) = rw (ne-eqb (r .cursor + 1) count (λ e. omega arith))
-released-is {count} {r} (last h) = rw (eq-eqb (r .cursor + 1) count (omega arith))
+advanced-is : {count : ℕ} {r : Row} {to : Places} → Advances count r to → advanced count r ≡ to
+unfolding advanced
+advanced-is {count} {r} (next h) = rw (ne-eqb (r .cursor + 1) count (λ e. omega arith))
+advanced-is {count} {r} (last h) = rw (eq-eqb (r .cursor + 1) count (omega arith))
 
 module _ (p k i : ℕ) (m : Mem) (low : acceptedIn m < 3 * tasks m + edges m) where
   fits : acceptedFits m ≡ true
@@ -86,7 +89,7 @@ module _ (p k i : ℕ) (m : Mem) (low : acceptedIn m < 3 * tasks m + edges m) wh
   unfolding releaseReady releaseTo counted tailOn after
   placed-accepts c o us f =
       rw (
-        releasing-passes p k i m (f .row) (f .common),
+        releasing-passes p k i m (f .to) (f .common),
         eq-eqb _ _ (f .ready),
         told-pass (counters-told (m .counters) (p * p) c) (f .counters),
         sym (least-worker p (load p (m .counters)) (omega (arith, f .least .candidate)) .1 (f .target) (f .least)),
@@ -94,7 +97,7 @@ module _ (p k i : ℕ) (m : Mem) (low : acceptedIn m < 3 * tasks m + edges m) wh
         sym (f .ownerIs),
         le-leb _ _ (f .light),
         fits,
-        released-is (f .common .advances),
+        advanced-is (f .common .advances),
         f .outcome,
         f .updates,
         f .ringIs,
@@ -119,10 +122,10 @@ module _ (p k i : ℕ) (m : Mem) (low : acceptedIn m < 3 * tasks m + edges m) wh
       )
   rule-accepts c Release o us (waiting f) =
       rw (
-        releasing-passes p k i m (f .row) (f .common),
+        releasing-passes p k i m (f .to) (f .common),
         ne-eqb _ _ (f .notReady),
         fits,
-        released-is (f .common .advances),
+        advanced-is (f .common .advances),
         f .outcome,
         f .updates,
       )
@@ -156,7 +159,7 @@ module _ (limits : Limits) (p k i : ℕ) (s : Step) (m : Mem) where
       q : stepPlan limits p k i s m ≡ accept o (withCount m us)
       q =
           step-reaches (r .fits) (r .worker) (r .phase)
-          ∙ rule-accepts p k i m (r .low) (r .fits .lengths .others .counters) s o us (r .made)
+          ∙ rule-accepts p k i m (r .low) (r .fits .lengths .list list.counters) s o us (r .made)
 
   -- whatever it answers
   pub allowed-accepted : (o : StepOutcome) (us : List Update) → Allowed limits p k i s m o us → Acceptance (stepSays (step limits p k i s m .answer))

@@ -16,12 +16,16 @@ use Rattle.task.specs.declared.Row.{Row}
 use Rattle.task.specs.declared.Step.{Step}
 use Rattle.task.specs.declared.Step.the-variants.{Fetch, Start, Complete, Release}
 use Rattle.task.specs.declared.StepOutcome.{StepOutcome}
-use Rattle.rules.specs.Memory.{Mem, rowIn, entriesIn, acceptedIn}
-use Rattle.rules.specs.Updates.{Update, updated, written}
+use Rattle.memory.specs.Family.{Places}
+use Rattle.memory.specs.Field as list
+use Rattle.memory.specs.Updates.{updated, written}
+use Rattle.rules.specs.Memory.{Mem, rowIn, movedTo, entriesIn, acceptedIn}
+use Rattle.rules.specs.Updates.{Update}
 use Rattle.rules.specs.Steps.{step}
 use Rattle.rules.specs.Plans.{withCount}
 use Rattle.rules.specs.Moves.{sink, inner, next, last, Advances, waiting, placed, Made, AcceptedStep, entriesNext}
 use Rattle.rules.proofs.Moves.{accepted-step, accepted-or-same}
+use Rattle.rules.proofs.RowsMade.{rowMade, rows-made}
 
 -- what an accepted step of worker i leaves of the rows and the run words
 record Writes (i : ℕ) (s : Step) (m m′ : Mem) : Type 0 where
@@ -32,10 +36,10 @@ record Writes (i : ℕ) (s : Step) (m m′ : Mem) : Type 0 where
   accepted : acceptedIn m′ ≡ suc (acceptedIn m)
   entries : entriesIn m′ ≡ entriesNext s (entriesIn m)
 
--- Release keeps the phase, but the read place or the cursor advances
-advanced-row : {count : ℕ} {r row : Row} → Advances count r row → (row .phase ≡ leadsTo Release) × ¬ (row ≡ r)
-advanced-row (next h) = (refl, λ e. omega (arith, ap (λ (x : Row). x .cursor) e))
-advanced-row (last h) = (refl, λ e. omega (arith, ap (λ (x : Row). x .read) e))
+-- Release advances the read place or the cursor
+advanced-row : {count : ℕ} {r : Row} {to : Places} → Advances count r to → ¬ (movedTo to r ≡ r)
+advanced-row (next h) e = omega (arith, ap (λ (x : Row). x .cursor) e)
+advanced-row (last h) e = omega (arith, ap (λ (x : Row). x .read) e)
 
 same-phase : {r r′ : Row} → r ≡ r′ → r .phase ≡ r′ .phase
 same-phase e = ap (λ (r : Row). r .phase) e
@@ -58,31 +62,37 @@ module _ (p k i : ℕ) (m : Mem) (two : _≡_ {A = ℕ} (length (m .run)) 2) whe
   full-entries : getD (set run 0 (entriesIn m + 1)) 0 0 ≡ suc (entriesIn m)
   full-entries = getD-set-same run 0 (entriesIn m + 1) 0 (omega (arith, two, length-set (m .run) 1 (acceptedIn m + 1))) ∙ omega arith
 
+  -- the row that the step leaves is another one, in the phase that the step leads to
+  row-other : (s : Step) (o : StepOutcome) (us : List Update) → rowIn m i .phase ≡ suits s → (f : Made s p k i m o us)
+      → (rowMade p k i m o us s f .phase ≡ leadsTo s) × ¬ (rowMade p k i m o us s f ≡ rowIn m i)
+  row-other Fetch o us h f = (refl, λ e. omega (arith, h, same-phase e))
+  row-other Start o us h f = (refl, λ e. omega (arith, h, same-phase e))
+  row-other Complete o us h (sink f) = (refl, λ e. omega (arith, h, same-phase e))
+  row-other Complete o us h (inner f) = (refl, λ e. omega (arith, h, same-phase e))
+  row-other Release o us h (waiting f) = (h, advanced-row (f .common .advances))
+  row-other Release o us h (placed f) = (h, advanced-row (f .common .advances))
+
+  -- the run words
+  words-made : (s : Step) (o : StepOutcome) (us : List Update) → Made s p k i m o us
+      → (acceptedIn (written (withCount m us) m) ≡ suc (acceptedIn m)) × (entriesIn (written (withCount m us) m) ≡ entriesNext s (entriesIn m))
+  unfolding written updated
+  words-made Fetch o us f = rw (f .updates) (run-accepted, run-entries)
+  words-made Start o us f = rw (f .updates) (run-accepted, run-entries)
+  words-made Complete o us (sink f) = rw (f .updates) (full-accepted, full-entries)
+  words-made Complete o us (inner f) = rw (f .updates) (full-accepted, full-entries)
+  words-made Release o us (waiting f) = rw (f .updates) (run-accepted, run-entries)
+  words-made Release o us (placed f) = rw (f .updates) (run-accepted, run-entries)
+
   made-writes : (s : Step) (o : StepOutcome) (us : List Update) → rowIn m i .phase ≡ suits s → Made s p k i m o us
       → Writes i s m (written (withCount m us) m)
-  unfolding written updated
-  made-writes Fetch o us h f =
-      rw (f .updates)
-      (record { row = _; rows = refl; phase = refl; other = λ e. omega (arith, h, same-phase e); accepted = run-accepted; entries = run-entries })
-  made-writes Start o us h f =
-      rw (f .updates)
-      (record { row = _; rows = refl; phase = refl; other = λ e. omega (arith, h, same-phase e); accepted = run-accepted; entries = run-entries })
-  made-writes Complete o us h (sink f) =
-      rw (f .updates)
-      (record { row = _; rows = refl; phase = refl; other = λ e. omega (arith, h, same-phase e); accepted = full-accepted; entries = full-entries })
-  made-writes Complete o us h (inner f) =
-      rw (f .updates)
-      (record { row = _; rows = refl; phase = refl; other = λ e. omega (arith, h, same-phase e); accepted = full-accepted; entries = full-entries })
-  made-writes Release o us h (waiting f) =
-      let (e, n) = advanced-row (f .common .advances) in
-      rw (f .updates) (record { row = _; rows = refl; phase = e; other = n; accepted = run-accepted; entries = run-entries })
-  made-writes Release o us h (placed f) =
-      let (e, n) = advanced-row (f .common .advances) in
-      rw (f .updates) (record { row = _; rows = refl; phase = e; other = n; accepted = run-accepted; entries = run-entries })
+  made-writes s o us h f =
+      let (phase, other) = row-other s o us h f in
+      let (accepted, entries) = words-made s o us f in
+      record { row = rowMade p k i m o us s f; rows = rows-made p k i m o us s f; phase = phase; other = other; accepted = accepted; entries = entries }
 
 module _ (limits : Limits) (p k i : ℕ) (s : Step) (m : Mem) where
   accepted-writes : AcceptedStep limits p k i s m → Writes i s m (step limits p k i s m .memory)
-  accepted-writes r = rw (r .left) (made-writes p k i m (r .allowed .fits .lengths .others .run) s (r .outcome) (r .updates) (r .allowed .phase) (r .allowed .made))
+  accepted-writes r = rw (r .left) (made-writes p k i m (r .allowed .fits .lengths .list list.run) s (r .outcome) (r .updates) (r .allowed .phase) (r .allowed .made))
 
   -- no step writes another worker's row
   pub rows-other : (j : ℕ) → ¬ (j ≡ i) → rowIn (step limits p k i s m .memory) j ≡ rowIn m j
@@ -104,7 +114,7 @@ module _ (limits : Limits) (p k i : ℕ) (s : Step) (m : Mem) where
     row-written : rowIn (step limits p k i s m .memory) i ≡ writes .row
     row-written =
         ap (λ (rows : List Row). getD rows i idle) (writes .rows)
-        ∙ getD-set-same (m .rows) i (writes .row) idle (omega (arith, accepted .allowed .worker, accepted .allowed .fits .lengths .others .rows))
+        ∙ getD-set-same (m .rows) i (writes .row) idle (omega (arith, accepted .allowed .worker, accepted .allowed .fits .lengths .list list.rows))
 
     -- "Each accepted step adds 1 to the accepted word"
     pub counts : acceptedIn (step limits p k i s m .memory) ≡ suc (acceptedIn m)

@@ -26,12 +26,14 @@ use Rattle.ring.specs.Ring.{Empty, Full, headOn, tailOn}
 use Rattle.choice.specs.Least.{load, least}
 use Rattle.choice.proofs.Least.{least-worker}
 use Rattle.choice.specs.Search.{Found, unsound, none, at}
+use Rattle.memory.specs.Family.{Places}
+use Rattle.memory.specs.Field as list
 use Rattle.rules.specs.Memory.{Mem, tasks, edges, ringNumber, headWord, counterIn, degreeIn, succCount, firstSucc, pastSucc, rowIn, held, pointerIn, entriesIn, acceptedIn, oldest, successor}
 use Rattle.rules.specs.Sizes.{Fits}
 use Rattle.rules.specs.Words.{phaseFits, rangeFits, placesFit, acceptedFits}
 use Rattle.rules.specs.Updates.{Update}
 use Rattle.rules.specs.Plans.{Plan, refuse, accept, require, suited, withCount, counted, carriedOut}
-use Rattle.rules.specs.Steps.{scan, fetchTask, fetchFrom, fetchRule, startRule, completeSink, completeInner, completeRule, releasedRow, findRoom, releaseTo, releaseReady, releaseWaiting, releaseRule, ruleOf, stepPlan, step}
+use Rattle.rules.specs.Steps.{scan, fetchTask, fetchFrom, fetchRule, startRule, completeSink, completeInner, completeRule, advanced, findRoom, releaseTo, releaseReady, releaseWaiting, releaseRule, ruleOf, stepPlan, step}
 use Rattle.rules.specs.Tables.{BadAccepted, BadCounter, scannedEnds, offeredEnds, HasSuccessors, Ready}
 use Rattle.rules.specs.Moves.{Fetches, Ranged, Completing, Completes, sink, inner, Advances, next, last, Releasing, Releases, waiting, placed, Made, Allowed, AcceptedStep}
 use Rattle.rules.proofs.Plans.{outcome-accepts}
@@ -66,11 +68,11 @@ record Counted (m : Mem) (M : StepOutcome → List Update → Type 0) (o : StepO
   made : M o others
 
 -- "The cursor advances; after the last successor it returns to 0 and the read place advances."
-row-advances : (count : ℕ) (r : Row) → r .cursor < count → Advances count r (releasedRow count r)
-unfolding releasedRow
-row-advances count r h = go (same-told (r .cursor + 1) count)
+places-advance : (count : ℕ) (r : Row) → r .cursor < count → Advances count r (advanced count r)
+unfolding advanced
+places-advance count r h = go (same-told (r .cursor + 1) count)
   where
-    go : Told (eqb (r .cursor + 1) count) (r .cursor + 1 ≡ count) (¬ (r .cursor + 1 ≡ count)) → Advances count r (releasedRow count r)
+    go : Told (eqb (r .cursor + 1) count) (r .cursor + 1 ≡ count) (¬ (r .cursor + 1 ≡ count)) → Advances count r (advanced count r)
     go (told-true e q) = rw e (last (omega arith))
     go (told-false e n) = rw e (next (omega arith))
 
@@ -139,15 +141,15 @@ module _ (m : Mem) where
         let n : ¬ (_≡_ {A = ℕ} (succCount m (held m i)) 0) = eqb-false _ _ s in
         if-inner c (omega (arith, n)))
 
-    abbrev row : Row
-    row = releasedRow (succCount m (oldest m i)) (rowIn m i)
+    abbrev to : Places
+    to = advanced (succCount m (oldest m i)) (rowIn m i)
 
     module _ (some : 0 < p) (e : length (m .counters) ≡ p * p) where
       -- "target j"
       abbrev j : ℕ
       j = least (allOf p) (load p (m .counters))
 
-      if-placed : (f : Found) → Releasing i m row → Ready m i → ¬ (BadCounter (p * p) (m .counters))
+      if-placed : (f : Found) → Releasing i m to → Ready m i → ¬ (BadCounter (p * p) (m .counters))
           → Looked p k (Full k) (offeredEnds p i m j) j f
           → IfAccepted (Counted m (Releases p k i m)) (releaseTo p k i m f)
       unfolding releaseTo tailOn after
@@ -156,7 +158,7 @@ module _ (m : Mem) where
       if-placed (at o) c r q (d, stop, g) =
           if-required _ _ _ (λ w.
           if-counted _ _ (placed (record {
-            row = row;
+            to = to;
             common = c;
             ready = r;
             counters = q;
@@ -173,7 +175,7 @@ module _ (m : Mem) where
             updates = refl;
           })))
 
-      if-released : Releasing i m row → IfAccepted (Counted m (Releases p k i m))
+      if-released : Releasing i m to → IfAccepted (Counted m (Releases p k i m))
           (cond (eqb (degreeIn m (successor m i)) 1) (releaseReady p k i m) (releaseWaiting i m))
       unfolding releaseReady releaseWaiting
       if-released c =
@@ -181,7 +183,7 @@ module _ (m : Mem) where
           (λ r. if-required _ _ _ (λ q.
           if-placed (findRoom p k i m (around p j)) c (eqb-true _ _ r) (told-yes (counters-told (m .counters) (p * p) e) q)
           (room-looked p k i j m)))
-          (λ n. if-counted _ _ (waiting (record { row = row; common = c; notReady = eqb-false _ _ n; outcome = refl; updates = refl })))
+          (λ n. if-counted _ _ (waiting (record { to = to; common = c; notReady = eqb-false _ _ n; outcome = refl; updates = refl })))
 
       -- a step's own rule
       if-ruled : (s : Step) → IfAccepted (Counted m (Made s p k i m)) (ruleOf s p k i m)
@@ -218,7 +220,7 @@ module _ (m : Mem) where
             below = ltb-true _ _ s;
             positive = leb-true _ _ d1;
             few = leb-true _ _ d2;
-            advances = row-advances (succCount m (oldest m i)) (rowIn m i) (ltb-true _ _ c);
+            advances = places-advance (succCount m (oldest m i)) (rowIn m i) (ltb-true _ _ c);
           }))))))))
 
 -- where a step is accepted, it is allowed, with the updates after that of the accepted word
@@ -238,7 +240,7 @@ if-stepped limits p k i s m =
   where
     go : Told (eqb (rowIn m i .phase) (suits s)) (rowIn m i .phase ≡ suits s) (¬ (rowIn m i .phase ≡ suits s)) → Fits limits p k m → i < p
         → IfAccepted (AllFound limits p k i s m) (suited (nextPhase (rowIn m i .phase) s) (rowIn m i .phase) (ruleOf s p k i m))
-    go (told-true q e) f w = rw q (record { holds = λ o us h. found o us (if-ruled m p k i (omega (arith, f .limits .oneWorker)) (f .lengths .others .counters) s .holds o us h) })
+    go (told-true q e) f w = rw q (record { holds = λ o us h. found o us (if-ruled m p k i (omega (arith, f .limits .oneWorker)) (f .lengths .list list.counters) s .holds o us h) })
       where
         found : (o : StepOutcome) (us : List Update) → Counted m (Made s p k i m) o us → AllFound limits p k i s m o us
         found o us c =

@@ -14,6 +14,7 @@ use Rattle.task.specs.Rows.{Refusal, row, only, Follows}
 use Rattle.task.specs.declared.Limits.{Limits}
 use Rattle.task.specs.declared.Step.{Step}
 use Rattle.graph.proofs.Refusals.{weights-told}
+use Rattle.memory.specs.Field as list
 use Rattle.rules.specs.Memory.{Mem}
 use Rattle.rules.specs.Sizes.{Lengths}
 use Rattle.rules.specs.Steps.{step}
@@ -28,13 +29,13 @@ same-numbers : (p k p′ k′ : ℕ) (m : Mem) → Lengths p k m → Lengths p�
 same-numbers p k p′ k′ m l l′ h = (e, eq-of-mul-eq-mul-left (p * p) (omega (arith, mul-le-mul one one)) k′ k q)
   where
     e : p′ ≡ p
-    e = sym (l′ .others .rows) ∙ l .others .rows
+    e = sym (l′ .list list.rows) ∙ l .list list.rows
 
     one : 1 ≤ p
     one = omega (arith, e)
 
     q : p * p * k′ ≡ p * p * k
-    q = sym (ap (λ (x : ℕ). x * x * k′) e) ∙ sym (l′ .others .rings) ∙ l .others .rings
+    q = sym (ap (λ (x : ℕ). x * x * k′) e) ∙ sym (l′ .list list.rings) ∙ l .list list.rings
 
 -- so other numbers within their limits don't fit the lists
 other-lengths : (limits : Limits) (p k p′ k′ : ℕ) (m : Mem) → Lengths p k m → ¬ ((p′ ≡ p) × (k′ ≡ k)) → ¬ (BeyondPK limits p′ k′) → ¬ (Lengths p′ k′ m)

@@ -12,8 +12,8 @@ use Rattle.task.specs.declared.Answer.the-variants.{Refused, Accepted}
 use Rattle.graph.specs.Check.{checkAnswer}
 use Rattle.graph.specs.Successors.{succStarts, succWords, degreeList, roots}
 use Rattle.ring.specs.Ring.{capacity}
+use Rattle.memory.specs.Updates.{written}
 use Rattle.rules.specs.Memory.{Mem, memOf, graphIn}
-use Rattle.rules.specs.Updates.{written}
 use Rattle.rules.specs.Sizes.{numbersFit, othersFit}
 use Rattle.rules.specs.Plans.{Result}
 use Rattle.rules.specs.Steps.{join}

@@ -9,51 +9,53 @@ use Rattle.task.specs.declared.Row.{Row}
 use Rattle.task.specs.declared.TaskId.{TaskId}
 use Rattle.graph.specs.Graph.{Graph, graphOf}
 use Rattle.ring.specs.Ring.{slotAt, endsAt, Rings, ringsOf}
+use Rattle.memory.specs.Family.{Family, Shape, Places}
+use Rattle.memory.specs.Memory as memory
 
--- one field for each lent list, in the paper's order
-pub record Mem : Type 0 where
-  -- "Weights N."
-  pub weights : List ℕ
-  -- "Predecessor starts N+1 and predecessors E"
-  pub predStarts : List ℕ
-  pub preds : List ℕ
-  -- "Successor starts N+1 and successors E"
-  pub succStarts : List ℕ
-  pub succs : List ℕ
-  -- "Degrees N."
-  pub degrees : List ℕ
-  -- "Rings P·P·K"
-  pub rings : List ℕ
-  -- "Heads and tails, P·P pairs."
-  pub ends : List ℕ
-  -- "Counters P·P, signed, same place rule."
-  pub counters : List ℤ
-  -- "Completed buffers P·N."
-  pub buffers : List ℕ
-  -- "Execution record 2N (task, worker)."
-  pub executed : List ℕ
-  -- "Two run words: entries recorded, steps accepted."
-  pub run : List ℕ
-  -- "The worker rows are one lent list with a record per worker"
-  pub rows : List Row
+-- a row with another phase and held task, another pointer, other buffer places and cursor
+abbrev pub withHand : ℕ → TaskId → Row → Row
+withHand phase held r =
+    record { phase = phase; held = held; pointer = r .pointer; read = r .read; write = r .write; cursor = r .cursor }
+
+abbrev pub withPointer : ℕ → Row → Row
+withPointer pointer r =
+    record { phase = r .phase; held = r .held; pointer = record { 0 = pointer }; read = r .read; write = r .write; cursor = r .cursor }
+
+abbrev pub withPlaces : ℕ → ℕ → ℕ → Row → Row
+withPlaces read write cursor r =
+    record { phase = r .phase; held = r .held; pointer = r .pointer; read = read; write = write; cursor = cursor }
+
+-- the row with these places
+abbrev pub movedTo : Places → Row → Row
+movedTo to r = withPlaces (to .read) (to .write) (to .cursor) r
+
+-- "Execution record 2N (task, worker). Two run words"; the record has an entry for each task
+abbrev pub plainShape : Shape
+plainShape = record { entryWords = 2; entries = λ n e. n; runWords = 2; steps = λ n e. 3 * n + e }
+
+-- a plain job: its items are its tasks, by their numbers
+abbrev pub plain : Family
+plain =
+    record {
+      Item = ℕ;
+      Row = Row;
+      hand = λ r. record { phase = r .phase; held = r .held .0 };
+      withHand = λ h r. withHand (h .phase) (record { 0 = h .held }) r;
+      pointer = λ r. r .pointer .0;
+      withPointer = λ x r. withPointer x r;
+      places = λ r. record { read = r .read; write = r .write; cursor = r .cursor };
+      withPlaces = λ x r. movedTo x r;
+      noItem = 0;
+      noRow = idle;
+      shape = plainShape;
+    }
+
+-- the lent lists of a plain job
+abbrev pub Mem : Type 0
+Mem = memory.Mem plain
 
 abbrev pub memOf : List ℕ → List ℕ → List ℕ → List ℕ → List ℕ → List ℕ → List ℕ → List ℕ → List ℤ → List ℕ → List ℕ → List ℕ → List Row → Mem
-memOf w ps p ss s d r e c b x n rows =
-    record {
-      weights = w;
-      predStarts = ps;
-      preds = p;
-      succStarts = ss;
-      succs = s;
-      degrees = d;
-      rings = r;
-      ends = e;
-      counters = c;
-      buffers = b;
-      executed = x;
-      run = n;
-      rows = rows;
-    }
+memOf w ps p ss s d r e c b x n rows = memory.memOf w ps p ss s d r e c b x n rows
 
 -- "N and E are the lengths of weights and predecessors"
 abbrev pub tasks : Mem → ℕ
@@ -67,10 +69,10 @@ graphIn m = graphOf (tasks m) (m .predStarts) (m .preds)
 
 -- how many steps a run has, and how many entries its record
 unfoldable pub allSteps : Mem → ℕ
-allSteps m = 3 * tasks m + edges m
+allSteps m = plainShape .steps (tasks m) (edges m)
 
 unfoldable pub allEntries : Mem → ℕ
-allEntries m = tasks m
+allEntries m = plainShape .entries (tasks m) (edges m)
 
 -- "the ring of owner i filled by worker j": its number among the P·P rings, and that of its counter
 abbrev pub ringNumber : ℕ → ℕ → ℕ → ℕ
@@ -111,19 +113,6 @@ bufferAt m i x = i * tasks m + x
 
 abbrev pub rowIn : Mem → ℕ → Row
 rowIn m i = getD (m .rows) i idle
-
--- a row with another phase and held task, another pointer, other buffer places and cursor
-abbrev pub withHand : ℕ → TaskId → Row → Row
-withHand phase held r =
-    record { phase = phase; held = held; pointer = r .pointer; read = r .read; write = r .write; cursor = r .cursor }
-
-abbrev pub withPointer : ℕ → Row → Row
-withPointer pointer r =
-    record { phase = r .phase; held = r .held; pointer = record { 0 = pointer }; read = r .read; write = r .write; cursor = r .cursor }
-
-abbrev pub withPlaces : ℕ → ℕ → ℕ → Row → Row
-withPlaces read write cursor r =
-    record { phase = r .phase; held = r .held; pointer = r .pointer; read = read; write = write; cursor = cursor }
 
 -- the held task of worker i, and its ring pointer
 abbrev pub held : Mem → ℕ → ℕ

@@ -17,9 +17,11 @@ use Rattle.task.specs.declared.StepOutcome.the-variants.{Moved, Fetched, Releas
 use Rattle.task.specs.declared.ReleaseOutcome.the-variants.{DegreeLeft, Placed}
 use Rattle.ring.specs.Ring.{slotAt, Empty, Full}
 use Rattle.choice.specs.Least.{load, Least}
-use Rattle.rules.specs.Memory.{Mem, tasks, edges, ringNumber, endsIn, headWord, counterIn, weightIn, degreeIn, firstSucc, pastSucc, succCount, bufferAt, rowIn, withHand, withPointer, withPlaces, held, pointerIn, entriesIn, acceptedIn, oldest, successor}
+use Rattle.memory.specs.Family.{Places}
+use Rattle.memory.specs.Updates.{written}
+use Rattle.rules.specs.Memory.{Mem, tasks, edges, ringNumber, endsIn, headWord, counterIn, weightIn, degreeIn, firstSucc, pastSucc, succCount, bufferAt, rowIn, held, pointerIn, entriesIn, acceptedIn, oldest, successor}
 use Rattle.rules.specs.Sizes.{Fits}
-use Rattle.rules.specs.Updates.{Update, putDegree, putSlot, putEnds, putCounter, putBuffer, putEntry, putEntries, putAccepted, putRow, written}
+use Rattle.rules.specs.Updates.{Update, putDegree, putSlot, putEnds, putCounter, putBuffer, putEntry, putEntries, putAccepted, putHand, putPointer, putPlaces}
 use Rattle.rules.specs.Steps.{step}
 use Rattle.rules.specs.Tables.{Beyond2^30, BadCounter, StopsAt, scanned, scannedEnds, offeredEnds, HasSuccessors, Ready}
 
@@ -45,13 +47,14 @@ pub record Fetches (p k i : ℕ) (m : Mem) (o : StepOutcome) (us : List Update) 
   pub updates : us
       ≡ putEnds ring (record { head = (endsIn m ring .head + 1) % k; tail = endsIn m ring .tail })
       ∷ putCounter (ringNumber p i i) (counterIn m (ringNumber p i i) -ℤ pos (weightIn m task))
-      ∷ putRow i (withPointer ((filler + 1) % p) (withHand 1 (record { 0 = task }) (rowIn m i)))
+      ∷ putHand i 1 task
+      ∷ putPointer i ((filler + 1) % p)
       ∷ []
 
 -- "Start: the phase alone."
 pub record Starts (i : ℕ) (m : Mem) (o : StepOutcome) (us : List Update) : Type 0 where
   pub outcome : o ≡ Moved
-  pub updates : us ≡ putRow i (withHand 2 (rowIn m i .held) (rowIn m i)) ∷ []
+  pub updates : us ≡ putHand i 2 (held m i) ∷ []
 
 -- a task whose successor range is as it should be
 pub record Ranged (m : Mem) (t : ℕ) : Type 0 where
@@ -70,7 +73,7 @@ pub record CompletesSink (i : ℕ) (m : Mem) (o : StepOutcome) (us : List Update
   pub none : _≡_ {A = ℕ} (succCount m (held m i)) 0
   pub outcome : o ≡ Moved
   pub updates : us
-      ≡ putRow i (withHand 0 nil (rowIn m i))
+      ≡ putHand i 0 (nil .0)
       ∷ putEntry (entriesIn m) (held m i) i
       ∷ putEntries (entriesIn m + 1)
       ∷ []
@@ -84,7 +87,8 @@ pub record CompletesInner (i : ℕ) (m : Mem) (o : StepOutcome) (us : List Updat
   pub outcome : o ≡ Moved
   pub updates : us
       ≡ putBuffer (bufferAt m i (rowIn m i .write)) (held m i)
-      ∷ putRow i (withHand 0 nil (withPlaces (rowIn m i .read) (rowIn m i .write + 1) (rowIn m i .cursor) (rowIn m i)))
+      ∷ putHand i 0 (nil .0)
+      ∷ putPlaces i (record { read = rowIn m i .read; write = rowIn m i .write + 1; cursor = rowIn m i .cursor })
       ∷ putEntry (entriesIn m) (held m i) i
       ∷ putEntries (entriesIn m + 1)
       ∷ []
@@ -95,12 +99,12 @@ pub data Completes (i : ℕ) (m : Mem) (o : StepOutcome) (us : List Update) : Ty
   inner : CompletesInner i m o us → Completes i m o us
 
 -- "The cursor advances; after the last successor it returns to 0 and the read place advances."
-pub data Advances (count : ℕ) (r : Row) : Row → Type 0 where
-  next : suc (r .cursor) < count → Advances count r (withHand 0 (r .held) (withPlaces (r .read) (r .write) (r .cursor + 1) r))
-  last : suc (r .cursor) ≡ count → Advances count r (withHand 0 (r .held) (withPlaces (r .read + 1) (r .write) 0 r))
+pub data Advances (count : ℕ) (r : Row) : Places → Type 0 where
+  next : suc (r .cursor) < count → Advances count r (record { read = r .read; write = r .write; cursor = r .cursor + 1 })
+  last : suc (r .cursor) ≡ count → Advances count r (record { read = r .read + 1; write = r .write; cursor = 0 })
 
--- what every Release finds: "the oldest task in i's buffer, its successor s at the cursor"; and what becomes of the row
-pub record Releasing (i : ℕ) (m : Mem) (row : Row) : Type 0 where
+-- what every Release finds: "the oldest task in i's buffer, its successor s at the cursor"; and what becomes of its places
+pub record Releasing (i : ℕ) (m : Mem) (to : Places) : Type 0 where
   pub notEmpty : rowIn m i .read < rowIn m i .write
   pub places : rowIn m i .write ≤ tasks m
   pub task : Ranged m (oldest m i)
@@ -108,22 +112,22 @@ pub record Releasing (i : ℕ) (m : Mem) (row : Row) : Type 0 where
   pub below : successor m i < tasks m
   pub positive : 1 ≤ degreeIn m (successor m i)
   pub few : degreeIn m (successor m i) ≤ tasks m
-  pub advances : Advances (succCount m (oldest m i)) (rowIn m i) row
+  pub advances : Advances (succCount m (oldest m i)) (rowIn m i) to
 
 -- "The degree of s falls by one", not to zero
 pub record ReleasesWaiting (i : ℕ) (m : Mem) (o : StepOutcome) (us : List Update) : Type 0 where
-  pub row : Row
-  pub common : Releasing i m row
+  pub to : Places
+  pub common : Releasing i m to
   pub notReady : ¬ (Ready m i)
   -- "a Release answers either the degree left .."
   pub outcome : o ≡ Released (DegreeLeft (degreeIn m (successor m i) - 1))
-  pub updates : us ≡ putDegree (successor m i) (degreeIn m (successor m i) - 1) ∷ putRow i row ∷ []
+  pub updates : us ≡ putDegree (successor m i) (degreeIn m (successor m i) - 1) ∷ putPlaces i to ∷ []
 
 -- "At zero, target j is the worker with the least sum of its P counters, ..; s is appended to the first ring filled by i that isn't
 -- full, owners taken j, j+1, … modulo P."
 pub record ReleasesPlaced (p k i : ℕ) (m : Mem) (o : StepOutcome) (us : List Update) : Type 0 where
-  pub row : Row
-  pub common : Releasing i m row
+  pub to : Places
+  pub common : Releasing i m to
   pub ready : Ready m i
   pub counters : ¬ (BadCounter (p * p) (m .counters))
   pub target : ℕ
@@ -140,7 +144,7 @@ pub record ReleasesPlaced (p k i : ℕ) (m : Mem) (o : StepOutcome) (us : List U
   -- "The weight joins the counter of the ring really used."
   pub updates : us
       ≡ putDegree (successor m i) 0
-      ∷ putRow i row
+      ∷ putPlaces i to
       ∷ putSlot (slotAt k ring (endsIn m ring .tail)) (successor m i)
       ∷ putEnds ring (record { head = endsIn m ring .head; tail = (endsIn m ring .tail + 1) % k })
       ∷ putCounter ring (counterIn m ring +ℤ pos (weightIn m (successor m i)))

@@ -10,7 +10,8 @@ use Rattle.task.specs.declared.StepAnswer.{StepAnswer}
 use Rattle.task.specs.declared.StepAnswer.the-variants as answer
 use Rattle.rules.specs.Memory.{Mem, acceptedIn}
 use Rattle.rules.specs.Words.{acceptedFits}
-use Rattle.rules.specs.Updates.{Update, putAccepted, written}
+use Rattle.memory.specs.Updates.{written}
+use Rattle.rules.specs.Updates.{Update, putAccepted}
 
 pub data Plan : Type 0 where
   refuse : (number detail : ℕ) → Plan

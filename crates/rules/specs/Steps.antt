@@ -21,32 +21,29 @@ use Rattle.graph.specs.Check.{sizesFit}
 use Rattle.ring.specs.Ring.{slotAt, empty, full, headOn, tailOn}
 use Rattle.choice.specs.Least.{load, least}
 use Rattle.choice.specs.Search.{Found, unsound, none, at, search}
-use Rattle.rules.specs.Memory.{Mem, tasks, edges, allEntries, ringNumber, endsIn, headWord, counterIn, weightIn, degreeIn, succCount, bufferAt, rowIn, withHand, withPointer, withPlaces, held, pointerIn, entriesIn, oldest, successor}
+use Rattle.memory.specs.Family.{Places}
+use Rattle.rules.specs.Memory.{Mem, tasks, edges, allEntries, ringNumber, endsIn, headWord, counterIn, weightIn, degreeIn, succCount, bufferAt, rowIn, held, pointerIn, entriesIn, oldest, successor}
 use Rattle.rules.specs.Sizes.{numbersFit, lengthsFit}
 use Rattle.rules.specs.Words.{endsFit, taskFits, phaseFits, pointerFits, counterFits, countersFit, degreeFits, placesFit, joinFits, cursorFits, rangeFits, weightFits, entriesFit}
-use Rattle.rules.specs.Updates.{Update, putDegree, putSlot, putEnds, putCounter, putBuffer, putEntry, putEntries, putRow}
+use Rattle.rules.specs.Updates.{Update, putDegree, putSlot, putEnds, putCounter, putBuffer, putEntry, putEntries, putHand, putPointer, putPlaces}
 use Rattle.rules.specs.Plans.{Plan, refuse, require, refuseIf, checked, suited, counted, Result, carriedOut}
 
 -- "Fetch by i: scan the rings of owner i from the ring pointer upward, modulo P; the scan stops at the first ring that isn't empty."
 unfoldable pub scan : ℕ → ℕ → ℕ → Mem → Found
 scan p k i m = search (λ j. endsFit k m (ringNumber p i j)) (λ j. not (empty (endsIn m (ringNumber p i j)))) (around p (pointerIn m i))
 
--- the row after a Fetch: the head "becomes the held task"; "The pointer becomes the ring after, modulo P."
-abbrev pub fetchedRow : ℕ → ℕ → ℕ → Row → Row
-fetchedRow p j t r = withPointer (after p j) (withHand (leadsTo Fetch) (record { 0 = t }) r)
-
 -- "The weight leaves counter (i, i), which may go below zero."
 abbrev pub leave : ℕ → ℕ → ℕ → Mem → Update
 leave p i t m = putCounter (ringNumber p i i) (counterIn m (ringNumber p i i) -ℤ pos (weightIn m t))
 
--- "Take its head, which becomes the held task; the slot's word stays."
+-- "Take its head, which becomes the held task; the slot's word stays. .. The pointer becomes the ring after, modulo P."
 unfoldable pub fetchTask : ℕ → ℕ → ℕ → Mem → ℕ → ℕ → Plan
 fetchTask p k i m j t =
     checked (taskFits m t)
     (checked (weightFits m t)
     (checked (counterFits (counterIn m (ringNumber p i i)))
     (counted m (Fetched (record { 0 = t }))
-    (putEnds (ringNumber p i j) (headOn k (endsIn m (ringNumber p i j))) ∷ leave p i t m ∷ putRow i (fetchedRow p j t (rowIn m i)) ∷ []))))
+    (putEnds (ringNumber p i j) (headOn k (endsIn m (ringNumber p i j))) ∷ leave p i t m ∷ putHand i (leadsTo Fetch) t ∷ putPointer i (after p j) ∷ []))))
 
 -- 10: "Fetch: all P rings empty"
 unfoldable pub fetchFrom : ℕ → ℕ → ℕ → Mem → Found → Plan
@@ -59,11 +56,11 @@ fetchRule p k i m = checked (pointerFits p (pointerIn m i)) (fetchFrom p k i m (
 
 -- "Start: the phase alone."
 unfoldable pub startRule : ℕ → Mem → Plan
-startRule i m = counted m Moved (putRow i (withHand (leadsTo Start) (rowIn m i .held) (rowIn m i)) ∷ [])
+startRule i m = counted m Moved (putHand i (leadsTo Start) (held m i) ∷ [])
 
--- "held becomes NIL", and the write place is as given
-abbrev pub completedRow : ℕ → Row → Row
-completedRow write r = withHand (leadsTo Complete) nil (withPlaces (r .read) write (r .cursor) r)
+-- "held becomes NIL"
+abbrev pub letGo : ℕ → Update
+letGo i = putHand i (leadsTo Complete) (nil .0)
 
 -- "(task, i) joins the record"
 abbrev pub recordEntry : ℕ → Mem → List Update
@@ -71,7 +68,7 @@ recordEntry i m = putEntry (entriesIn m) (held m i) i ∷ putEntries (entriesIn 
 
 -- the held task is a sink: it has no successors
 unfoldable pub completeSink : ℕ → Mem → Plan
-completeSink i m = counted m Moved (putRow i (completedRow (rowIn m i .write) (rowIn m i)) ∷ recordEntry i m)
+completeSink i m = counted m Moved (letGo i ∷ recordEntry i m)
 
 -- "the task joins i's completed buffer if it has successors", at the write place
 unfoldable pub completeInner : ℕ → Mem → Plan
@@ -79,7 +76,10 @@ completeInner i m =
     checked (placesFit m (rowIn m i .read) (rowIn m i .write))
     (checked (joinFits m (rowIn m i .write))
     (counted m Moved
-    (putBuffer (bufferAt m i (rowIn m i .write)) (held m i) ∷ putRow i (completedRow (rowIn m i .write + 1) (rowIn m i)) ∷ recordEntry i m)))
+    (putBuffer (bufferAt m i (rowIn m i .write)) (held m i)
+    ∷ letGo i
+    ∷ putPlaces i (record { read = rowIn m i .read; write = rowIn m i .write + 1; cursor = rowIn m i .cursor })
+    ∷ recordEntry i m)))
 
 -- 12: "Complete with N entries recorded"; "Complete meets 12 before its other words"
 unfoldable pub completeRule : ℕ → Mem → Plan
@@ -91,13 +91,13 @@ completeRule i m =
     (cond (eqb (succCount m (held m i)) 0) (completeSink i m) (completeInner i m)))))
 
 -- "The cursor advances; after the last successor it returns to 0 and the read place advances."
-unfoldable pub releasedRow : ℕ → Row → Row
-releasedRow count r =
-    withHand (leadsTo Release) (r .held)
-    (cond (eqb (r .cursor + 1) count) (withPlaces (r .read + 1) (r .write) 0 r) (withPlaces (r .read) (r .write) (r .cursor + 1) r))
+unfoldable pub advanced : ℕ → Row → Places
+advanced count r =
+    cond (eqb (r .cursor + 1) count) (record { read = r .read + 1; write = r .write; cursor = 0 })
+    (record { read = r .read; write = r .write; cursor = r .cursor + 1 })
 
 abbrev pub advance : ℕ → Mem → Update
-advance i m = putRow i (releasedRow (succCount m (oldest m i)) (rowIn m i))
+advance i m = putPlaces i (advanced (succCount m (oldest m i)) (rowIn m i))
 
 -- a task joins the ring of owner o filled by worker i, and "The weight joins the counter of the ring really used."
 abbrev pub join : ℕ → ℕ → ℕ → ℕ → ℕ → Mem → List Update

@@ -1,53 +1,53 @@
--- What an accepted step writes: a short list of updates, each of one word, pair or row of one lent list.
-use Prim.Native.Nat.{ℕ, _+_, _*_}
-use mathlib.Core.List.{List, [], _∷_}
-use lib.ListN.{set}
+-- What an accepted step of a plain job writes, each update of one place of one lent list, by its name.
+use Prim.Native.Nat.{ℕ}
+use mathlib.Core.List.{[], _∷_}
 use lib.IntN.{ℤ}
 use Rattle.task.specs.declared.Ends.{Ends}
-use Rattle.task.specs.declared.Row.{Row}
-use Rattle.ring.specs.Ring.{storeEnds}
-use Rattle.rules.specs.Memory.{Mem, memOf}
+use Rattle.memory.specs.Family.{Places}
+use Rattle.memory.specs.Field as list
+use Rattle.memory.specs.Updates as updates
+use Rattle.rules.specs.Memory.{plain}
 
-pub data Update : Type 0 where
-  -- the degree of a task
-  putDegree : (task degree : ℕ) → Update
-  -- a slot of the rings
-  putSlot : (place task : ℕ) → Update
-  -- head and tail of a ring, by its number
-  putEnds : (number : ℕ) → Ends → Update
-  -- the counter of a ring, by its number
-  putCounter : (number : ℕ) → ℤ → Update
-  -- a place of the completed buffers
-  putBuffer : (place task : ℕ) → Update
-  -- an entry of the record: "(task, worker)"
-  putEntry : (number task worker : ℕ) → Update
-  -- the run words
-  putEntries : (entries : ℕ) → Update
-  putAccepted : (accepted : ℕ) → Update
-  -- a worker's row
-  putRow : (worker : ℕ) → Row → Update
+abbrev pub Update : Type 0
+Update = updates.Update plain
 
-unfoldable pub updated : Update → Mem → Mem
-updated (putDegree t d) m =
-    memOf (m .weights) (m .predStarts) (m .preds) (m .succStarts) (m .succs) (set (m .degrees) t d) (m .rings) (m .ends) (m .counters) (m .buffers) (m .executed) (m .run) (m .rows)
-updated (putSlot x t) m =
-    memOf (m .weights) (m .predStarts) (m .preds) (m .succStarts) (m .succs) (m .degrees) (set (m .rings) x t) (m .ends) (m .counters) (m .buffers) (m .executed) (m .run) (m .rows)
-updated (putEnds q e) m =
-    memOf (m .weights) (m .predStarts) (m .preds) (m .succStarts) (m .succs) (m .degrees) (m .rings) (storeEnds (m .ends) q e) (m .counters) (m .buffers) (m .executed) (m .run) (m .rows)
-updated (putCounter q c) m =
-    memOf (m .weights) (m .predStarts) (m .preds) (m .succStarts) (m .succs) (m .degrees) (m .rings) (m .ends) (set (m .counters) q c) (m .buffers) (m .executed) (m .run) (m .rows)
-updated (putBuffer x t) m =
-    memOf (m .weights) (m .predStarts) (m .preds) (m .succStarts) (m .succs) (m .degrees) (m .rings) (m .ends) (m .counters) (set (m .buffers) x t) (m .executed) (m .run) (m .rows)
-updated (putEntry n t w) m =
-    memOf (m .weights) (m .predStarts) (m .preds) (m .succStarts) (m .succs) (m .degrees) (m .rings) (m .ends) (m .counters) (m .buffers) (set (set (m .executed) (2 * n) t) (2 * n + 1) w) (m .run) (m .rows)
-updated (putEntries n) m =
-    memOf (m .weights) (m .predStarts) (m .preds) (m .succStarts) (m .succs) (m .degrees) (m .rings) (m .ends) (m .counters) (m .buffers) (m .executed) (set (m .run) 0 n) (m .rows)
-updated (putAccepted n) m =
-    memOf (m .weights) (m .predStarts) (m .preds) (m .succStarts) (m .succs) (m .degrees) (m .rings) (m .ends) (m .counters) (m .buffers) (m .executed) (set (m .run) 1 n) (m .rows)
-updated (putRow i r) m =
-    memOf (m .weights) (m .predStarts) (m .preds) (m .succStarts) (m .succs) (m .degrees) (m .rings) (m .ends) (m .counters) (m .buffers) (m .executed) (m .run) (set (m .rows) i r)
+-- the degree of a task
+abbrev pub putDegree : (task degree : ℕ) → Update
+putDegree t d = updates.store list.degrees t d
 
--- one update after the other
-unfoldable pub written : List Update → Mem → Mem
-written [] m = m
-written (u ∷ us) m = written us (updated u m)
+-- a slot of the rings
+abbrev pub putSlot : (place task : ℕ) → Update
+putSlot x t = updates.store list.rings x t
+
+-- head and tail of a ring, by its number
+abbrev pub putEnds : (number : ℕ) → Ends → Update
+putEnds q e = updates.store list.ends q e
+
+-- the counter of a ring, by its number
+abbrev pub putCounter : (number : ℕ) → ℤ → Update
+putCounter q c = updates.store list.counters q c
+
+-- a place of the completed buffers
+abbrev pub putBuffer : (place task : ℕ) → Update
+putBuffer x t = updates.store list.buffers x t
+
+-- an entry of the record: "(task, worker)"
+abbrev pub putEntry : (number task worker : ℕ) → Update
+putEntry n t w = updates.store list.executed n (t ∷ w ∷ [])
+
+-- the run words
+abbrev pub putEntries : (entries : ℕ) → Update
+putEntries n = updates.store list.run 0 n
+
+abbrev pub putAccepted : (accepted : ℕ) → Update
+putAccepted n = updates.store list.run 1 n
+
+-- a worker's row, part by part: phase and held task, pointer, places of the buffer
+abbrev pub putHand : (worker phase held : ℕ) → Update
+putHand i phase held = updates.store list.rows i (updates.hand (record { phase = phase; held = held }))
+
+abbrev pub putPointer : (worker pointer : ℕ) → Update
+putPointer i x = updates.store list.rows i (updates.pointer x)
+
+abbrev pub putPlaces : (worker : ℕ) → Places → Update
+putPlaces i x = updates.store list.rows i (updates.places x)

@@ -11,6 +11,7 @@ use Rattle.lists.specs.Lists.{tabulate}
 use Rattle.lists.proofs.Blocks.{length-tabulate, tabulate-same}
 use Rattle.task.specs.Types.{nil}
 use Rattle.task.specs.Entries.{Entry, entryOf}
+use Rattle.memory.specs.Field as list
 use Rattle.rules.specs.Memory.{Mem, tasks, entriesIn, acceptedIn}
 use Rattle.rules.specs.Sizes.{Fits}
 use Rattle.algorithm1.specs.Reading.{entryIn, recordIn}
@@ -96,7 +97,7 @@ module _ (r : Run) where
       ∙ ap (λ (l : List ℕ). l ++ others) (sym (ap wordsOf recorded ∙ words-pairs (entriesIn now) (now .executed) inside))
     where
       inside : 2 * entriesIn now ≤ length (now .executed)
-      inside = omega (arith, words .entries, fits .lengths .others .executed)
+      inside = omega (arith, words .entries, fits .lengths .list list.executed)
 
   -- the run words, as the rules read them
   pub accepted-word : acceptedIn (memoryOf r) ≡ acceptedSteps (eventsOf r)
@@ -108,10 +109,10 @@ module _ (r : Run) where
   pub run-words : RunWords r
   run-words =
       record {
-        run = two-words (now .run) (fits .lengths .others .run) ∙ rw (entries-word, accepted-word);
+        run = two-words (now .run) (fits .lengths .list list.run) ∙ rw (entries-word, accepted-word);
         rest = others;
         record-begins = record-first ∙ ap (λ (es : List (Entry ℕ)). wordsOf es ++ others) (recounts .executed);
-        record-size = fits .lengths .others .executed ∙ ap (λ (n : ℕ). 2 * n) (tasks-reached r);
+        record-size = fits .lengths .list list.executed ∙ ap (λ (n : ℕ). 2 * n) (tasks-reached r);
         weights = weights-reached r;
         predStarts = starts-reached r;
         preds = preds-reached r;

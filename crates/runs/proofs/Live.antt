@@ -23,6 +23,7 @@ use Rattle.task.specs.declared.StepOutcome.the-variants.{Moved, Fetched}
 use Rattle.ring.specs.Ring.{Empty, ringsOf, takenAt, queue}
 use Rattle.ring.proofs.Queues.{queue-empty, queue-take}
 use Rattle.choice.specs.Search.{Found, unsound, none, at}
+use Rattle.memory.specs.Field as list
 use Rattle.rules.specs.Memory.{Mem, tasks, edges, ringNumber, endsIn, ringsIn, headWord, counterIn, succCount, rowIn, held, pointerIn, entriesIn, acceptedIn}
 use Rattle.rules.specs.Updates.{Update}
 use Rattle.rules.specs.Steps.{scan, step}
@@ -74,7 +75,7 @@ module _ {limits : Limits} {p k : ℕ} {m : Mem} (h : Honest limits p k m) (i : 
 
   -- a task's successors, as the rules read them
   pub task-ranged : (t : ℕ) → t < tasks m → Ranged m t
-  task-ranged t l = good-ranged m (h .fits .lengths .others .succs) t l (h .good t l)
+  task-ranged t l = good-ranged m (h .fits .lengths .list list.succs) t l (h .good t l)
 
   list-empty : (j : ℕ) → j < p → Empty (endsIn m (ringNumber p i j)) → queueOf state i j ≡ []
   list-empty j l e = queue-at p k m i j worker l ∙ queue-empty 0 k (ringsIn m) (ringNumber p i j) (ends-sound h i worker j l) .0 e
@@ -87,7 +88,7 @@ module _ {limits : Limits} {p k : ℕ} {m : Mem} (h : Honest limits p k m) (i : 
       here : 0 < occ (headWord k m (ringNumber p i j)) (queue 0 k (ringsIn m) (ringNumber p i j))
       here =
           rw (queue-take 0 k (ringsIn m) (ringNumber p i j) (ends-sound h i worker j l) n
-          (rw (h .fits .lengths .others .ends) (place-end 2 (p * p) (ringNumber p i j) (place-lt p p i j worker l))))
+          (rw (h .fits .lengths .list list.ends) (place-end 2 (p * p) (ringNumber p i j) (place-lt p p i j worker l))))
           (omega (
             arith,
             occ-hit ℕ-discrete (headWord k m (ringNumber p i j)) (headWord k m (ringNumber p i j))

@@ -26,6 +26,8 @@ use Rattle.ring.proofs.Ends.{capacity-suc}
 use Rattle.ring.proofs.Queues.{queue-full}
 use Rattle.choice.specs.Least.{load, least}
 use Rattle.choice.proofs.Least.{least-worker}
+use Rattle.memory.specs.Family.{Places}
+use Rattle.memory.specs.Field as list
 use Rattle.rules.specs.Memory.{Mem, tasks, edges, ringNumber, endsIn, ringsIn, counterIn, degreeIn, rowIn, succCount, acceptedIn, oldest, successor}
 use Rattle.rules.specs.Updates.{Update}
 use Rattle.rules.specs.Steps.{step}
@@ -98,11 +100,11 @@ successors-task p k m t h =
       ap length (List·getD-eq-default (tabulate (tasks m) (successorsIn m)) [] {n = t} (omega (arith, n, length-tabulate (tasks m) (successorsIn m)))),
     ))
 
--- the row after a Release
-advanced : (count : ℕ) (r : Row) → r .cursor < count → (row : Row) × Advances count r row
+-- the places after a Release
+advanced : (count : ℕ) (r : Row) → r .cursor < count → (to : Places) × Advances count r to
 advanced count r h = go (ℕ-discrete (suc (r .cursor)) count)
   where
-    go : Dec (suc (r .cursor) ≡ count) → (row : Row) × Advances count r row
+    go : Dec (suc (r .cursor) ≡ count) → (to : Places) × Advances count r to
     go (yes e) = (_, last e)
     go (no n) = (_, next (omega (arith, h, n)))
 
@@ -147,11 +149,11 @@ module _ {limits : Limits} {p k : ℕ} {m : Mem} (h : Honest limits p k m) (i : 
 
   -- the first that is due is the successor that the rules release, and their words are in their ranges
   pub releasing : (x : ℕ) (rest : List ℕ) → pendingOf (stateOf p k m) (threadOf (stateOf p k m) i) ≡ x ∷ rest
-      → x < tasks m → 1 ≤ degreeIn m x → degreeIn m x ≤ tasks m → (row : Row) × Releasing i m row
+      → x < tasks m → 1 ≤ degreeIn m x → degreeIn m x ≤ tasks m → (to : Places) × Releasing i m to
   unfolding threadIn
   releasing x rest pending below positive few =
-      let (row, advances) = advanced (succCount m (oldest m i)) (rowIn m i) cursor in (
-        row,
+      let (to, advances) = advanced (succCount m (oldest m i)) (rowIn m i) cursor in (
+        to,
         record {
           notEmpty = buffer-some (due .task) (due .others) (due .buffer);
           places = few-places;
@@ -181,7 +183,7 @@ module _ {limits : Limits} {p k : ℕ} {m : Mem} (h : Honest limits p k m) (i : 
 
       cursor : rowIn m i .cursor < succCount m (oldest m i)
       cursor =
-          omega (arith, due .inside, ap length successors-are, length-successors m (oldest m i) (h .fits .lengths .others .succs) ranged)
+          omega (arith, due .inside, ap length successors-are, length-successors m (oldest m i) (h .fits .lengths .list list.succs) ranged)
 
       x-is : x ≡ successor m i
       x-is = due .there ∙ ap (λ (l : List ℕ). getD l (rowIn m i .cursor) 0) successors-are ∙ successor-at m (oldest m i) (rowIn m i .cursor) cursor
@@ -221,20 +223,20 @@ module _ {limits : Limits} {p k : ℕ} {m : Mem} (h : Honest limits p k m) (i : 
         → x < tasks m → 1 ≤ degreeIn m x → degreeIn m x ≤ tasks m → ((o : ℕ) → o < p → waitingFor p (stateOf p k m) o ≡ [])
         → Acceptance (stepSays (step limits p k i Release m .answer))
     release-live x rest hand pending below positive few none =
-        let (row, common) = releasing x rest pending below positive few in
-        go row common (ℕ-discrete (degreeIn m (successor m i)) 1)
+        let (to, common) = releasing x rest pending below positive few in
+        go to common (ℕ-discrete (degreeIn m (successor m i)) 1)
       where
         accepts : (o : StepOutcome) (us : List Update) → Releases p k i m o us → Acceptance (stepSays (step limits p k i Release m .answer))
         accepts o us r =
             allowed-accepted limits p k i Release m o us
             (record { fits = h .fits; worker = worker; phase = row-phase h i worker idle hand; low = low; made = r })
 
-        go : (row : Row) → Releasing i m row → Dec (degreeIn m (successor m i) ≡ 1) → Acceptance (stepSays (step limits p k i Release m .answer))
-        go row common (yes e) =
+        go : (to : Places) → Releasing i m to → Dec (degreeIn m (successor m i) ≡ 1) → Acceptance (stepSays (step limits p k i Release m .answer))
+        go to common (yes e) =
             let j = least (allOf p) (load p (m .counters)) in
             accepts _ _
             (placed (record {
-              row = row;
+              to = to;
               common = common;
               ready = e;
               counters = counters-within p m (honest-within h);
@@ -250,4 +252,4 @@ module _ {limits : Limits} {p k : ℕ} {m : Mem} (h : Honest limits p k m) (i : 
               outcome = refl;
               updates = refl;
             }))
-        go row common (no n) = accepts _ _ (waiting (record { row = row; common = common; notReady = n; outcome = refl; updates = refl }))
+        go to common (no n) = accepts _ _ (waiting (record { to = to; common = common; notReady = n; outcome = refl; updates = refl }))

@@ -25,14 +25,17 @@ use Rattle.task.specs.declared.Step.{Step}
 use Rattle.task.specs.declared.Step.the-variants.{Fetch, Start, Complete, Release}
 use Rattle.task.specs.declared.StepOutcome.{StepOutcome}
 use Rattle.ring.specs.Ring.{capacity}
+use Rattle.memory.specs.Field as list
+use Rattle.memory.specs.Updates.{written}
 use Rattle.rules.specs.Memory.{Mem, tasks, rowIn, held, entriesIn, acceptedIn}
-use Rattle.rules.specs.Updates.{Update, updated, written}
+use Rattle.rules.specs.Updates.{Update}
 use Rattle.rules.specs.Plans.{withCount}
 use Rattle.rules.specs.Steps.{step}
 use Rattle.rules.specs.Begin.{begin}
 use Rattle.rules.specs.Begun.{LaidDown}
-use Rattle.rules.specs.Moves.{Fetches, Starts, AcceptedStep, entriesNext}
+use Rattle.rules.specs.Moves.{Fetches, Made, AcceptedStep, entriesNext}
 use Rattle.rules.proofs.Moves.{step-accepts}
+use Rattle.rules.proofs.RowsMade.{rowMade, rows-made}
 use Rattle.rules.proofs.Begun.{laid-row, laid-run, laid-down}
 use Rattle.rules.proofs.Moved.{rows-other, counts, entries-after, phase-after}
 use Rattle.algorithm1.specs.State.{State}
@@ -127,15 +130,12 @@ entry-worker true p t i h zero l = h
 entry-worker true p t i h (suc x) l = absurd (omega (arith, l))
 entry-worker false p t i h x l = absurd (omega (arith, l))
 
--- the task that a worker has in hand after Fetch and after Start
+-- the task that a worker has in hand after a step
 module _ (p k i : ℕ) (m : Mem) (worker : i < p) (rows : length (m .rows) ≡ p) (o : StepOutcome) (us : List Update) where
-  fetched-hand : (f : Fetches p k i m o us) → held (written (withCount m us) m) i ≡ f .task
-  unfolding written updated
-  fetched-hand f = rw (f .updates) (ap (λ (r : Row). r .held .0) (getD-set-same (m .rows) i _ idle (omega (arith, worker, rows))))
-
-  started-hand : Starts i m o us → held (written (withCount m us) m) i ≡ held m i
-  unfolding written updated
-  started-hand f = rw (f .updates) (ap (λ (r : Row). r .held .0) (getD-set-same (m .rows) i _ idle (omega (arith, worker, rows))))
+  held-made : (s : Step) (f : Made s p k i m o us) → held (written (withCount m us) m) i ≡ rowMade p k i m o us s f .held .0
+  held-made s f =
+      ap (λ (l : List Row). getD l i idle .held .0) (rows-made p k i m o us s f)
+      ∙ ap (λ (r : Row). r .held .0) (getD-set-same (m .rows) i (rowMade p k i m o us s f) idle (omega (arith, worker, rows)))
 
 -- After an accepted step.
 module _ (limits : Limits) (p k i : ℕ) (m : Mem) where
@@ -171,9 +171,9 @@ module _ (limits : Limits) (p k i : ℕ) (m : Mem) where
     own-hand Fetch r n =
         let f : Fetches p k i m (r .outcome) (r .updates) = r .allowed .made in
         rw (r .answered, f .outcome, eq-eqb i i refl, r .left)
-        (fetched-hand p k i m (r .allowed .worker) (r .allowed .fits .lengths .others .rows) (r .outcome) (r .updates) f)
+        (held-made p k i m (r .allowed .worker) (r .allowed .fits .lengths .list list.rows) (r .outcome) (r .updates) Fetch f)
     own-hand Start r n =
-        rw (r .left) (started-hand p k i m (r .allowed .worker) (r .allowed .fits .lengths .others .rows) (r .outcome) (r .updates) (r .allowed .made))
+        rw (r .left) (held-made p k i m (r .allowed .worker) (r .allowed .fits .lengths .list list.rows) (r .outcome) (r .updates) Start (r .allowed .made))
         ∙ h .hand i (λ z. omega (arith, r .allowed .phase, z))
     own-hand Complete r n = absurd (n (phase-after limits p k i Complete m (step-accepts limits p k i Complete m r)))
     own-hand Release r n = absurd (n (phase-after limits p k i Release m (step-accepts limits p k i Release m r)))

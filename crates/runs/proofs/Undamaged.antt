@@ -12,7 +12,7 @@ use Rattle.task.specs.Phases.{suits}
 use Rattle.task.specs.Refusals.{Said, refused, damaged, recordFull, numberOf, stepSays}
 use Rattle.task.specs.Rows.{Refusal, Passed, Given, Follows}
 use Rattle.task.specs.declared.Limits.{Limits}
-use Rattle.task.specs.declared.Row.{Row}
+use Rattle.memory.specs.Family.{Places}
 use Rattle.task.specs.declared.Step.{Step}
 use Rattle.task.specs.declared.Step.the-variants.{Fetch, Start, Complete, Release}
 use Rattle.graph.proofs.Refusals.{judge-follows}
@@ -82,7 +82,7 @@ ranged-good : {m : Mem} {t : ℕ} → Ranged m t → ¬ (BadRange m t)
 ranged-good g (inl l) = omega (arith, l, g .rises)
 ranged-good g (inr l) = omega (arith, l, g .inside)
 
-released-good : {i : ℕ} {m : Mem} {row : Row} → Releasing i m row → ¬ ((degreeIn m (successor m i) < 1) ⊎ (tasks m < degreeIn m (successor m i)))
+released-good : {i : ℕ} {m : Mem} {to : Places} → Releasing i m to → ¬ ((degreeIn m (successor m i) < 1) ⊎ (tasks m < degreeIn m (successor m i)))
 released-good f (inl l) = omega (arith, l, f .positive)
 released-good f (inr l) = omega (arith, l, f .few)
 
@@ -140,10 +140,10 @@ module _ (r : Run) where
           (failing-row (λ d c. omega (arith, c .1, low r free)) harmless-end))))))
 
     -- a Release of a worker whose buffer isn't empty finds its words in their ranges
-    finds : ¬ (rowIn now i .read ≡ rowIn now i .write) → (row : Row) × Releasing i now row
+    finds : ¬ (rowIn now i .read ≡ rowIn now i .write) → (to : Places) × Releasing i now to
     finds some = go (pendingOf (stateOf p k now) (threadOf (stateOf p k now) i)) refl
       where
-        go : (l : List ℕ) → pendingOf (stateOf p k now) (threadOf (stateOf p k now) i) ≡ l → (row : Row) × Releasing i now row
+        go : (l : List ℕ) → pendingOf (stateOf p k now) (threadOf (stateOf p k now) i) ≡ l → (to : Places) × Releasing i now to
         go [] e = absurd (some (pending-none h i worker e))
         go (x ∷ rest) e =
             let (below, positive, few) = pending-task r i x rest worker e in

@@ -24,13 +24,17 @@ use Rattle.task.specs.declared.StepOutcome.{StepOutcome}
 use Rattle.ring.specs.Ring.{endsAt, storeEnds, Sound, headOn, tailOn, queue}
 use Rattle.ring.proofs.Ends.{stored-sound, sound-append, sound-take, filled-sound}
 use Rattle.ring.proofs.Queues.{length-queue}
+use Rattle.memory.specs.Family.{Places}
+use Rattle.memory.specs.Field as list
+use Rattle.memory.specs.Updates.{updated, written}
 use Rattle.rules.specs.Memory.{Mem, tasks, ringNumber, ringsIn, endsIn, rowIn, entriesIn}
-use Rattle.rules.specs.Updates.{Update, updated, written}
+use Rattle.rules.specs.Updates.{Update}
 use Rattle.rules.specs.Plans.{withCount}
 use Rattle.rules.specs.Steps.{step}
 use Rattle.rules.specs.Begin.{begin}
 use Rattle.rules.specs.Begun.{LaidDown, rootsOf}
 use Rattle.rules.specs.Moves.{Allowed, AcceptedStep, Made, Advances, next, last, sink, inner, waiting, placed, entriesNext}
+use Rattle.rules.proofs.RowsMade.{rowMade, rows-made}
 use Rattle.rules.proofs.Moves.{step-accepts}
 use Rattle.rules.proofs.Moved.{rows-other, entries-after}
 use Rattle.rules.proofs.Kept.{step-keeps}
@@ -70,11 +74,11 @@ module _ (limits : Limits) (p k : ℕ) (m : Mem) (e : answerSays (begin limits p
           rw (sym s) (filled-sound k (endsIn b q′) (omega (arith, two)) (laid .head q′) (begun-tail i j hi hj ∙ length-queue 0 k (ringsIn b) q′))
 
 -- what Release does to the places
-advanced-places : {count : ℕ} {r row : Row} → r .read < r .write → Advances count r row → (row .read ≤ row .write) × (row .write ≡ r .write)
+advanced-places : {count : ℕ} {r : Row} {to : Places} → r .read < r .write → Advances count r to → (to .read ≤ to .write) × (to .write ≡ r .write)
 advanced-places h (next c) = (omega (arith, h), refl)
 advanced-places h (last c) = (omega (arith, h), refl)
 
--- what an accepted step of worker i leaves of the ends and the rows; at most the one task that Complete records joins a buffer
+-- what an accepted step of worker i leaves of the ends and of its row; at most the one task that Complete records joins a buffer
 record Leaves (p k i : ℕ) (s : Step) (m m′ : Mem) : Type 0 where
   ends : (q : ℕ) → q < p * p → Sound k (endsIn m′ q)
   row : Row
@@ -85,44 +89,40 @@ record Leaves (p k i : ℕ) (s : Step) (m m′ : Mem) : Type 0 where
 module _ (limits : Limits) (p k i : ℕ) (m : Mem) (w : Words p k m) where
   stored : {s : Step} {o : StepOutcome} {us : List Update} → Allowed limits p k i s m o us
       → (q : ℕ) (e : Ends) → Sound k e → (r : ℕ) → r < p * p → Sound k (endsAt (storeEnds (m .ends) q e) r)
-  stored a q e = stored-sound k (p * p) (m .ends) q e (a .fits .lengths .others .ends) (w .ends)
+  stored a q e = stored-sound k (p * p) (m .ends) q e (a .fits .lengths .list list.ends) (w .ends)
+
+  made-ends : (s : Step) (o : StepOutcome) (us : List Update) → Allowed limits p k i s m o us → (f : Made s p k i m o us)
+      → (q : ℕ) → q < p * p → Sound k (endsIn (written (withCount m us) m) q)
+  unfolding written updated headOn tailOn after
+  made-ends Fetch o us a f = rw (f .updates) (stored a (f .ring) _ (sound-take k (endsIn m (f .ring)) (rw (f .ringIs) (f .stop .sound))))
+  made-ends Start o us a f = rw (f .updates) (w .ends)
+  made-ends Complete o us a (sink f) = rw (f .updates) (w .ends)
+  made-ends Complete o us a (inner f) = rw (f .updates) (w .ends)
+  made-ends Release o us a (waiting f) = rw (f .updates) (w .ends)
+  made-ends Release o us a (placed f) =
+      rw (f .updates) (stored a (f .ring) _ (sound-append k (endsIn m (f .ring)) (rw (f .ringIs, f .ownerIs) (f .stop .sound))))
+
+  abbrev Ordered : Step → Row → Type 0
+  Ordered s row = (row .read ≤ row .write) × (row .write ≤ entriesNext s (rowIn m i .write))
+
+  made-places : (s : Step) (o : StepOutcome) (us : List Update) → i < p → (f : Made s p k i m o us) → Ordered s (rowMade p k i m o us s f)
+  made-places Fetch o us h f = (w .places i h, omega arith)
+  made-places Start o us h f = (w .places i h, omega arith)
+  made-places Complete o us h (sink f) = (w .places i h, omega arith)
+  made-places Complete o us h (inner f) = (omega (arith, f .places), omega arith)
+  made-places Release o us h (waiting f) = let (c, d) = advanced-places (f .common .notEmpty) (f .common .advances) in (c, omega (arith, d))
+  made-places Release o us h (placed f) = let (c, d) = advanced-places (f .common .notEmpty) (f .common .advances) in (c, omega (arith, d))
 
   made-leaves : (s : Step) (o : StepOutcome) (us : List Update) → Allowed limits p k i s m o us → Leaves p k i s m (written (withCount m us) m)
-  unfolding written updated headOn tailOn after
-  made-leaves Fetch o us a =
-      let f : Made Fetch p k i m o us = a .made in
-      rw (f .updates)
-      (record {
-        ends = stored a (f .ring) _ (sound-take k (endsIn m (f .ring)) (rw (f .ringIs) (f .stop .sound)));
-        row = _;
-        rows = refl;
-        places = w .places i (a .worker);
-        joins = omega arith;
-      })
-  made-leaves Start o us a =
-      let f : Made Start p k i m o us = a .made in
-      rw (f .updates) (record { ends = w .ends; row = _; rows = refl; places = w .places i (a .worker); joins = omega arith })
-  made-leaves Complete o us a = go (a .made)
-    where
-      go : Made Complete p k i m o us → Leaves p k i Complete m (written (withCount m us) m)
-      go (sink f) = rw (f .updates) (record { ends = w .ends; row = _; rows = refl; places = w .places i (a .worker); joins = omega arith })
-      go (inner f) = rw (f .updates) (record { ends = w .ends; row = _; rows = refl; places = omega (arith, f .places); joins = omega arith })
-  made-leaves Release o us a = go (a .made)
-    where
-      go : Made Release p k i m o us → Leaves p k i Release m (written (withCount m us) m)
-      go (waiting f) =
-          let (c, d) = advanced-places (f .common .notEmpty) (f .common .advances) in
-          rw (f .updates) (record { ends = w .ends; row = _; rows = refl; places = c; joins = omega (arith, d) })
-      go (placed f) =
-          let (c, d) = advanced-places (f .common .notEmpty) (f .common .advances) in
-          rw (f .updates)
-          (record {
-            ends = stored a (f .ring) _ (sound-append k (endsIn m (f .ring)) (rw (f .ringIs, f .ownerIs) (f .stop .sound)));
-            row = _;
-            rows = refl;
-            places = c;
-            joins = omega (arith, d);
-          })
+  made-leaves s o us a =
+      let (places, joins) = made-places s o us (a .worker) (a .made) in
+      record {
+        ends = made-ends s o us a (a .made);
+        row = rowMade p k i m o us s (a .made);
+        rows = rows-made p k i m o us s (a .made);
+        places = places;
+        joins = joins;
+      }
 
 -- the sum of all writes grows by no more than the entries
 within : (s : Step) (old new write write′ entries entries′ : ℕ) → new + write ≡ old + write′ → write′ ≤ entriesNext s write → old ≤ entries
@@ -148,7 +148,7 @@ module _ (limits : Limits) (p k i : ℕ) (s : Step) (m : Mem) (r : AcceptedStep 
       row : rowIn m′ i ≡ l .row
       row =
           ap (λ (rows : List Row). getD rows i idle) (l .rows)
-          ∙ getD-set-same (m .rows) i (l .row) idle (omega (arith, r .allowed .worker, r .allowed .fits .lengths .others .rows))
+          ∙ getD-set-same (m .rows) i (l .row) idle (omega (arith, r .allowed .worker, r .allowed .fits .lengths .list list.rows))
 
       more : entriesIn m′ ≡ entriesNext s (entriesIn m)
       more = entries-after limits p k i s m (step-accepts limits p k i s m r)

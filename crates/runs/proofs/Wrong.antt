@@ -41,12 +41,15 @@ use Rattle.exchange.proofs.Theorem.{exchange-tasks}
 use Rattle.machine.specs.Machine.{Machine}
 use Rattle.machine.specs.Machine as machine
 use Rattle.machine.proofs.Lists.{Alike, alike-memory, alike-events}
-use Rattle.rules.specs.Memory.{Mem, tasks, edges, graphIn, allSteps, allEntries, degreeIn, succCount, rowIn, withPlaces, held, entriesIn, acceptedIn, oldest, successor}
+use Rattle.rules.specs.Memory.{Mem, tasks, edges, graphIn, allSteps, allEntries, degreeIn, succCount, rowIn, held, entriesIn, acceptedIn, oldest, successor}
 use Rattle.rules.specs.Sizes.{KeepsLimits, numbersFit, othersFit, lengthsFit}
 use Rattle.rules.specs.Words.{countersFit}
-use Rattle.rules.specs.Updates.{Update, putDegree, putEntry, putEntries, putAccepted, putRow, updated, written}
+use Rattle.memory.specs.Family.{Places}
+use Rattle.memory.specs.Updates.{storeWords, updated, written}
+use Rattle.memory.specs.Shape.{allFit}
+use Rattle.rules.specs.Updates.{Update, putDegree, putEntry, putEntries, putAccepted, putPlaces}
 use Rattle.rules.specs.Plans.{Plan, refuse, accept, counted, Result, carriedOut}
-use Rattle.rules.specs.Steps.{scan, fetchTask, fetchFrom, fetchRule, startRule, completeSink, completeInner, completeRule, releasedRow, advance, findRoom, releaseTo, releaseReady, releaseWaiting, releaseRule, ruleOf, stepPlan, step}
+use Rattle.rules.specs.Steps.{scan, fetchTask, fetchFrom, fetchRule, startRule, completeSink, completeInner, completeRule, advanced, advance, findRoom, releaseTo, releaseReady, releaseWaiting, releaseRule, ruleOf, stepPlan, step}
 use Rattle.rules.specs.Begin.{cleared, rootsPlaced, begun, rootsAnswer, beginAnswer, begin}
 use Rattle.rules.proofs.Examples.{lent, Call, by, single, twoRoots, fork}
 use Rattle.runs.specs.Calls.{stepCall, beginCall, lookupCall, isStep, says, leaves, kindOf, plain, Event, Run, memoryOf, eventsOf}
@@ -338,13 +341,13 @@ alsoWriting (refuse n d) us = refuse n d
 alsoWriting (accept o vs) us = accept o (vs ++ us)
 
 -- a Release that skips the last successor: it goes on to the next task of the buffer when one successor is left
-abbrev pub skippingRow : ℕ → Row → Row
-skippingRow count r = cond (eqb (r .cursor + 2) count) (withPlaces (r .read + 1) (r .write) 0 r) (releasedRow count r)
+abbrev pub skippingPlaces : ℕ → Row → Places
+skippingPlaces count r = cond (eqb (r .cursor + 2) count) (record { read = r .read + 1; write = r .write; cursor = 0 }) (advanced count r)
 
 abbrev pub skipsLast : Program
 skipsLast =
     butFor Release
-    (λ limits p k i m. alsoWriting (stepPlan limits p k i Release m) (putRow i (skippingRow (succCount m (oldest m i)) (rowIn m i)) ∷ []))
+    (λ limits p k i m. alsoWriting (stepPlan limits p k i Release m) (putPlaces i (skippingPlaces (succCount m (oldest m i)) (rowIn m i)) ∷ []))
 
 -- a Complete that doesn't record: the entry's words and the entries word stay as they were
 abbrev pub entryKept : Mem → List Update
@@ -485,7 +488,7 @@ record WrongRuns : Type 0 where
       (0 ∷ 1 ∷ []) (0 ∷ 0 ∷ [])
 
 wrong-runs : WrongRuns
-unfolding ℕ-discrete decLe decLt firstBelow occOf placeOf joined tabulate allOf sumTo after around capped nextPhase part sizesFit firstBad firstTwice firstOnCycle tablesAnswer checkAnswer below? among? light? good? bad? endsFit? twice? twiceIn? find-twice edge? thru? path? leads? onCycle? succsBelow succStart succStarts succWords degreeList roots capacity slotAt endsAt storeEnds sound empty full headOn tailOn sumToZ load leastFrom least search allSteps allEntries numbersFit othersFit lengthsFit countersFit updated written counted carriedOut scan fetchTask fetchFrom fetchRule startRule completeSink completeInner completeRule releasedRow findRoom releaseTo releaseReady releaseWaiting releaseRule ruleOf stepPlan step cleared rootsPlaced begun rootsAnswer beginAnswer begin machine.began machine.memoryAfter machine.recalled machine.eventsAfter acceptedOf answerBy leftBy stepsAmong
+unfolding ℕ-discrete decLe decLt firstBelow occOf placeOf joined tabulate allOf sumTo after around capped nextPhase part sizesFit firstBad firstTwice firstOnCycle tablesAnswer checkAnswer below? among? light? good? bad? endsFit? twice? twiceIn? find-twice edge? thru? path? leads? onCycle? succsBelow succStart succStarts succWords degreeList roots capacity slotAt endsAt storeEnds sound empty full headOn tailOn sumToZ load leastFrom least search allSteps allEntries numbersFit allFit othersFit lengthsFit countersFit storeWords updated written counted carriedOut scan fetchTask fetchFrom fetchRule startRule completeSink completeInner completeRule advanced findRoom releaseTo releaseReady releaseWaiting releaseRule ruleOf stepPlan step cleared rootsPlaced begun rootsAnswer beginAnswer begin machine.began machine.memoryAfter machine.recalled machine.eventsAfter acceptedOf answerBy leftBy stepsAmong
 wrong-runs =
     record {
       forgets-a-root = record { begins = refl; taken = refl; unfinished = omega arith; refusals = refl };

@@ -6,8 +6,8 @@ use lib.ListN.{getD, set}
 use Rattle.task.specs.declared.Row.{Row}
 use Rattle.task.specs.declared.Step.the-variants.{Start}
 use Rattle.task.specs.declared.StepOutcome.the-variants.{Moved}
+use Rattle.memory.specs.Updates.{updated, written}
 use Rattle.rules.specs.Memory.{Mem}
-use Rattle.rules.specs.Updates.{updated, written}
 use Rattle.rules.specs.Steps.{startRule, ruleOf}
 use Rattle.admission.specs.Admission.{Admits}
 use Rattle.admission.specs.declared.Sizes.{Sizes}

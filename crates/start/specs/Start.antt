@@ -5,7 +5,9 @@ use mathlib.Core.List.{List}
 use Rattle.task.specs.declared.Limits.{Limits}
 use Rattle.task.specs.declared.Row.{Row}
 use Rattle.task.specs.declared.Step.the-variants as step-name
-use Rattle.rules.specs.Memory.{Mem, memOf, rowIn, withHand}
+use Rattle.memory.specs.Field as list
+use Rattle.memory.specs.Memory.{put}
+use Rattle.rules.specs.Memory.{Mem, rowIn, withHand}
 use Rattle.rules.specs.Plans.{resultOf}
 use Rattle.rules.specs.Steps.{step}
 use Rattle.admission.specs.Admission.{sizesOf, Judges, answerOf, rowsAfter}
@@ -16,8 +18,7 @@ use Rattle.admission.specs.declared.Stepped.the-variants.{Refused, Taken}
 
 -- a memory with these run words and rows
 abbrev pub withRun : Mem → List ℕ → List Row → Mem
-withRun m run rows =
-    memOf (m .weights) (m .predStarts) (m .preds) (m .succStarts) (m .succs) (m .degrees) (m .rings) (m .ends) (m .counters) (m .buffers) (m .executed) run rows
+withRun m run rows = put list.run run (put list.rows rows m)
 
 -- whatever the other lists hold
 abbrev pub Starts : ℕ → ℕ → ℕ → Sizes → Judged → Row → List ℕ → List ℕ → Stepped → Type 0

@@ -1,3 +1,4 @@
+use Rattle.memory.specs.Field as list
 use Rattle.start.proofs.Laws.{start-refused, start-damaged, start-accepted, phase-alone}
 use Rattle.admission.proofs.Rows.{admission-measured, few-steps}
 use native.Mathlib.Omega.{arith}
@@ -18,7 +19,7 @@ enum-known-admitted-2 : tie.Need-enum-known-admitted-2
 enum-known-admitted-2 c = search needs
 
 slice-read-accepted : tie.Need-slice-read-accepted
-slice-read-accepted c = omega (arith, (admission-measured _ _ _ _ _ _ (c .before .before .before .before .before .before .args .judged) (c .before .before .before .before .before .before .pre .0) _ (c .before .before .before .before .admit .ensures) _ (c .before .before .admitted2 .given .1)) .run, c .before .before .before .before .before .before .pre .1)
+slice-read-accepted c = omega (arith, (admission-measured _ _ _ _ _ _ (c .before .before .before .before .before .before .args .judged) (c .before .before .before .before .before .before .pre .0) _ (c .before .before .before .before .admit .ensures) _ (c .before .before .admitted2 .given .1)) .lengths .list list.run, c .before .before .before .before .before .before .pre .1)
 
 mul-if1 : tie.Need-mul-if1
 mul-if1 c = omega (arith, (admission-measured _ _ _ _ _ _ (c .before .before .before .before .before .before .before .args .judged) (c .before .before .before .before .before .before .before .pre .0) _ (c .before .before .before .before .before .admit .ensures) _ (c .before .before .before .admitted2 .given .1)) .fewTasks)
@@ -36,7 +37,7 @@ add-run : tie.Need-add-run
 add-run c = omega (arith, few-steps _ _ _ _ (admission-measured _ _ _ _ _ _ (c .before .before .before .before .before .before .before .before .before .args .judged) (c .before .before .before .before .before .before .before .before .before .pre .0) _ (c .before .before .before .before .before .before .before .admit .ensures) _ (c .before .before .before .before .before .admitted2 .given .1)), c .if1 .left)
 
 slice-write-run : tie.Need-slice-write-run
-slice-write-run c = omega (arith, (admission-measured _ _ _ _ _ _ (c .before .before .before .before .before .before .before .before .before .args .judged) (c .before .before .before .before .before .before .before .before .before .pre .0) _ (c .before .before .before .before .before .before .before .admit .ensures) _ (c .before .before .before .before .before .admitted2 .given .1)) .run, c .before .before .before .before .before .before .before .before .before .pre .1)
+slice-write-run c = omega (arith, (admission-measured _ _ _ _ _ _ (c .before .before .before .before .before .before .before .before .before .args .judged) (c .before .before .before .before .before .before .before .before .before .pre .0) _ (c .before .before .before .before .before .before .before .admit .ensures) _ (c .before .before .before .before .before .admitted2 .given .1)) .lengths .list list.run, c .before .before .before .before .before .before .before .before .before .pre .1)
 
 same-length : tie.Need-same-length
 same-length c = search needs
