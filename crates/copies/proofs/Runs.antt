@@ -1,4 +1,5 @@
--- Weak runs, by the system's laws: what they keep, that an unfinished one goes on, and what a finished one has recorded, in how many steps.
+-- Weak runs, by the system's laws: what they keep, that an unfinished one goes on, that there are finished ones, and what these have recorded, in how
+-- many steps.
 use Prim.Native.Nat.{ℕ, zero, suc, _+_, _*_, _≤_, _<_, min}
 use mathlib.Core.Path.{_≡_, refl, ap, _∙_}
 use mathlib.Core.List.{List, [], _∷_, _++_}
@@ -22,6 +23,7 @@ use Rattle.system.proofs.Counting.{below-all}
 use Rattle.system.proofs.Finished.{finished-record, finished-steps}
 use Rattle.system.proofs.Progress.{progress}
 use Rattle.system.proofs.Rules.{reached-invariant, reached-dues}
+use Rattle.system.proofs.Next.{completed, completed-finishes, completed-pending, completed-degree, completed-steps, completed-dues, Followed, next, reached-finishes}
 use Rattle.copies.specs.Copies.{Copy, sameCopy, taskCopies, isCopy, copiesOf, Before, rootCopies, allCopies, NoneTwice}
 use Rattle.copies.specs.Weak.{lastDue, owed, Weak, CompletesCopy}
 use Rattle.copies.proofs.Copies.{each-copy, count-copies, one-copy, roots-free, preds-before, preds-are, before-preds, before-edge, copies-own, copies-reversed}
@@ -121,7 +123,7 @@ module _ (g : Graph) (sound : Sound g) (once : NoneTwice g) (P : ℕ) where
           count-copies g sound,
         )
 
-    -- it is never stuck
+    -- some worker has something to do
     pub weak-progress : Acceptable g → Ready P s
     unfolding copiesOf
     weak-progress a =
@@ -133,6 +135,45 @@ module _ (g : Graph) (sound : Sound g) (once : NoneTwice g) (P : ℕ) where
 
         closed : (b c : Copy) → 0 < occOf sameCopy b (copiesOf g .preds c) → copiesOf g .want b ≡ 1
         closed b c h = omega (arith, one-copy g sound once b, preds-before g sound b c h .earlier)
+
+  -- what runs can complete, by the rule
+  weak-followed : {s : State Copy} → Weak g P s → Followed sameCopy (copiesOf g) P (lastDue g) s
+  weak-followed {s} r i c l h = (
+    after,
+    completes-copy g sound once P (weak-invariant r) made,
+    copy-due g sound once P (weak-invariant r) made,
+  )
+    where
+      due : List Copy
+      due = lastDue g (s .stages .done) c
+
+      after : State Copy
+      after = completed sameCopy (copiesOf g) P s i c l due
+
+      made : CompletesCopy g P i c s after
+      made =
+          record {
+            finishes = completed-finishes sameCopy (copiesOf g) P s i c l due h;
+            old = s .pending i;
+            pending = completed-pending sameCopy (copiesOf g) P s i c l due;
+            degree = completed-degree sameCopy (copiesOf g) P s i c l due laws (weak-invariant r) h;
+            steps = completed-steps sameCopy (copiesOf g) P s i c l due;
+            dues = completed-dues sameCopy (copiesOf g) P s i c l due;
+          }
+
+  module _ (a : Acceptable g) where
+    -- it goes on: some step follows, by the rule
+    pub weak-next : {s : State Copy} → Weak g P s → length (s .stages .done) < edgeCount g + length (roots g)
+        → (s′ : State Copy) × (t : Step sameCopy (copiesOf g) P s s′) × ByRule sameCopy (copiesOf g) P (lastDue g) t
+    weak-next {s} r short = next sameCopy (copiesOf g) P (lastDue g) laws s (weak-invariant r) (weak-followed r) (weak-progress r short a)
+
+    -- so there are finished runs, as the laws above ask for
+    pub weak-finishes : 0 < P → (s : State Copy) × Weak g P s × (length (s .stages .done) ≡ edgeCount g + length (roots g))
+    weak-finishes h =
+        let (s, r) = weak-begun h in
+        let (s′, r′, e) = reached-finishes sameCopy (copiesOf g) P (lastDue g) laws (allCopies g) want-copy (3 * (edgeCount g + length (roots g)) + edgeCount g)
+        (λ s r l. weak-below r (omega (arith, l, count-copies g sound))) (λ s r l. weak-next r (omega (arith, l, count-copies g sound))) s r in
+        (s′, r′, omega (arith, e, count-copies g sound))
 
   -- every release frees a copy, none only lowers a degree: what is to be released waits for nothing else
   module _ (x : Copy) where

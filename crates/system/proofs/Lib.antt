@@ -6,3 +6,4 @@ pub mod Finished
 pub mod Progress
 pub mod Rules
 pub mod Plain
+pub mod Next
