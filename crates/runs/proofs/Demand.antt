@@ -10,7 +10,7 @@ use Rattle.lists.specs.Lists.{occ, tabulate, allOf}
 use Rattle.lists.proofs.Blocks.{is-tabulate, length-all}
 use Rattle.lists.proofs.Decided.{stable, tally-yes, tally-pos}
 use Rattle.lists.proofs.Occurrences.{occ-hit}
-use Rattle.lists.proofs.Sums.{sum-prefix, sumOf-same}
+use Rattle.lists.proofs.Sums.{sum-prefix}
 use Rattle.task.specs.Types.{nil}
 use Rattle.task.specs.Rows.{Acceptance}
 use Rattle.task.specs.declared.Limits.{Limits}
@@ -18,7 +18,6 @@ use Rattle.task.specs.declared.Step.{Step}
 use Rattle.task.specs.declared.Step.the-variants.{Fetch, Start, Complete, Release}
 use Rattle.graph.specs.Graph.{Graph, Edge}
 use Rattle.graph.specs.Conditions.{Sound}
-use Rattle.graph.specs.Successors.{succsOf}
 use Rattle.graph.proofs.Accepted.{rank, rank-rises, fits-sound}
 use Rattle.graph.proofs.Parts.{edge-of, few-preds}
 use Rattle.graph.proofs.Reversed.{all-edges}
@@ -26,7 +25,7 @@ use Rattle.exchange.specs.Exchange.{Allows}
 use Rattle.exchange.specs.Pairs.{eachOnce}
 use Rattle.exchange.proofs.Theorem.{exchange-tasks}
 use Rattle.rules.specs.Memory.{Mem, tasks, edges, graphIn, degreeIn, rowIn, entriesIn, acceptedIn}
-use Rattle.algorithm1.specs.State.{State, successorsOf, threadOf, waitingFor}
+use Rattle.algorithm1.specs.State.{State, threadOf, waitingFor}
 use Rattle.algorithm1.specs.Reading.{recordIn, stateOf}
 use Rattle.algorithm1.proofs.Readings.{degree-at, phase-at}
 use Rattle.system.specs.Stages.{Hand, idle, running, inHand}
@@ -34,7 +33,8 @@ use Rattle.system.specs.System as system
 use Rattle.system.specs.System.{Ready, toStart, toComplete, toFetch, toRelease}
 use Rattle.system.proofs.Counting.{held-few}
 use Rattle.system.proofs.Finished.{finished-record}
-use Rattle.system.proofs.Plain.{Plain, plain-steps, plain-below}
+use Rattle.system.proofs.Plain.{Plain, reached-plain, plain-steps, plain-below}
+use Rattle.system.proofs.Rules.{reached-few}
 use Rattle.system.proofs.Progress.{progress, held-wanted, waiting-wanted, pending-blocked}
 use Rattle.runs.specs.Calls.{Run, KeptBy, memoryOf}
 use Rattle.runs.specs.Items.{handOf}
@@ -45,7 +45,7 @@ use Rattle.runs.proofs.Begun.{all-listed, items-reversed}
 use Rattle.runs.proofs.Hands.{hand-running}
 use Rattle.runs.proofs.Meaning.{length-tasks}
 use Rattle.runs.proofs.Events.{length-record, record-words, recorded-workers, entries-word, accepted-word}
-use Rattle.runs.proofs.Honest.{systemIn, Honest, honest-under, honest-run}
+use Rattle.runs.proofs.Honest.{systemIn, Honest, honest-invariant, honest-under, honest-run}
 use Rattle.runs.proofs.Live.{start-live, complete-live, fetch-live}
 use Rattle.runs.proofs.LiveRelease.{release-live}
 
@@ -73,14 +73,14 @@ module _ (r : Run) where
   pub run-sound : Sound graph
   run-sound = fits-sound (honest-run r .graph)
 
+  laws : system.Reversed ℕ-discrete (itemsOf graph)
+  laws = items-reversed graph run-sound
+
   pub invariant-run : system.Invariant ℕ-discrete (itemsOf graph) p (systemIn p k now)
-  invariant-run = honest-run r .known .invariant
+  invariant-run = honest-invariant (honest-run r)
 
   plain-run : Plain ℕ-discrete (itemsOf graph) p (systemIn p k now)
-  unfolding meaning
-  plain-run =
-      sumOf-same ℕ-discrete (λ t. length (successorsOf state t)) (λ t. length (succsOf graph t)) (systemIn p k now .stages .done)
-      (λ t h. ap length (honest-run r .sane .successors t))
+  plain-run = reached-plain ℕ-discrete (itemsOf graph) p laws (honest-run r .plain)
 
   -- the tasks recorded, and the same from the lent words
   abbrev pub recorded : List ℕ
@@ -93,9 +93,6 @@ module _ (r : Run) where
   pub recorded-words : recorded ≡ tabulate (entriesIn now) (taskWord now)
   unfolding meaning stateOf
   recorded-words = is-tabulate (entriesIn now) (taskWord now) (nil .0) recorded recorded-length (λ x h. sym (record-words r x h))
-
-  laws : system.Reversed ℕ-discrete (itemsOf graph)
-  laws = items-reversed graph run-sound
 
   is-task : (t : ℕ) → itemsOf graph .want t ≡ 1 → t < tasks now
   is-task t e = tally-pos (decLt t (tasks now)) (omega (arith, e))
@@ -120,7 +117,7 @@ module _ (r : Run) where
       let (wanted, blocked) = pending-blocked ℕ-discrete (itemsOf graph) laws p {s = systemIn p k now} invariant-run i x rest worker pending in (
         is-task x wanted,
         omega (arith, blocked, degree-at p k now x),
-        omega (arith, honest-run r .known .few x, degree-at p k now x, few-preds (honest-run r .graph .graph) x (is-task x wanted)),
+        omega (arith, reached-few ℕ-discrete (itemsOf graph) p laws (system.allDue (itemsOf graph)) (honest-run r .plain) x, degree-at p k now x, few-preds (honest-run r .graph .graph) x (is-task x wanted)),
       )
 
   -- While a task runs, an entry is free for it: in memory begun and stepped by the engine Complete never meets 12.

@@ -1,15 +1,14 @@
 -- What holds of the memory after every list of a run's calls: begin lays it down, and every accepted step keeps it.
-use Prim.Native.Nat.{ℕ, suc, _≤_, _<_}
+use Prim.Native.Nat.{ℕ, suc, _<_}
 use mathlib.Core.Path.{_≡_}
 use mathlib.Core.List.{List}
 use native.Mathlib.Decide.{ℕ-discrete}
-use lib.ListN.{length}
 use Rattle.lists.proofs.Places.{place-lt}
 use Rattle.task.specs.Types.{engine}
 use Rattle.task.specs.Refusals.{answerSays, accepted}
 use Rattle.task.specs.declared.Limits.{Limits}
 use Rattle.task.specs.declared.Step.{Step}
-use Rattle.graph.specs.Graph.{Graph, predsOf}
+use Rattle.graph.specs.Graph.{Graph}
 use Rattle.graph.specs.Conditions.{Good, GraphFits}
 use Rattle.graph.proofs.Accepted.{fits-sound}
 use Rattle.ring.specs.Ring.{Sound, capacity}
@@ -31,8 +30,7 @@ use Rattle.algorithm1.specs.Algorithm.{Does}
 use Rattle.algorithm1.specs.Reading.{stateOf}
 use Rattle.algorithm1.proofs.Accepted.{step-does}
 use Rattle.system.specs.System as system
-use Rattle.system.proofs.Kept.{step-keeps, begins-keeps}
-use Rattle.system.proofs.Progress.{begins-few, step-few}
+use Rattle.system.proofs.Rules.{reached-invariant}
 use Rattle.runs.specs.Calls.{Call, reached, Run, KeptBy, memoryOf}
 use Rattle.runs.specs.Counters.{AddsUp}
 use Rattle.runs.proofs.Invariant.{itemsOf, meaning, Sane, Words}
@@ -47,13 +45,13 @@ use Rattle.runs.proofs.Bounds.{Bounded, does-bounded, begun-bounded}
 abbrev pub systemIn : ℕ → ℕ → Mem → system.State ℕ
 systemIn p k m = meaning p (acceptedIn m) (stateOf p k m)
 
--- what is known of the system's state, where the graph and the number of steps are known by other names
-pub record Known (g : Graph) (p steps : ℕ) (s : State) : Type 0 where
-  pub invariant : system.Invariant ℕ-discrete (itemsOf g) p (meaning p steps s)
-  pub few : (t : ℕ) → meaning p steps s .degree t ≤ length (predsOf g t)
+-- the system's states that the plain runs of a graph reach
+abbrev pub PlainState : Graph → ℕ → system.State ℕ → Type 0
+PlainState g p = system.Reached ℕ-discrete (itemsOf g) p (system.allDue (itemsOf g))
 
-known-as : (p : ℕ) (s : State) {g g′ : Graph} {n n′ : ℕ} → g′ ≡ g → n′ ≡ n → Known g p n s → Known g′ p n′ s
-known-as p s e f v = rw (e, f) v
+-- the graph and the number of steps are known by other names
+plainly-as : (p : ℕ) (s : State) {g g′ : Graph} {n n′ : ℕ} → g′ ≡ g → n′ ≡ n → PlainState g p (meaning p n s) → PlainState g′ p (meaning p n′ s)
+plainly-as p s e f v = rw (e, f) v
 
 pub record Honest (limits : Limits) (p k : ℕ) (m : Mem) : Type 0 where
   pub fits : Fits limits p k m
@@ -62,7 +60,7 @@ pub record Honest (limits : Limits) (p k : ℕ) (m : Mem) : Type 0 where
   pub good : (u : ℕ) → u < tasks m → Good (tasks m) (m .succStarts) (m .succs) u
   pub words : Words p k m
   pub sane : Sane (graphIn m) p (stateOf p k m)
-  pub known : Known (graphIn m) p (acceptedIn m) (stateOf p k m)
+  pub plain : PlainState (graphIn m) p (systemIn p k m)
   pub addsUp : AddsUp p (stateOf p k m)
   pub bounded : Bounded p (stateOf p k m)
 
@@ -75,12 +73,8 @@ module _ (limits : Limits) (p k : ℕ) where
         good = λ u h. begun-reversed limits p k m e u h .1;
         words = begun-words limits p k m e;
         sane = rw (laid-graph laid) (begun-sane limits p k m e);
-        known =
-            known-as p (stateOf p k (begin limits p k m .memory)) (laid-graph laid) (laid-run laid 1)
-            (record {
-              invariant = begins-keeps ℕ-discrete (itemsOf (graphIn m)) p (begun-begins limits p k m e);
-              few = begins-few ℕ-discrete (itemsOf (graphIn m)) p (begun-begins limits p k m e);
-            });
+        plain =
+            plainly-as p (stateOf p k (begin limits p k m .memory)) (laid-graph laid) (laid-run laid 1) (system.begun (begun-begins limits p k m e));
         addsUp = begun-adds-up limits p k m e;
         bounded = begun-bounded limits p k m e;
       }
@@ -108,9 +102,10 @@ module _ (limits : Limits) (p k : ℕ) where
     does = step-does limits p k i s m r
 
     -- an accepted step is a step of the system
-    system-step : system.Step ℕ-discrete (itemsOf (graphIn m)) p (systemIn p k m) (meaning p (suc (acceptedIn m)) after)
-    system-step =
-        does-steps (graphIn m) p (capacity k) i before after (r .outcome) (h .sane) (acceptedIn m) s does
+    goes-on : PlainState (graphIn m) p (meaning p (suc (acceptedIn m)) after)
+    goes-on =
+        let (t, e) = does-steps (graphIn m) p (capacity k) i before after (r .outcome) (h .sane) (acceptedIn m) s does in
+        system.further (h .plain) t e
 
     step-honest : Honest kept-limits p k left
     step-honest =
@@ -120,13 +115,7 @@ module _ (limits : Limits) (p k : ℕ) where
           good = rw (kept .graph .weights, kept .graph .succStarts, kept .graph .succs) (h .good);
           words = step-words limits p k i s m r (h .words);
           sane = rw (same-graph (kept .graph)) (does-sane (graphIn m) p (capacity k) i before after (r .outcome) (h .sane) s does);
-          known =
-              known-as p after (same-graph (kept .graph)) one-more
-              (record {
-                invariant =
-                    step-keeps ℕ-discrete (itemsOf (graphIn m)) p (items-reversed (graphIn m) (fits-sound (h .graph))) system-step (h .known .invariant);
-                few = step-few ℕ-discrete (itemsOf (graphIn m)) p system-step (h .known .few);
-              });
+          plain = plainly-as p after (same-graph (kept .graph)) one-more goes-on;
           addsUp = does-adds-up p (capacity k) i before after (r .outcome) (h .sane .shaped) s does (h .addsUp);
           bounded = does-bounded p (capacity k) i before after (r .outcome) (h .sane .shaped) s does (h .bounded);
         }
@@ -141,7 +130,7 @@ honest-as w h =
       good = h .good;
       words = h .words;
       sane = h .sane;
-      known = h .known;
+      plain = h .plain;
       addsUp = h .addsUp;
       bounded = h .bounded;
     }
@@ -153,6 +142,11 @@ honest limits p k =
     always p k (Honest engine p k)
     (λ l m e. honest-as (within-engine (begun-honest l p k m e .fits .limits)) (begun-honest l p k m e))
     (λ l m i s a h. step-honest l p k m i s a h) limits
+
+pub honest-invariant : {limits : Limits} {p k : ℕ} {m : Mem} → Honest limits p k m
+    → system.Invariant ℕ-discrete (itemsOf (graphIn m)) p (systemIn p k m)
+honest-invariant {p = p} {m = m} h =
+    reached-invariant ℕ-discrete (itemsOf (graphIn m)) p (items-reversed (graphIn m) (fits-sound (h .graph))) (system.allDue (itemsOf (graphIn m))) (h .plain)
 
 -- the ends of the ring of owner i filled by worker j are slots
 pub ends-sound : {limits : Limits} {p k : ℕ} {m : Mem} → Honest limits p k m → (i : ℕ) → i < p → (j : ℕ) → j < p → Sound k (endsIn m (ringNumber p i j))

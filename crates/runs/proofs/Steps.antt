@@ -1,4 +1,4 @@
--- Each step of Algorithm 1 is a step of the system of runs, and keeps the state sane.
+-- Each step of Algorithm 1 is a step of the system of runs, by the plain job's rule, and keeps the state sane.
 use Prim.Native.Nat.{ℕ, suc, _+_, _-_, _%_, _≤_, _<_}
 use mathlib.Core.Path.{_≡_, refl, ap, _∙_}
 use mathlib.Core.List.{List, [], _∷_, _++_}
@@ -24,7 +24,7 @@ use Rattle.algorithm1.specs.State.{Thread, threadWith, State, degreeOf, success
 use Rattle.algorithm1.specs.Algorithm.{holding, executing, completed, Fetches, Starts, Completes, Passes, Lowers, Allocates, lowers, allocates, Lines, Does}
 use Rattle.algorithm1.proofs.Memories.{first-lt}
 use Rattle.system.specs.System as system
-use Rattle.system.proofs.Plain.{completes-all}
+use Rattle.system.proofs.Plain.{completes-all, all-due}
 use Rattle.runs.proofs.Invariant.{itemsOf, pendingOf, tasksOf, meaning, Buffered, Sane}
 use Rattle.runs.proofs.Hands.{hand-idle, hand-fetched, hand-running}
 use Rattle.runs.proofs.Waiting.{waiting-other, waiting-own}
@@ -34,6 +34,10 @@ use Rattle.runs.proofs.Meaning.{pending-moves, pending-stays, fetch-act
 -- a thread that keeps its buffer and cursor
 same-buffer : (s : State) (r : Thread) → Buffered s r → (phase held pointer : ℕ) → Buffered s (threadWith (r .buffer) (r .cursor) phase held pointer)
 same-buffer s r b phase held pointer = record { each = b .each; cursor = b .cursor; none = b .none }
+
+-- a step of the system, by the plain job's rule
+abbrev pub PlainStep : Graph → ℕ → system.State ℕ → system.State ℕ → Type 0
+PlainStep g p v v′ = (t : system.Step ℕ-discrete (itemsOf g) p v v′) × system.ByRule ℕ-discrete (itemsOf g) p (system.allDue (itemsOf g)) t
 
 -- Thread i of P, from s to s′
 module _ (g : Graph) (p i : ℕ) (worker : i < p) (s s′ : State) (sane : Sane g p s) where
@@ -68,24 +72,26 @@ module _ (g : Graph) (p i : ℕ) (worker : i < p) (s s′ : State) (sane : Sane 
   module _ (o : StepOutcome) where
     module _ (n : ℕ) where
       abbrev Steps : Type 0
-      Steps = system.Step ℕ-discrete (itemsOf g) p (meaning p n s) (meaning p (suc n) s′)
+      Steps = PlainStep g p (meaning p n s) (meaning p (suc n) s′)
 
       fetch-steps : Fetches p i s s′ o → Steps
       unfolding meaning pendingOf
-      fetch-steps f =
-          system.fetch i (f .task)
-          (record {
-            takes =
-                record {
-                  waiting = waiting-other p i (f .list) worker s s′ (f .rest) queues;
-                  removed = record { more = fewer };
-                  hand =
-                      hand-moves (fetch-acts worker (sane .shaped) f) (hand-idle (threadOf s i) (f .phase))
-                      (hand-fetched (holding p (f .list) (f .task) (threadOf s i)) refl);
-                  done = rw (f .after);
-                };
-            keeps = record { pending = pending-stays (fetch-acts worker (sane .shaped) f) refl; degree = λ a. rw (f .after); steps = refl; dues = rw (f .after) };
-          })
+      fetch-steps f = (
+        system.fetch i (f .task)
+            (record {
+              takes =
+                  record {
+                    waiting = waiting-other p i (f .list) worker s s′ (f .rest) queues;
+                    removed = record { more = fewer };
+                    hand =
+                        hand-moves (fetch-acts worker (sane .shaped) f) (hand-idle (threadOf s i) (f .phase))
+                        (hand-fetched (holding p (f .list) (f .task) (threadOf s i)) refl);
+                    done = rw (f .after);
+                  };
+              keeps = record { pending = pending-stays (fetch-acts worker (sane .shaped) f) refl; degree = λ a. rw (f .after); steps = refl; dues = rw (f .after) };
+            }),
+        tt,
+      )
         where
           queues : s′ .queues ≡ withCell (s .queues) i (f .list) (f .rest)
           queues = rw (f .after)
@@ -101,25 +107,26 @@ module _ (g : Graph) (p i : ℕ) (worker : i < p) (s s′ : State) (sane : Sane 
 
       start-steps : Starts i s s′ o → Steps
       unfolding meaning pendingOf waitingFor
-      start-steps f =
-          system.start i (threadOf s i .held)
-          (record {
-            runs =
-                record {
-                  waiting = λ j. rw (f .after);
-                  hand =
-                      hand-moves (start-acts worker (sane .shaped) f) (hand-fetched (threadOf s i) (f .phase))
-                      (hand-running (executing (threadOf s i)) refl);
-                  done = rw (f .after);
-                };
-            keeps = record { pending = pending-stays (start-acts worker (sane .shaped) f) refl; degree = λ a. rw (f .after); steps = refl; dues = rw (f .after) };
-          })
+      start-steps f = (
+        system.start i (threadOf s i .held)
+            (record {
+              runs =
+                  record {
+                    waiting = λ j. rw (f .after);
+                    hand =
+                        hand-moves (start-acts worker (sane .shaped) f) (hand-fetched (threadOf s i) (f .phase))
+                        (hand-running (executing (threadOf s i)) refl);
+                    done = rw (f .after);
+                  };
+              keeps = record { pending = pending-stays (start-acts worker (sane .shaped) f) refl; degree = λ a. rw (f .after); steps = refl; dues = rw (f .after) };
+            }),
+        tt,
+      )
 
-      complete-steps : Completes i s s′ o → Steps
+      complete-all : Completes i s s′ o → system.CompletesAll ℕ-discrete (itemsOf g) p i (threadOf s i .held) (meaning p n s) (meaning p (suc n) s′)
       unfolding meaning waitingFor
-      complete-steps f =
-          system.complete i (threadOf s i .held)
-          (completes-all ℕ-discrete (itemsOf g) p (record {
+      complete-all f =
+          record {
             finishes =
                 record {
                   waiting = λ j. rw (f .after);
@@ -140,7 +147,14 @@ module _ (g : Graph) (p i : ℕ) (worker : i < p) (s s′ : State) (sane : Sane 
               sumOf-snoc (λ t. length (successorsOf s t)) (tasksOf (s .executed)) (threadOf s i .held),
               ap length (sane .successors (threadOf s i .held)),
             ));
-          }))
+          }
+
+      complete-steps : Completes i s s′ o → Steps
+      unfolding meaning
+      complete-steps f = (
+        system.complete i (threadOf s i .held) (completes-all ℕ-discrete (itemsOf g) p (complete-all f)),
+        all-due ℕ-discrete (itemsOf g) p (complete-all f),
+      )
 
       -- d_T falls by one
       falls : (T left : ℕ) → s′ .degrees ≡ set (s .degrees) T (degreeOf s T - 1) → 1 ≤ degreeOf s T → degreeOf s T - 1 ≡ left
@@ -163,36 +177,40 @@ module _ (g : Graph) (p i : ℕ) (worker : i < p) (s s′ : State) (sane : Sane 
 
       lower-steps : Lowers i s s′ o → Steps
       unfolding meaning waitingFor
-      lower-steps f =
-          system.lower i (f .task)
-          (record {
-            stays =
-                record {
-                  waiting = λ j. rw (f .after);
-                  hand = hand-stays (lower-acts worker (sane .shaped) f) (passes-goes (f .pass) .hand);
-                  done = rw (f .after);
-                };
-            releases = releases (lower-acts worker (sane .shaped) f) (f .pass) (rw (f .after));
-            left = degreeOf s (f .task) - 1;
-            blocked = omega (arith, f .some);
-            falls = falls (f .task) (degreeOf s (f .task) - 1) (rw (f .after)) (f .pass .waits) refl;
-          })
+      lower-steps f = (
+        system.lower i (f .task)
+            (record {
+              stays =
+                  record {
+                    waiting = λ j. rw (f .after);
+                    hand = hand-stays (lower-acts worker (sane .shaped) f) (passes-goes (f .pass) .hand);
+                    done = rw (f .after);
+                  };
+              releases = releases (lower-acts worker (sane .shaped) f) (f .pass) (rw (f .after));
+              left = degreeOf s (f .task) - 1;
+              blocked = omega (arith, f .some);
+              falls = falls (f .task) (degreeOf s (f .task) - 1) (rw (f .after)) (f .pass .waits) refl;
+            }),
+        tt,
+      )
 
       allocate-steps : (capacity : ℕ) → Allocates p capacity i s s′ o → Steps
       unfolding meaning
-      allocate-steps capacity f =
-          system.place i (f .owner) (f .task)
-          (record {
-            enters =
-                record {
-                  waiting = waiting-other p (f .owner) i (first-lt (f .room)) s s′ (queueOf s (f .owner) i ++ (f .task ∷ [])) queues;
-                  added = record { more = more };
-                  hand = hand-stays (allocate-acts worker (sane .shaped) f) (passes-goes (f .pass) .hand);
-                  done = rw (f .after);
-                };
-            releases = releases (allocate-acts worker (sane .shaped) f) (f .pass) (rw (f .after));
-            falls = falls (f .task) 0 (rw (f .after)) (f .pass .waits) (f .zero);
-          })
+      allocate-steps capacity f = (
+        system.place i (f .owner) (f .task)
+            (record {
+              enters =
+                  record {
+                    waiting = waiting-other p (f .owner) i (first-lt (f .room)) s s′ (queueOf s (f .owner) i ++ (f .task ∷ [])) queues;
+                    added = record { more = more };
+                    hand = hand-stays (allocate-acts worker (sane .shaped) f) (passes-goes (f .pass) .hand);
+                    done = rw (f .after);
+                  };
+              releases = releases (allocate-acts worker (sane .shaped) f) (f .pass) (rw (f .after));
+              falls = falls (f .task) 0 (rw (f .after)) (f .pass .waits) (f .zero);
+            }),
+        tt,
+      )
         where
           queues : s′ .queues ≡ withCell (s .queues) (f .owner) i (queueOf s (f .owner) i ++ (f .task ∷ []))
           queues = rw (f .after)
@@ -234,13 +252,12 @@ module _ (g : Graph) (p i : ℕ) (worker : i < p) (s s′ : State) (sane : Sane 
         (rw (f .after) (even-with (sane .shaped .queues) (f .owner) i (queueOf s (f .owner) i ++ (f .task ∷ []))))
         (rw (f .after) (even-with (sane .shaped .counters) (f .owner) i _))
 
--- each step of Algorithm 1 is a step of the system, and keeps the state sane
+-- each step of Algorithm 1 is a step of the system by the plain job's rule, and keeps the state sane
 module _ (g : Graph) (p capacity i : ℕ) (s s′ : State) (o : StepOutcome) (sane : Sane g p s) where
-  pub does-steps : (n : ℕ) (step : Step) → Does p capacity i step s s′ o
-      → system.Step ℕ-discrete (itemsOf g) p (meaning p n s) (meaning p (suc n) s′)
+  pub does-steps : (n : ℕ) (step : Step) → Does p capacity i step s s′ o → PlainStep g p (meaning p n s) (meaning p (suc n) s′)
   does-steps n step d = go step (d .lines)
     where
-      go : (step : Step) → Lines p capacity i step s s′ o → system.Step ℕ-discrete (itemsOf g) p (meaning p n s) (meaning p (suc n) s′)
+      go : (step : Step) → Lines p capacity i step s s′ o → PlainStep g p (meaning p n s) (meaning p (suc n) s′)
       go Fetch f = fetch-steps g p i (d .thread) s s′ sane o n f
       go Start f = start-steps g p i (d .thread) s s′ sane o n f
       go Complete f = complete-steps g p i (d .thread) s s′ sane o n f

@@ -21,7 +21,7 @@ use Rattle.runs.proofs.Begun.{all-listed}
 use Rattle.runs.proofs.Calls.{weights-reached}
 use Rattle.runs.proofs.ItemCounters.{charged-waiting}
 use Rattle.runs.proofs.ItemBounds.{placed, placed-all, bounded-within}
-use Rattle.runs.proofs.Honest.{systemIn, Honest, ends-sound, honest-run}
+use Rattle.runs.proofs.Honest.{systemIn, Honest, honest-invariant, ends-sound, honest-run}
 
 -- of what is known of a memory
 module _ {limits : Limits} {p k : ℕ} {m : Mem} (h : Honest limits p k m) where
@@ -35,7 +35,7 @@ module _ {limits : Limits} {p k : ℕ} {m : Mem} (h : Honest limits p k m) where
       omega (
         arith,
         placed-all (nil .0) (weightOf state) p ℕ-discrete (itemsOf (graphIn m)) (allOf (tasks m)) (all-listed (graphIn m)) state
-            {v = systemIn p k m} refl (h .known .invariant),
+            {v = systemIn p k m} refl (honest-invariant h),
         sumOf-all (weightOf state) (tasks m) (allOf (tasks m)) (all-listed (graphIn m)),
         sum-most (tasks m) (weightOf state) 65535 (h .graph .light),
         h .graph .tasks,

@@ -1,6 +1,6 @@
 -- The plain job, in which all successors of an item fall due as it completes: its Complete, and how many steps its runs have.
 use Prim.Native.Nat.{ℕ, _+_, _*_, _<_}
-use mathlib.Core.Path.{_≡_}
+use mathlib.Core.Path.{_≡_, refl}
 use mathlib.Core.List.{List}
 use native.Mathlib.Omega.{arith}
 use lib.ListN.{length}
@@ -25,6 +25,10 @@ module _ {A : Type 0} (same : Discrete A) (G : Items A) (P : ℕ) where
     steps = f .steps;
     dues = f .dues;
   }
+
+  pub all-due : {i : ℕ} {a : A} {s s′ : State A} (f : CompletesAll same G P i a s s′) → completes-all f .due ≡ G .succs a
+  unfolding completes-all
+  all-due f = refl
 
   -- the successors of all recorded items, and no others, have fallen due
   abbrev pub Plain : State A → Type 0

@@ -120,7 +120,7 @@ module _ {A : Type 0} (same : Discrete A) (G : Items A) where
           some =
               omega (arith, v .degree x, sum-prefix P (λ j. occOf same x (s .pending j)) i l, ap (occOf same x) e, occ-hit same x x rest refl)
 
-  -- a degree never rises, so in a run it is at most the number of predecessors; the invariant alone doesn't say so
+  -- a degree never rises, so in a run it is at most the number of predecessors
   module _ (P : ℕ) where
     falls-degree : {x : A} {left : ℕ} {s s′ : State A} → Falls same G P x left s s′ → (a : A) → s′ .degree a ≤ s .degree a
     falls-degree {x} {left} {s} {s′} f a = go (same a x)

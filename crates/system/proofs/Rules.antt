@@ -1,5 +1,5 @@
 -- Runs by a rule of what falls due: the invariant holds in them, and what has fallen due is known from the record.
-use Prim.Native.Nat.{ℕ, _+_}
+use Prim.Native.Nat.{ℕ, _+_, _≤_}
 use mathlib.Core.Path.{_≡_, ap, _∙_}
 use mathlib.Core.List.{List, [], _∷_, _++_}
 use native.Mathlib.Omega.{arith}
@@ -7,11 +7,17 @@ use lib.ListN.{length}
 use Rattle.lists.specs.Lists.{occOf}
 use Rattle.system.specs.System.{Items, Reversed, State, Invariant, Step, fetch, start, complete, lower, place, Begins, Rule, ByRule, Reached, begun, further}
 use Rattle.system.proofs.Kept.{step-keeps, begins-keeps, running-fresh}
+use Rattle.system.proofs.Progress.{begins-few, step-few}
 
 module _ {A : Type 0} (same : Discrete A) (G : Items A) (P : ℕ) (laws : Reversed same G) (rule : Rule A) where
   pub reached-invariant : {s : State A} → Reached same G P rule s → Invariant same G P s
   reached-invariant (begun b) = begins-keeps same G P b
   reached-invariant (further r t e) = step-keeps same G P laws t (reached-invariant r)
+
+  -- no degree is above the number of predecessors; the invariant alone doesn't say so
+  pub reached-few : {s : State A} → Reached same G P rule s → (a : A) → s .degree a ≤ length (G .preds a)
+  reached-few (begun b) = begins-few same G P b
+  reached-few (further r t e) = step-few same G P t (reached-few r)
 
   -- `owed` says of a record how much has fallen due while it came about: an item that joins it adds what the rule says
   module _ (owed : List A → ℕ) (none : owed [] ≡ 0)
