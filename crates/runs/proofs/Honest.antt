@@ -50,8 +50,8 @@ abbrev pub PlainState : Graph → ℕ → system.State ℕ → Type 0
 PlainState g p = system.Reached ℕ-discrete (itemsOf g) p (system.allDue (itemsOf g))
 
 -- the graph and the number of steps are known by other names
-plainly-as : (p : ℕ) (s : State) {g g′ : Graph} {n n′ : ℕ} → g′ ≡ g → n′ ≡ n → PlainState g p (meaning p n s) → PlainState g′ p (meaning p n′ s)
-plainly-as p s e f v = rw (e, f) v
+plain-as : (p : ℕ) (s : State) {g g′ : Graph} {n n′ : ℕ} → g′ ≡ g → n′ ≡ n → PlainState g p (meaning p n s) → PlainState g′ p (meaning p n′ s)
+plain-as p s e f v = rw (e, f) v
 
 pub record Honest (limits : Limits) (p k : ℕ) (m : Mem) : Type 0 where
   pub fits : Fits limits p k m
@@ -74,7 +74,7 @@ module _ (limits : Limits) (p k : ℕ) where
         words = begun-words limits p k m e;
         sane = rw (laid-graph laid) (begun-sane limits p k m e);
         plain =
-            plainly-as p (stateOf p k (begin limits p k m .memory)) (laid-graph laid) (laid-run laid 1) (system.begun (begun-begins limits p k m e));
+            plain-as p (stateOf p k (begin limits p k m .memory)) (laid-graph laid) (laid-run laid 1) (system.begun (begun-begins limits p k m e));
         addsUp = begun-adds-up limits p k m e;
         bounded = begun-bounded limits p k m e;
       }
@@ -115,7 +115,7 @@ module _ (limits : Limits) (p k : ℕ) where
           good = rw (kept .graph .weights, kept .graph .succStarts, kept .graph .succs) (h .good);
           words = step-words limits p k i s m r (h .words);
           sane = rw (same-graph (kept .graph)) (does-sane (graphIn m) p (capacity k) i before after (r .outcome) (h .sane) s does);
-          plain = plainly-as p after (same-graph (kept .graph)) one-more goes-on;
+          plain = plain-as p after (same-graph (kept .graph)) one-more goes-on;
           addsUp = does-adds-up p (capacity k) i before after (r .outcome) (h .sane .shaped) s does (h .addsUp);
           bounded = does-bounded p (capacity k) i before after (r .outcome) (h .sane .shaped) s does (h .bounded);
         }

@@ -1,4 +1,4 @@
--- An unfinished run of an acyclic job goes on: some worker has something to do. And what is known of an item that is in a hand, that waits, or
+-- In an unfinished run of an acyclic job some worker has something to do. And what is known of an item that is in a hand, that waits, or
 -- that is to be released.
 use Prim.Native.Nat.{ℕ, zero, suc, _≤_, _<_}
 use mathlib.Core.Path.{_≡_, refl, ap}
