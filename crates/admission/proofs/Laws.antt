@@ -76,7 +76,7 @@ module _ (sizes : Sizes) (p k : ℕ) (m : Mem) (e : sizesOf m ≡ sizes) where
   others-are = rw (← e) refl
 
   pub lengths-are : (others : Bool) → others ≡ othersFit p k m → eqb (sizes .«pred_starts») (sizes .weights + 1) && others ≡ lengthsFit p k m
-  unfolding lengthsFit
+  unfolding lengthsFit othersFit allFit
   lengths-are others o = rw (o, ← e) refl
 
 passed-to : (b : Bool) (a q : ℕ) → cond b (next.To a) next.Refused ≡ next.To q → (b ≡ true) × (q ≡ a)

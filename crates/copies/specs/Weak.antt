@@ -1,5 +1,6 @@
 -- Weak jobs, the weak dependency of source document 000: a task runs once for each finished predecessor, as a copy, and is complete with its last
--- copy. With this one all its releases fall due.
+-- copy. With this one all its releases fall due. A degree here is the system's, a copy's own: how many copies of its predecessor are still to come,
+-- or that its release is. Document 02's degree is the task's, which counts its copies that are still to be completed.
 use Prim.Native.Nat.{ℕ, suc, _+_}
 use mathlib.Core.Path.{_≡_}
 use mathlib.Core.Bool.{Bool, cond}

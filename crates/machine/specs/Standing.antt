@@ -78,7 +78,7 @@ module _ {M C : Type 0} (on : Machine M C) where
       pub kept : AllKept es
       pub journal : Journal b es m
 
-    -- the laws of one call: all that a machine has to show
+    -- the laws of one call: all that a machine has to show. When a step back is accepted, its own table of refusals says.
     pub record Laws : Type 0 where
       -- what is refused, and what only looks, moves nothing
       pub still : (c : C) (m : M) → acceptedSaid (on .says c m) ≡ false → on .leaves c m ≡ m

@@ -9,9 +9,8 @@ use Rattle.memory.specs.Family.{Family}
 use Rattle.memory.specs.Field.{Field}
 use Rattle.memory.specs.Field as list
 use Rattle.memory.specs.Memory.{Mem, memOf}
-use Rattle.memory.specs.Updates.{Part, hand, pointer, places, withPart, ownPart, storeWords, wordsFrom, Update, store, updated, written, spares, inverse, inverses}
+use Rattle.memory.specs.Updates.{Part, hand, pointer, places, withPart, ownPart, partNumber, RowLaws, storeWords, wordsFrom, Update, store, updated, written, spares, inverse, inverses}
 use Rattle.memory.specs.Shape.{lengthOf, sizesIn, allFit, others}
-use Rattle.memory.proofs.Fields.{RowLaws}
 
 pub record Pair : Type 0 where
   pub first : ℕ
@@ -49,8 +48,24 @@ pairs =
     }
 
 pair-rows : RowLaws pairs
-pair-rows = record { back = back }
+pair-rows = record { found = found; other = other; back = back }
   where
+    found : (v : Part pairs) (r : PairRow) → ownPart v (withPart v r) ≡ v
+    found (hand h) r = refl
+    found (pointer x) r = refl
+    found (places x) r = refl
+
+    other : (v w : Part pairs) (r : PairRow) → ¬ (partNumber v ≡ partNumber w) → ownPart w (withPart v r) ≡ ownPart w r
+    other (hand h) (hand g) r n = absurd (n refl)
+    other (hand h) (pointer x) r n = refl
+    other (hand h) (places x) r n = refl
+    other (pointer x) (hand h) r n = refl
+    other (pointer x) (pointer y) r n = absurd (n refl)
+    other (pointer x) (places y) r n = refl
+    other (places x) (hand h) r n = refl
+    other (places x) (pointer y) r n = refl
+    other (places x) (places y) r n = absurd (n refl)
+
     back : (v : Part pairs) (r : PairRow) → withPart (ownPart v r) (withPart v r) ≡ r
     back (hand h) r = refl
     back (pointer x) r = refl

@@ -18,7 +18,7 @@ use Rattle.memory.specs.Family.{Family}
 use Rattle.memory.specs.Field.{Sort, word, signed, item, ringEnds, entry, row, Field, sortOf, number}
 use Rattle.memory.specs.Field as list
 use Rattle.memory.specs.Memory.{Mem, Cell, ListOf, get, Any, words, signeds, items, records, any, lists, ofLists, put}
-use Rattle.memory.specs.Updates.{Part, Value, storeWords, wordsFrom, withPart, ownPart, storedAt, foundAt, Update, store, updated, written, spares, inverse, inverses}
+use Rattle.memory.specs.Updates.{Value, storeWords, wordsFrom, withPart, ownPart, RowLaws, storedAt, foundAt, Update, store, updated, written, spares, inverse, inverses}
 
 module _ {F : Family} where
   pub get-put : (f : Field) (l : ListOf F f) (m : Mem F) → get f (put f l m) ≡ l
@@ -167,10 +167,6 @@ ends-back l q e =
     rw (set-comm (set l (q * 2) (e .head)) (q * 2 + 1) (q * 2) (e .tail) (getD l (q * 2) 0) (λ h. omega arith))
     (rw (set-set l (q * 2) (e .head) (getD l (q * 2) 0), set-getD l (q * 2) 0)
     (set-set l (q * 2 + 1) (e .tail) (getD l (q * 2 + 1) 0) ∙ set-getD l (q * 2 + 1) 0))
-
--- what a family's rows have to keep: a part put back gives the row
-pub record RowLaws (F : Family) : Type 0 where
-  pub back : (v : Part F) (r : F .Row) → withPart (ownPart v r) (withPart v r) ≡ r
 
 stored-length : (F : Family) (s : Sort) (l : List (Cell F s)) (x : ℕ) (v : Value F s) → length (storedAt F s l x v) ≡ length l
 stored-length F word l x v = length-set l x v

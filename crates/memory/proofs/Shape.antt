@@ -1,8 +1,8 @@
 -- The test of the lengths, and what it says.
-use Prim.Native.Nat.{ℕ, _+_}
+use Prim.Native.Nat.{ℕ, _+_, _*_}
 use mathlib.Core.Path.{_≡_, refl, _∙_}
 use mathlib.Core.Bool.{true}
-use mathlib.Core.List.{List, [], _∷_}
+use mathlib.Core.List.{List, [], _∷_, map}
 use borrow.Author.Tests.{eqb-true, eq-eqb}
 use Rattle.lists.proofs.Told.{and-true}
 use Rattle.memory.specs.Family.{Family}
@@ -12,6 +12,12 @@ use Rattle.memory.specs.Memory.{Mem}
 use Rattle.memory.specs.Shape.{lengthOf, Shaped, sizesIn, allFit, others}
 use Rattle.memory.specs.Updates.{Update, written}
 use Rattle.memory.proofs.Fields.{written-lengths}
+
+-- all figures in one equation, for every P, K, N and E: a wrong one in `lengthOf` is refused here
+lengths-are : (F : Family) (p k n e : ℕ)
+    → map (lengthOf F p k n e) (list.weights ∷ list.predStarts ∷ list.preds ∷ others)
+    ≡ n ∷ (n + 1) ∷ e ∷ (n + 1) ∷ e ∷ n ∷ (p * p * k) ∷ (p * p * 2) ∷ (p * p) ∷ (p * n) ∷ (F .shape .entryWords * F .shape .entries n e) ∷ F .shape .runWords ∷ p ∷ []
+lengths-are F p k n e = refl
 
 module _ (F : Family) (p k : ℕ) (size : Field → ℕ) where
   -- this list has its length
@@ -52,8 +58,8 @@ module _ (F : Family) (p k : ℕ) (size : Field → ℕ) where
       long h list.run = h .1 .1 .1 .1 .1 .1 .1 .1 .0
       long h list.rows = h .1 .1 .1 .1 .1 .1 .1 .1 .1 .0
 
-  pub shaped-fits : Shaped F p k size → allFit F p k size others ≡ true
-  shaped-fits s = each-fit (s .list) others
+  pub shaped-fits : Shaped F p k size → (fs : List Field) → allFit F p k size fs ≡ true
+  shaped-fits s = each-fit (s .list)
 
 -- sizes that agree
 pub shaped-same : (F : Family) (p k : ℕ) (size size′ : Field → ℕ) → ((f : Field) → size′ f ≡ size f) → Shaped F p k size → Shaped F p k size′

@@ -12,7 +12,7 @@ pub record Places : Type 0 where
   pub write : ℕ
   pub cursor : ℕ
 
--- the figures of a family, all that its lists' lengths hang on beside P, K, N and E
+-- the figures of a family: what the lengths of its record and of its run words hang on, and how long its runs are
 pub record Shape : Type 0 where
   -- the words of one entry of the record
   pub entryWords : ℕ

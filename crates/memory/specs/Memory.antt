@@ -27,9 +27,9 @@ pub record Mem (F : Family) : Type 0 where
   pub counters : List ℤ
   -- "Completed buffers P·N."
   pub buffers : List ℕ
-  -- "Execution record 2N (task, worker)."
+  -- "Execution record 2N (task, worker).", of a plain job
   pub executed : List ℕ
-  -- "Two run words: entries recorded, steps accepted."
+  -- "Two run words: entries recorded, steps accepted.", of a plain job
   pub run : List ℕ
   -- "The worker rows are one lent list with a record per worker"
   pub rows : List (F .Row)

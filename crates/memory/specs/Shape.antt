@@ -37,7 +37,7 @@ lengthOf F p k n e list.run = F .shape .runWords
 -- "a record per worker"
 lengthOf F p k n e list.rows = p
 
--- of a list whose length P and K alone decide
+-- of a list whose length P and K alone decide: rings, ends, counters, run words, rows
 abbrev pub fixedLength : Family → (p k : ℕ) → Field → ℕ
 fixedLength F p k f = lengthOf F p k 0 0 f
 

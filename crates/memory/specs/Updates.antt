@@ -1,5 +1,6 @@
 -- What an accepted step writes: a short list of updates, each of one place of one lent list.
 use Prim.Native.Nat.{ℕ, zero, suc, _+_, _*_}
+use mathlib.Core.Path.{_≡_}
 use mathlib.Core.Bool.{Bool, true, not, _&&_}
 use mathlib.Core.List.{List, [], _∷_, _++_}
 use lib.ListN.{getD, set, length}
@@ -17,7 +18,7 @@ pub data Part (F : Family) : Type 0 where
   pointer : ℕ → Part F
   places : Places → Part F
 
--- what is stored at a place
+-- what is stored at a place; of an entry its words, as many as the family's entries have
 abbrev pub Value : Family → Sort → Type 0
 Value F word = ℕ
 Value F signed = ℤ
@@ -47,6 +48,18 @@ module _ {F : Family} where
   ownPart (hand h) r = hand (F .hand r)
   ownPart (pointer x) r = pointer (F .pointer r)
   ownPart (places x) r = places (F .places r)
+
+abbrev pub partNumber : {F : Family} → Part F → ℕ
+partNumber (hand h) = 0
+partNumber (pointer x) = 1
+partNumber (places x) = 2
+
+-- what a family's rows have to show: a part that is written stands there, the other parts stay, and the part that stood there written again gives the
+-- row as it was
+pub record RowLaws (F : Family) : Type 0 where
+  pub found : (v : Part F) (r : F .Row) → ownPart v (withPart v r) ≡ v
+  pub other : (v w : Part F) (r : F .Row) → ¬ (partNumber v ≡ partNumber w) → ownPart w (withPart v r) ≡ ownPart w r
+  pub back : (v : Part F) (r : F .Row) → withPart (ownPart v r) (withPart v r) ≡ r
 
 -- the list once a value is stored at place x
 abbrev pub storedAt : (F : Family) (s : Sort) → List (Cell F s) → ℕ → Value F s → List (Cell F s)

@@ -8,7 +8,7 @@ use native.Mathlib.Omega.{arith}
 use native.Mathlib.Decide.{decLe}
 use lib.ListN.{length}
 use lib.Dec.{eqb}
-use borrow.Author.Tests.{ltb-true, eqb-true, eq-eqb}
+use borrow.Author.Tests.{ltb-true, eqb-true}
 use Rattle.lists.proofs.Apart.{true-and-false}
 use Rattle.lists.proofs.Decided.{stable}
 use Rattle.lists.proofs.Told.{Told, told-true, told-false, told, le-told, lt-told, eq-told, and-told, and-true, told-yes}
@@ -22,7 +22,7 @@ use Rattle.graph.specs.Check.{sizesFit}
 use Rattle.graph.specs.Tables.{Beyond}
 use Rattle.graph.proofs.Refusals.{sizes-told}
 use Rattle.memory.specs.Field as list
-use Rattle.memory.specs.Shape.{sizesIn}
+use Rattle.memory.specs.Shape.{sizesIn, allFit, others}
 use Rattle.memory.proofs.Shape.{fits-shaped, shaped-fits}
 use Rattle.rules.specs.Memory.{plain, Mem, tasks, edges, rowIn}
 use Rattle.rules.specs.Sizes.{KeepsLimits, Lengths, Fits, numbersFit, othersFit, lengthsFit}
@@ -38,18 +38,18 @@ numbers-told limits p k =
 
 module _ (p k : ℕ) (m : Mem) where
   pub lengths-are : lengthsFit p k m ≡ true → Lengths p k m
-  unfolding lengthsFit othersFit
+  unfolding lengthsFit allFit
   lengths-are e =
-      let (a, o) = and-true (eqb (length (m .predStarts)) (tasks m + 1)) (othersFit p k m) e in
+      let (a, o) = and-true (eqb (length (m .predStarts)) (tasks m + 1)) (allFit plain p k (sizesIn m) others) e in
       fits-shaped plain p k (sizesIn m) (eqb-true _ _ a) o
 
   pub others-fit : Lengths p k m → othersFit p k m ≡ true
   unfolding othersFit
-  others-fit l = shaped-fits plain p k (sizesIn m) l
+  others-fit l = shaped-fits plain p k (sizesIn m) l others
 
   lengths-fit : Lengths p k m → lengthsFit p k m ≡ true
   unfolding lengthsFit
-  lengths-fit l = rw (eq-eqb _ _ (l .list list.predStarts), others-fit l)
+  lengths-fit l = shaped-fits plain p k (sizesIn m) l (list.predStarts ∷ others)
 
   pub lengths-told : Told (lengthsFit p k m) (¬ (¬ (Lengths p k m))) (¬ (Lengths p k m))
   lengths-told = told _ (λ e n. n (lengths-are e)) (λ e l. true-and-false (lengths-fit l) e)

@@ -13,6 +13,7 @@ pub mod Numbers
 pub mod Untouched
 pub mod Moves
 pub mod Makes
+pub mod Lengths
 pub mod RowsMade
 pub mod TakenBack
 pub mod Moved

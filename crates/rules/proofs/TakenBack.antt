@@ -1,15 +1,31 @@
--- PROMISE: what a plain step writes is taken back by the inverses of its updates, whatever the memory.
+-- PROMISE: whatever updates a plain memory is written with, their inverses take back. A step's updates are such a list.
 use mathlib.Core.Path.{_≡_, refl}
 use mathlib.Core.List.{List}
 use Rattle.task.specs.declared.Row.{Row}
-use Rattle.memory.specs.Updates.{Part, hand, pointer, places, withPart, ownPart, written, inverses}
-use Rattle.memory.proofs.Fields.{RowLaws, taken-back}
+use Rattle.memory.specs.Updates.{Part, hand, pointer, places, withPart, ownPart, partNumber, RowLaws, written, inverses}
+use Rattle.memory.proofs.Fields.{taken-back}
 use Rattle.rules.specs.Memory.{plain, Mem}
 use Rattle.rules.specs.Updates.{Update}
 
 plain-rows : RowLaws plain
-plain-rows = record { back = back }
+plain-rows = record { found = found; other = other; back = back }
   where
+    found : (v : Part plain) (r : Row) → ownPart v (withPart v r) ≡ v
+    found (hand h) r = refl
+    found (pointer x) r = refl
+    found (places x) r = refl
+
+    other : (v w : Part plain) (r : Row) → ¬ (partNumber v ≡ partNumber w) → ownPart w (withPart v r) ≡ ownPart w r
+    other (hand h) (hand g) r n = absurd (n refl)
+    other (hand h) (pointer x) r n = refl
+    other (hand h) (places x) r n = refl
+    other (pointer x) (hand h) r n = refl
+    other (pointer x) (pointer y) r n = absurd (n refl)
+    other (pointer x) (places y) r n = refl
+    other (places x) (hand h) r n = refl
+    other (places x) (pointer y) r n = refl
+    other (places x) (places y) r n = absurd (n refl)
+
     back : (v : Part plain) (r : Row) → withPart (ownPart v r) (withPart v r) ≡ r
     back (hand h) r = refl
     back (pointer x) r = refl

@@ -1,10 +1,11 @@
 -- The numbers within their limits, and the lengths of the lent lists.
-use Prim.Native.Nat.{ℕ, _+_, _≤_}
+use Prim.Native.Nat.{ℕ, _≤_}
 use mathlib.Core.Bool.{Bool, _&&_}
-use lib.ListN.{length}
-use lib.Dec.{leb, eqb}
+use mathlib.Core.List.{_∷_}
+use lib.Dec.{leb}
 use Rattle.task.specs.Types.{capped}
 use Rattle.task.specs.declared.Limits.{Limits}
+use Rattle.memory.specs.Field as list
 use Rattle.memory.specs.Shape.{Shaped, sizesIn, allFit, others}
 use Rattle.rules.specs.Memory.{plain, Mem, tasks, edges}
 
@@ -17,7 +18,7 @@ pub record KeepsLimits (limits : Limits) (p k n e : ℕ) : Type 0 where
   pub fewTasks : n ≤ capped limits .tasks
   pub fewEdges : e ≤ capped limits .edges
 
--- "Each length is exact.", for P workers and K slots
+-- "Each length is exact.", for P workers and K slots; the figures are `lengthOf`'s, in document 01's words in `lengths-stated`
 abbrev pub Lengths : ℕ → ℕ → Mem → Type 0
 Lengths p k m = Shaped plain p k (sizesIn m)
 
@@ -30,9 +31,9 @@ pub record Fits (own : Limits) (p k : ℕ) (m : Mem) : Type 0 where
 unfoldable pub numbersFit : Limits → ℕ → ℕ → Bool
 numbersFit limits p k = (leb 1 p && leb p (capped limits .workers)) && (leb 2 k && leb k (capped limits .slots))
 
--- the lists beside weights, predecessors and predecessor starts have their lengths, which begin tests with the graph's check
+-- the lists behind the tables that begin is lent filled have their lengths, which begin tests with the graph's check
 unfoldable pub othersFit : ℕ → ℕ → Mem → Bool
 othersFit p k m = allFit plain p k (sizesIn m) others
 
 unfoldable pub lengthsFit : ℕ → ℕ → Mem → Bool
-lengthsFit p k m = eqb (length (m .predStarts)) (tasks m + 1) && othersFit p k m
+lengthsFit p k m = allFit plain p k (sizesIn m) (list.predStarts ∷ others)
