@@ -164,10 +164,10 @@ fn lines(files: &[PathBuf]) -> usize {
 fn what_is_counted() {
     let counts = [
         ("7,400 lines of code", 7_400, lines(&files("src", "rt"))),
-        ("5,800 lines of definitions", 5_800, lines(&files("specs", "antt"))),
-        ("41,500 lines of proof", 41_500, lines(&files("proofs", "antt"))),
-        ("about 240 wrong programs", 240, files("must-fail", "edit").len()),
-        ("about 66 crates", 66, entries(&file("crates")).len()),
+        ("6,600 lines of definitions", 6_600, lines(&files("specs", "antt"))),
+        ("44,000 lines of proof", 44_000, lines(&files("proofs", "antt"))),
+        ("about 250 wrong programs", 250, files("must-fail", "edit").len()),
+        ("about 69 crates", 69, entries(&file("crates")).len()),
     ];
     let page = text(FRONT);
     for (told, about, counted) in counts {
