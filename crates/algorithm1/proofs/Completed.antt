@@ -6,6 +6,7 @@ use native.Mathlib.Omega.{arith}
 use borrow.Author.Tests.{le-leb}
 use lib.ListN.{length, getD, set, length-set}
 use lib.Seq.{getD-set-same, getD-set-other}
+use lib.IntN.{ℤ, pos, _-ℤ_}
 use Rattle.lists.proofs.Blocks.{tabulate-same, tabulate-snoc}
 use Rattle.lists.proofs.Places.{place-lt, place-same}
 use Rattle.task.specs.Types.{nil, idle}
@@ -18,16 +19,16 @@ use Rattle.ring.specs.Ring.{capacity}
 use Rattle.memory.specs.Field as list
 use Rattle.memory.specs.Updates.{storeWords, updated, written}
 use Rattle.memory.proofs.Fields.{set-again}
-use Rattle.rules.specs.Memory.{Mem, tasks, succCount, bufferAt, rowIn, withHand, withPlaces, held, entriesIn}
+use Rattle.rules.specs.Memory.{Mem, tasks, ringNumber, counterIn, weightIn, succCount, bufferAt, rowIn, withHand, withPlaces, held, entriesIn}
 use Rattle.rules.specs.Sizes.{Fits}
 use Rattle.rules.specs.Updates.{Update, putAccepted}
 use Rattle.rules.specs.Moves as moves
 use Rattle.rules.specs.Moves.{sink, inner, Completing}
 use Rattle.algorithm1.specs.State.{successorsOf, threadOf}
-use Rattle.algorithm1.specs.Algorithm.{withThread, withEntry, buffered, completed, Lines}
+use Rattle.algorithm1.specs.Algorithm.{withThread, takeWeight, withEntry, buffered, completed, Lines}
 use Rattle.algorithm1.specs.Reading.{bufferIn, threadIn, entryIn, recordIn, successorsIn, stateOf}
 use Rattle.algorithm1.proofs.Readings.{state-same, successors-at, thread-at, length-successors, phase-at}
-use Rattle.algorithm1.proofs.Memories.{bufferFrom, places-fit, memAfter, SameBuffer, threads-after}
+use Rattle.algorithm1.proofs.Memories.{bufferFrom, places-fit, memAfter, SameBuffer, threads-after, counters-put}
 
 -- what Complete puts in the buffer, told from the number of successors
 buffered-none : (l : List ℕ) (t : ℕ) (b : List ℕ) → _≡_ {A = ℕ} (length l) 0 → buffered l t b ≡ b
@@ -48,14 +49,18 @@ module _ (limits : Limits) (p k i : ℕ) (m : Mem) (fits : Fits limits p k m) (w
   abbrev write : ℕ
   write = rowIn m i .write
 
+  -- the counters once the weight has left
+  abbrev lowered : List ℤ
+  lowered = set (m .counters) (ringNumber p i i) (counterIn m (ringNumber p i i) -ℤ pos (weightIn m task))
+
   -- the memory after a Complete, with these buffers and this write place of the worker, whose hand is empty
   abbrev next : List ℕ → ℕ → Mem
   next buffers end =
-      memAfter m i (withHand 0 nil (withPlaces read end (rowIn m i .cursor) (rowIn m i))) (m .degrees) (m .rings) (m .ends) (m .counters) buffers
+      memAfter m i (withHand 0 nil (withPlaces read end (rowIn m i .cursor) (rowIn m i))) (m .degrees) (m .rings) (m .ends) lowered buffers
       (set (set (m .executed) (2 * entriesIn m) task) (2 * entriesIn m + 1) i)
       (set (set (m .run) 1 n) 0 (entriesIn m + 1))
 
-  module _ (common : Completing i m) where
+  module _ (common : Completing p i m) where
     successor-count : length (successorsIn m task) ≡ succCount m task
     successor-count = length-successors m task (fits .lengths .list list.succs) (common .task)
 
@@ -104,15 +109,17 @@ module _ (limits : Limits) (p k i : ℕ) (m : Mem) (fits : Fits limits p k m) (w
           → ((h : ℕ) → ¬ (h ≡ i) → SameBuffer m buffers h)
           → stateOf p k m′
           ≡ withThread i (completed (successorsOf (stateOf p k m) (threadOf (stateOf p k m) i .held)) (threadOf (stateOf p k m) i))
-          (withEntry (threadOf (stateOf p k m) i .held) i (stateOf p k m))
+          (takeWeight i i (threadOf (stateOf p k m) i .held) (withEntry (threadOf (stateOf p k m) i .held) i (stateOf p k m)))
       unfolding stateOf threadIn
       state-completes joins kept =
           rw (thread-at p k m i worker, successors-at p k m task (common .task .below))
-          (state-same refl refl refl refl refl
+          (state-same refl refl refl refl
+          -- line 16: "W_i = W_i − w_T′"
+          (counters-put p i i worker worker k m (fits .lengths) (λ c. c -ℤ pos (weightIn m task)))
           (threads-after p k i m worker (fits .lengths) _ _ _ _ _ _ _ _ kept ∙ rw joins)
           record-joins)
 
-  pub complete-does : (o : StepOutcome) (us : List Update) → rowIn m i .phase ≡ suits Complete → moves.Completes i m o us
+  pub complete-does : (o : StepOutcome) (us : List Update) → rowIn m i .phase ≡ suits Complete → moves.Completes p i m o us
       → Lines p (capacity k) i Complete (stateOf p k m) (stateOf p k (written (putAccepted n ∷ us) m)) o
   unfolding written updated storeWords bufferIn
   -- the row keeps its places, whatever they are

@@ -90,13 +90,21 @@ pub record Examples : Type 0 where
       ((pos 5 ∷ pos 0 ∷ []) ∷ (pos 3 ∷ pos 0 ∷ []) ∷ [])
       (resting [] 0 1 ∷ resting [] 0 0 ∷ [])
       (entryOf 0 0 ∷ [])
-  -- worker 1 fetches task 2: "The weight leaves counter (i, i), which may go below zero.", so (1, 1) and not (1, 0)
+  -- worker 1 fetches task 2: no counter changes
   pub fetches : afterTurns 10 (fresh 2 4 diamond)
       ≡ diamondState (0 ∷ 0 ∷ 0 ∷ 2 ∷ [])
       (((1 ∷ []) ∷ [] ∷ []) ∷ ([] ∷ [] ∷ []) ∷ [])
-      ((pos 5 ∷ pos 0 ∷ []) ∷ (pos 3 ∷ negsuc 2 ∷ []) ∷ [])
+      ((pos 5 ∷ pos 0 ∷ []) ∷ (pos 3 ∷ pos 0 ∷ []) ∷ [])
       (resting [] 0 1 ∷ threadWith [] 0 1 2 1 ∷ [])
       (entryOf 0 0 ∷ [])
+  -- it completes task 2 while worker 0 runs task 1: "the weight leaves counter (i, i) at Complete", which "may go below zero", so (1, 1) and not
+  -- (1, 0)
+  pub leaves : afterTurns 14 (fresh 2 4 diamond)
+      ≡ diamondState (0 ∷ 0 ∷ 0 ∷ 2 ∷ [])
+      (([] ∷ [] ∷ []) ∷ ([] ∷ [] ∷ []) ∷ [])
+      ((pos 5 ∷ pos 0 ∷ []) ∷ (pos 3 ∷ negsuc 2 ∷ []) ∷ [])
+      (threadWith [] 0 2 1 1 ∷ resting (2 ∷ []) 0 1 ∷ [])
+      (entryOf 0 0 ∷ entryOf 2 1 ∷ [])
   -- the end: "`0 0`, `2 1`, `1 0`, `3 0`"; no degree, no circular list, no buffer has anything left
   pub ends : deskState (deskRun (fresh 2 4 diamond))
       ≡ diamondState (0 ∷ 0 ∷ 0 ∷ 0 ∷ [])
@@ -134,6 +142,7 @@ examples =
       places = ap (afterTurns 7) (desk.examples .laidOut);
       placesNext = ap (afterTurns 9) (desk.examples .laidOut);
       fetches = ap (afterTurns 10) (desk.examples .laidOut);
+      leaves = ap (afterTurns 14) (desk.examples .laidOut);
       ends = ap deskState (desk.examples .whole);
       damagedEnds = refl;
       damagedWrite = refl;

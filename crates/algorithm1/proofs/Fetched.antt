@@ -2,7 +2,6 @@
 use Prim.Native.Nat.{ℕ, _+_, _%_, _<_}
 use mathlib.Core.Path.{_≡_, refl, sym, ap, _∙_}
 use mathlib.Core.List.{List, [], _∷_}
-use lib.IntN.{pos, _-ℤ_}
 use Rattle.lists.specs.Squares.{square, withCell}
 use Rattle.lists.specs.Circles.{after}
 use Rattle.task.specs.Types.{idle}
@@ -14,7 +13,7 @@ use Rattle.ring.specs.Ring.{capacity, Empty, Rings, ringsOf, headOn, queue, tak
 use Rattle.ring.proofs.Queues.{queue-empty, queue-take, queue-take-other}
 use Rattle.memory.specs.Updates.{updated, written}
 use Rattle.memory.proofs.Fields.{set-again}
-use Rattle.rules.specs.Memory.{Mem, ringNumber, endsIn, ringsIn, weightIn, rowIn, pointerIn, withHand, withPointer}
+use Rattle.rules.specs.Memory.{Mem, ringNumber, endsIn, ringsIn, rowIn, pointerIn, withHand, withPointer}
 use Rattle.rules.specs.Sizes.{Fits}
 use Rattle.rules.specs.Updates.{Update, putAccepted}
 use Rattle.rules.specs.Moves as moves
@@ -22,7 +21,7 @@ use Rattle.algorithm1.specs.State.{State, queueOf, threadOf}
 use Rattle.algorithm1.specs.Algorithm.{First, Lines}
 use Rattle.algorithm1.specs.Reading.{bufferIn, threadIn, stateOf}
 use Rattle.algorithm1.proofs.Readings.{state-same, queue-at, thread-at, phase-at}
-use Rattle.algorithm1.proofs.Memories.{state-after, rings-put, ends-room, counters-put, stops-first, first-lt}
+use Rattle.algorithm1.proofs.Memories.{state-after, rings-put, ends-room, stops-first, first-lt}
 
 module _ (limits : Limits) (p k i : ℕ) (m : Mem) (fits : Fits limits p k m) (worker : i < p) (n : ℕ) where
   abbrev before : State
@@ -98,9 +97,6 @@ module _ (limits : Limits) (p k i : ℕ) (m : Mem) (fits : Fits limits p k m) (w
               thread-at p k m i worker,
             )
             (state-after p k i m worker (fits .lengths) _ _ _ _ _ n
-            ∙ state-same refl refl refl (queues o us f)
-            -- line 16: "W_i = W_i − w_T′"
-            (counters-put p i i worker worker k m (fits .lengths) (λ c. c -ℤ pos (weightIn m (f .task))))
-            refl refl);
+            ∙ state-same refl refl refl (queues o us f) refl refl refl);
         outcome = f .outcome;
       })

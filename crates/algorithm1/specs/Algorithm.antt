@@ -1,6 +1,7 @@
 -- Algorithm 1 of source document 001, "A Sample Implementation of Collaborative Scheduling", on the split lists and counters of its section 5.1: one step
 -- of one thread at a time, from state s to state s′ with outcome o; P threads, Thread i. Line numbers are the algorithm's, 1 to 19 (some prints of
--- the paper count on from 91). Its open points are as document 01 settles them, whose sentences stand beside the definitions. What the paper
+-- the paper count on from 91). Its open points are as document 01 settles them, whose sentences stand beside the definitions; line 16 stands at
+-- Complete, as document 02's No. 3 has it. What the paper
 -- leaves to a choice, which list and which thread, is stated by the property of what is chosen.
 -- Lines without a counterpart here: 1 and 2 are begin's; 3, 4, 18 and 19 run the threads, and 5 and 14 say when a thread releases: "the host serialises its
 -- machines" and chooses, since Release and Fetch both suit phase 0, and "the threshold on the completed buffer" is left out. That a ready task leaves the global task list
@@ -68,11 +69,12 @@ pub record Fetches (p i : ℕ) (s s′ : State) (o : StepOutcome) : Type 0 where
   pub task : ℕ
   pub rest : List ℕ
   pub head : queueOf s i list ≡ task ∷ rest
-  -- line 16: "W_i = W_i − w_T′"; "Thread i must update W_i^i when it fetches a task from any circular list"
-  pub after : s′ ≡ withThread i (holding p list task (threadOf s i)) (takeWeight i i task (withQueue i list rest s))
+  -- line 16 stands at Complete: "Algorithm 1 is compared with its subtraction moved there" (document 02, No. 3)
+  pub after : s′ ≡ withThread i (holding p list task (threadOf s i)) (withQueue i list rest s)
   pub outcome : o ≡ Fetched (record { 0 = task })
 
--- {Execute module}: document 01's Start and Complete are the two ends of line 17, "execute T′". Start moves "the phase alone".
+-- {Execute module}: document 01's Start and Complete are the two ends of line 17, "execute T′"; Complete has line 16 too. Start moves "the phase
+-- alone".
 abbrev pub executing : {A : Type 0} → items.Thread A → items.Thread A
 executing r = threadWith (r .buffer) (r .cursor) 2 (r .held) (r .pointer)
 
@@ -99,8 +101,11 @@ withEntry t i s = stateWith (s .weights) (s .successors) (s .degrees) (s .queues
 pub record Completes (i : ℕ) (s s′ : State) (o : StepOutcome) : Type 0 where
   -- "Complete 2→0"
   pub phase : _≡_ {A = ℕ} (threadOf s i .phase) 2
+  -- line 16: "W_i = W_i − w_T′", moved here from Fetch: "From now on the weight leaves counter (i, i) at Complete." It is still Thread i that updates
+  -- W_i^i, whichever circular list the task came from
   pub after : s′
-      ≡ withThread i (completed (successorsOf s (threadOf s i .held)) (threadOf s i)) (withEntry (threadOf s i .held) i s)
+      ≡ withThread i (completed (successorsOf s (threadOf s i .held)) (threadOf s i))
+      (takeWeight i i (threadOf s i .held) (withEntry (threadOf s i .held) i s))
   pub outcome : o ≡ Moved
 
 -- {Completed Task ID buffer & Allocate module}

@@ -1,5 +1,5 @@
 -- PROMISE: "Every accepted step does what Algorithm 1 of source document 001 does with its split lists and counters, its open points settled in document
--- 01: same target, same queue, same task taken."
+-- 01: same target, same queue, same task taken.", and with its subtraction (line 16) moved to Complete (document 02, No. 3).
 use Prim.Native.Nat.{ℕ}
 use mathlib.Core.Path.{_≡_}
 use Rattle.task.specs.Refusals.{Said, outcomeSays, stepSays}

@@ -6,7 +6,7 @@ use mathlib.Core.Bool.{true}
 use mathlib.Core.List.{List, [], _∷_}
 use native.Mathlib.Decide.{ℕ-discrete, decLe, decLt}
 use lib.ListN.{length, drop, replicate}
-use lib.IntN.{pos, negsuc}
+use lib.IntN.{ℤ, pos, negsuc}
 use Rattle.lists.specs.Decided.{firstBelow}
 use Rattle.lists.specs.Lists.{occOf, joined, tabulate, allOf}
 use Rattle.lists.specs.Sums.{sumTo, sumToZ}
@@ -26,11 +26,12 @@ use Rattle.ring.specs.Ring.{capacity, slotAt, endsAt, storeEnds, sound, empty, 
 use Rattle.choice.specs.Least.{load, leastFrom, least}
 use Rattle.choice.specs.Search.{search}
 use Rattle.memory.specs.Shape.{allFit}
-use Rattle.memory.specs.Updates.{storeWords, updated, written}
+use Rattle.memory.specs.Field as list
+use Rattle.memory.specs.Updates.{storeWords, store, updated, written}
 use Rattle.rules.specs.Memory.{Mem, memOf, allSteps, allEntries, entriesIn, acceptedIn}
 use Rattle.rules.specs.Sizes.{numbersFit, othersFit, lengthsFit}
 use Rattle.rules.specs.Words.{countersFit}
-use Rattle.rules.specs.Updates.{putEnds, putEntries, putHand}
+use Rattle.rules.specs.Updates.{putEnds, putCounter, putEntries, putHand}
 use Rattle.rules.specs.Plans.{counted, Result, carriedOut}
 use Rattle.rules.specs.Steps.{scan, fetchTask, fetchFrom, fetchRule, startRule, completeSink, completeInner, completeRule, advanced, findRoom, releaseTo, releaseReady, releaseWaiting, releaseRule, ruleOf, stepPlan, step}
 use Rattle.rules.specs.Begin.{cleared, rootsPlaced, begun, rootsAnswer, beginAnswer, begin}
@@ -185,7 +186,7 @@ pub record Examples : Type 0 where
       (by 0 Fetch ∷ by 1 Fetch ∷ [])
       (taskFetched 0 ∷ taskFetched 1 ∷ [])
       (memOf (4 ∷ 9 ∷ []) (0 ∷ 0 ∷ 0 ∷ []) [] (0 ∷ 0 ∷ 0 ∷ []) [] (0 ∷ 0 ∷ [])
-      (0 ∷ 0 ∷ 0 ∷ 0 ∷ 0 ∷ 0 ∷ 1 ∷ 0 ∷ []) (1 ∷ 1 ∷ 0 ∷ 0 ∷ 0 ∷ 0 ∷ 1 ∷ 1 ∷ []) (pos 0 ∷ pos 0 ∷ pos 0 ∷ pos 0 ∷ [])
+      (0 ∷ 0 ∷ 0 ∷ 0 ∷ 0 ∷ 0 ∷ 1 ∷ 0 ∷ []) (1 ∷ 1 ∷ 0 ∷ 0 ∷ 0 ∷ 0 ∷ 1 ∷ 1 ∷ []) (pos 4 ∷ pos 0 ∷ pos 0 ∷ pos 9 ∷ [])
       (0 ∷ 0 ∷ 0 ∷ 0 ∷ []) (0 ∷ 0 ∷ 0 ∷ 0 ∷ []) (0 ∷ 2 ∷ []) (rowOf 1 0 1 0 0 0 ∷ rowOf 1 1 0 0 0 0 ∷ []))
   pub firstRoot : stepSays (step engine 2 2 0 Fetch (fresh 2 2 twoRoots) .answer) ≡ taskFetched 0
   pub secondRoot : stepSays (step engine 2 2 1 Fetch (step engine 2 2 0 Fetch (fresh 2 2 twoRoots) .memory) .answer) ≡ taskFetched 1
@@ -248,18 +249,42 @@ examples =
       steps = record { begins = refl; answered = refl; leaves = refl };
     }
 
+-- begin's words with counter (0, 0) forged, and with task 0's weight forged
+abbrev pub counterOf : ℤ → Mem
+counterOf c = written (putCounter 0 c ∷ []) (fresh 2 2 single)
+
+abbrev pub badCounter : Mem
+badCounter = counterOf (pos 1073741825)
+
+abbrev pub heavy : Mem
+heavy = written (store list.weights 0 65536 ∷ []) (fresh 2 2 single)
+
 -- Further runs, made to show a mistake in a definition that a rule and the statements about it share.
 pub record FurtherExamples : Type 0 where
+  -- the operators' case, edge 1→2: worker 0 has just taken an hour's work, so the new tile goes to worker 1
+  pub longTile : answers 2 2 (by 0 Fetch ∷ by 1 Fetch ∷ by 1 Start ∷ by 1 Complete ∷ by 1 Release ∷ [])
+      (fresh 2 2 (lent 2 2 (60 ∷ 1 ∷ 1 ∷ []) (0 ∷ 0 ∷ 0 ∷ 1 ∷ []) (1 ∷ [])))
+      ≡ taskFetched 0 ∷ taskFetched 1 ∷ accepted ∷ accepted ∷ taskPlaced 2 1 ∷ []
+  -- Fetch reads neither weight nor counter: what is damaged there is met at Complete
+  pub counterLater : answers 2 2 (by 0 Fetch ∷ by 0 Start ∷ by 0 Complete ∷ []) badCounter ≡ taskFetched 0 ∷ accepted ∷ refused 8 0 ∷ []
+  pub weightLater : answers 2 2 (by 0 Fetch ∷ by 0 Start ∷ by 0 Complete ∷ []) heavy ≡ taskFetched 0 ∷ accepted ∷ refused 8 0 ∷ []
+  -- a counter of −2^30 is in its range, and what it becomes isn't judged; one below is damaged
+  pub atTheLimit : memoryAfter 2 2 (by 0 Fetch ∷ by 0 Start ∷ by 0 Complete ∷ []) (counterOf (negsuc 1073741823)) .counters
+      ≡ negsuc 1073741824 ∷ pos 0 ∷ pos 0 ∷ pos 0 ∷ []
+  pub belowTheLimit : answers 2 2 (by 0 Fetch ∷ by 0 Start ∷ by 0 Complete ∷ []) (counterOf (negsuc 1073741824))
+      ≡ taskFetched 0 ∷ accepted ∷ refused 8 0 ∷ []
+  -- "Complete meets 12 before its other words"
+  pub fullFirst : says 2 2 (by 0 Complete) (written (putEntries 1 ∷ putHand 0 2 0 ∷ []) badCounter) ≡ refused 12 0
   -- a fan, edges 0→1, 0→2, 0→3: the second Release goes to the next owner, since the target's ring is full, and "The weight joins the
   -- counter of the ring really used."; the third finds both rings full until worker 1 has fetched; that worker's "counter (i, i)" goes
-  -- below zero and further
+  -- below zero when it completes
   pub fan : Runs 2 2 (lent 2 2 (0 ∷ 0 ∷ 5 ∷ 1 ∷ []) (0 ∷ 0 ∷ 1 ∷ 2 ∷ 3 ∷ []) (0 ∷ 0 ∷ 0 ∷ []))
       (by 0 Fetch ∷ by 0 Start ∷ by 0 Complete ∷ by 0 Release ∷ by 0 Release ∷ by 0 Release ∷ by 1 Fetch ∷ by 0 Release ∷ by 1 Start
       ∷ by 1 Complete ∷ by 0 Fetch ∷ by 0 Release ∷ by 1 Fetch ∷ [])
       (taskFetched 0 ∷ accepted ∷ accepted ∷ taskPlaced 1 0 ∷ taskPlaced 2 1 ∷ refused 11 3 ∷ taskFetched 2 ∷ taskPlaced 3 1
       ∷ accepted ∷ accepted ∷ taskFetched 1 ∷ refused 9 1 ∷ taskFetched 3 ∷ [])
       (memOf (0 ∷ 0 ∷ 5 ∷ 1 ∷ []) (0 ∷ 0 ∷ 1 ∷ 2 ∷ 3 ∷ []) (0 ∷ 0 ∷ 0 ∷ []) (0 ∷ 3 ∷ 3 ∷ 3 ∷ 3 ∷ []) (1 ∷ 2 ∷ 3 ∷ []) (0 ∷ 0 ∷ 0 ∷ 0 ∷ [])
-      (0 ∷ 1 ∷ 0 ∷ 0 ∷ 2 ∷ 3 ∷ 0 ∷ 0 ∷ []) (0 ∷ 0 ∷ 0 ∷ 0 ∷ 0 ∷ 0 ∷ 0 ∷ 0 ∷ []) (pos 0 ∷ pos 0 ∷ pos 6 ∷ negsuc 5 ∷ [])
+      (0 ∷ 1 ∷ 0 ∷ 0 ∷ 2 ∷ 3 ∷ 0 ∷ 0 ∷ []) (0 ∷ 0 ∷ 0 ∷ 0 ∷ 0 ∷ 0 ∷ 0 ∷ 0 ∷ []) (pos 0 ∷ pos 0 ∷ pos 6 ∷ negsuc 4 ∷ [])
       (0 ∷ 0 ∷ 0 ∷ 0 ∷ 0 ∷ 0 ∷ 0 ∷ 0 ∷ []) (0 ∷ 0 ∷ 2 ∷ 1 ∷ 0 ∷ 0 ∷ 0 ∷ 0 ∷ []) (2 ∷ 11 ∷ [])
       (rowOf 1 1 1 1 1 0 ∷ rowOf 1 3 1 0 0 0 ∷ []))
   -- worker 1's buffer begins at N, where N and E differ
@@ -267,14 +292,14 @@ pub record FurtherExamples : Type 0 where
       (by 1 Fetch ∷ by 1 Start ∷ by 1 Complete ∷ by 1 Release ∷ by 1 Fetch ∷ [])
       (taskFetched 1 ∷ accepted ∷ accepted ∷ taskPlaced 2 1 ∷ taskFetched 2 ∷ [])
       (memOf (1 ∷ 1 ∷ 1 ∷ []) (0 ∷ 0 ∷ 0 ∷ 1 ∷ []) (1 ∷ []) (0 ∷ 0 ∷ 1 ∷ 1 ∷ []) (2 ∷ []) (0 ∷ 0 ∷ 0 ∷ [])
-      (0 ∷ 0 ∷ 0 ∷ 0 ∷ 0 ∷ 0 ∷ 1 ∷ 2 ∷ []) (0 ∷ 1 ∷ 0 ∷ 0 ∷ 0 ∷ 0 ∷ 0 ∷ 0 ∷ []) (pos 1 ∷ pos 0 ∷ pos 0 ∷ pos 0 ∷ [])
+      (0 ∷ 0 ∷ 0 ∷ 0 ∷ 0 ∷ 0 ∷ 1 ∷ 2 ∷ []) (0 ∷ 1 ∷ 0 ∷ 0 ∷ 0 ∷ 0 ∷ 0 ∷ 0 ∷ []) (pos 1 ∷ pos 0 ∷ pos 0 ∷ pos 1 ∷ [])
       (0 ∷ 0 ∷ 0 ∷ 1 ∷ 0 ∷ 0 ∷ []) (1 ∷ 1 ∷ 0 ∷ 0 ∷ 0 ∷ 0 ∷ []) (1 ∷ 5 ∷ []) (rowOf 0 65535 0 0 0 0 ∷ rowOf 1 2 0 1 1 0 ∷ []))
   -- two tasks in a buffer: the oldest is released first
   pub twoBuffered : Runs 2 3 (lent 2 3 (replicate 6 1) (0 ∷ 0 ∷ 0 ∷ 0 ∷ 0 ∷ 1 ∷ 2 ∷ []) (1 ∷ 3 ∷ []))
       (by 1 Fetch ∷ by 1 Start ∷ by 1 Complete ∷ by 1 Fetch ∷ by 1 Start ∷ by 1 Complete ∷ by 1 Release ∷ by 1 Release ∷ by 1 Fetch ∷ [])
       (taskFetched 1 ∷ accepted ∷ accepted ∷ taskFetched 3 ∷ accepted ∷ accepted ∷ taskPlaced 4 1 ∷ taskPlaced 5 1 ∷ taskFetched 4 ∷ [])
       (memOf (replicate 6 1) (0 ∷ 0 ∷ 0 ∷ 0 ∷ 0 ∷ 1 ∷ 2 ∷ []) (1 ∷ 3 ∷ []) (0 ∷ 0 ∷ 1 ∷ 1 ∷ 2 ∷ 2 ∷ 2 ∷ []) (4 ∷ 5 ∷ []) (replicate 6 0)
-      (0 ∷ 2 ∷ 0 ∷ 0 ∷ 0 ∷ 0 ∷ 0 ∷ 0 ∷ 0 ∷ 5 ∷ 3 ∷ 4 ∷ []) (0 ∷ 2 ∷ 0 ∷ 0 ∷ 0 ∷ 0 ∷ 0 ∷ 1 ∷ []) (pos 2 ∷ pos 0 ∷ pos 0 ∷ pos 1 ∷ [])
+      (0 ∷ 2 ∷ 0 ∷ 0 ∷ 0 ∷ 0 ∷ 0 ∷ 0 ∷ 0 ∷ 5 ∷ 3 ∷ 4 ∷ []) (0 ∷ 2 ∷ 0 ∷ 0 ∷ 0 ∷ 0 ∷ 0 ∷ 1 ∷ []) (pos 2 ∷ pos 0 ∷ pos 0 ∷ pos 2 ∷ [])
       (0 ∷ 0 ∷ 0 ∷ 0 ∷ 0 ∷ 0 ∷ 1 ∷ 3 ∷ 0 ∷ 0 ∷ 0 ∷ 0 ∷ []) (1 ∷ 1 ∷ 3 ∷ 1 ∷ 0 ∷ 0 ∷ 0 ∷ 0 ∷ 0 ∷ 0 ∷ 0 ∷ 0 ∷ []) (2 ∷ 9 ∷ [])
       (rowOf 0 65535 0 0 0 0 ∷ rowOf 1 4 0 2 2 0 ∷ []))
   -- the second successor of the second task in the table, edges 0→1, 1→2, 1→3
@@ -299,7 +324,8 @@ pub record FurtherExamples : Type 0 where
       (taskFetched 2 ∷ accepted ∷ accepted ∷ taskPlaced 3 0 ∷ taskPlaced 4 1 ∷ taskPlaced 5 2 ∷ taskFetched 1 ∷ [])
       (memOf (0 ∷ 9 ∷ 0 ∷ 0 ∷ 0 ∷ 0 ∷ []) (0 ∷ 0 ∷ 0 ∷ 0 ∷ 1 ∷ 2 ∷ 3 ∷ []) (2 ∷ 2 ∷ 2 ∷ []) (0 ∷ 0 ∷ 0 ∷ 3 ∷ 3 ∷ 3 ∷ 3 ∷ []) (3 ∷ 4 ∷ 5 ∷ [])
       (replicate 6 0) (0 ∷ 0 ∷ 0 ∷ 0 ∷ 3 ∷ 0 ∷ 0 ∷ 0 ∷ 1 ∷ 0 ∷ 4 ∷ 0 ∷ 0 ∷ 0 ∷ 0 ∷ 0 ∷ 2 ∷ 5 ∷ [])
-      (0 ∷ 1 ∷ 0 ∷ 0 ∷ 0 ∷ 1 ∷ 0 ∷ 0 ∷ 1 ∷ 1 ∷ 0 ∷ 1 ∷ 0 ∷ 0 ∷ 0 ∷ 0 ∷ 1 ∷ 0 ∷ []) (replicate 9 (pos 0))
+      (0 ∷ 1 ∷ 0 ∷ 0 ∷ 0 ∷ 1 ∷ 0 ∷ 0 ∷ 1 ∷ 1 ∷ 0 ∷ 1 ∷ 0 ∷ 0 ∷ 0 ∷ 0 ∷ 1 ∷ 0 ∷ [])
+      (pos 0 ∷ pos 0 ∷ pos 0 ∷ pos 0 ∷ pos 9 ∷ pos 0 ∷ pos 0 ∷ pos 0 ∷ pos 0 ∷ [])
       (0 ∷ 0 ∷ 0 ∷ 0 ∷ 0 ∷ 0 ∷ 0 ∷ 0 ∷ 0 ∷ 0 ∷ 0 ∷ 0 ∷ 2 ∷ 0 ∷ 0 ∷ 0 ∷ 0 ∷ 0 ∷ []) (2 ∷ 2 ∷ 0 ∷ 0 ∷ 0 ∷ 0 ∷ 0 ∷ 0 ∷ 0 ∷ 0 ∷ 0 ∷ 0 ∷ []) (1 ∷ 7 ∷ [])
       (rowOf 0 65535 0 0 0 0 ∷ rowOf 1 1 2 0 0 0 ∷ rowOf 0 65535 0 1 1 0 ∷ []))
 
@@ -307,6 +333,12 @@ pub further : FurtherExamples
 unfolding ℕ-discrete decLe decLt firstBelow occOf joined tabulate allOf sumTo after around capped nextPhase part sizesFit firstBad firstTwice firstOnCycle tablesAnswer checkAnswer below? among? light? good? bad? endsFit? twice? twiceIn? find-twice edge? thru? path? leads? onCycle? succsBelow succStart succStarts succWords degreeList roots capacity slotAt endsAt storeEnds sound empty full headOn tailOn sumToZ load leastFrom least search allSteps allEntries numbersFit allFit othersFit lengthsFit countersFit storeWords updated written counted carriedOut scan fetchTask fetchFrom fetchRule startRule completeSink completeInner completeRule advanced findRoom releaseTo releaseReady releaseWaiting releaseRule ruleOf stepPlan step cleared rootsPlaced begun rootsAnswer beginAnswer begin turn turns deskRun memoryAfter answers
 further =
     record {
+      longTile = refl;
+      counterLater = refl;
+      weightLater = refl;
+      atTheLimit = refl;
+      belowTheLimit = refl;
+      fullFirst = refl;
       fan = record { begins = refl; answered = refl; leaves = refl };
       ownBuffer = record { begins = refl; answered = refl; leaves = refl };
       twoBuffered = record { begins = refl; answered = refl; leaves = refl };

@@ -2,17 +2,16 @@
 use Prim.Native.Nat.{ℕ, _+_, _%_}
 use mathlib.Core.Path.{_≡_, sym, ap, _∙_}
 use lib.ListN.{drop}
-use Rattle.lists.proofs.Told.{le-told, lt-told, only-told}
+use Rattle.lists.proofs.Told.{lt-told, only-told}
 use Rattle.task.specs.Refusals.{damaged, nothingThere}
 use Rattle.ring.specs.Ring.{Empty, empty}
 use Rattle.ring.proofs.Ends.{empty-told}
 use Rattle.choice.specs.Search.{Found, unsound, none, at}
-use Rattle.rules.specs.Memory.{Mem, tasks, ringNumber, endsIn, headWord, counterIn, weightIn, pointerIn}
+use Rattle.rules.specs.Memory.{Mem, tasks, ringNumber, endsIn, headWord, pointerIn}
 use Rattle.rules.specs.Steps.{scan, fetchTask, fetchFrom, fetchRule}
 use Rattle.rules.specs.Tables.{StopsAt, scanned, scannedEnds, NextTask, fetchRows}
 use Rattle.rules.proofs.Plans.{PlanFollows, given-row, passed-row, checked-row, counted-row}
 use Rattle.rules.proofs.Searches.{Looked, stop-unique, all-not-bad, stop-not-bad, stop-not-all, search-looked, search-stops}
-use Rattle.rules.proofs.Words.{counter-told}
 
 module _ (p k i : ℕ) (m : Mem) where
   -- two first rings that aren't empty are the same
@@ -32,10 +31,7 @@ module _ (p k i : ℕ) (m : Mem) where
   task-follows : (j t : ℕ) → NextTask p k i m t → PlanFollows (drop 3 (fetchRows p k i m)) (fetchTask p k i m j t)
   unfolding fetchTask
   task-follows j t n =
-      checked-row _ _ _ (only-told _ t n (λ u h. next-unique u t h n) (lt-told t (tasks m))) (λ _.
-      checked-row _ _ _ (only-told _ t n (λ u h. next-unique u t h n) (le-told (weightIn m t) 65535)) (λ _.
-      checked-row _ _ _ (counter-told (counterIn m (ringNumber p i i))) (λ _.
-      counted-row m _ _)))
+      checked-row _ _ _ (only-told _ t n (λ u h. next-unique u t h n) (lt-told t (tasks m))) (λ _. counted-row m _ _)
 
   -- the rows after the pointer's, by what the scan finds
   from-follows : (f : Found) → Looked p k Empty (scannedEnds p i m) (pointerIn m i) f

@@ -22,7 +22,7 @@ rule-follows : (limits : Limits) (p k i : ℕ) (s : Step) (m : Mem) → Fits lim
 unfolding ruleOf
 rule-follows limits p k i Fetch m f h = fetch-follows p k i m
 rule-follows limits p k i Start m f h = start-follows i m
-rule-follows limits p k i Complete m f h = complete-follows i m
+rule-follows limits p k i Complete m f h = complete-follows p i m
 rule-follows limits p k i Release m f h = release-follows p k i m (omega (arith, f .limits .oneWorker)) (f .lengths .list list.counters)
 
 pub step-follows : (limits : Limits) (p k i : ℕ) (s : Step) (m : Mem) → Follows (stepRows limits p k i s m) (stepSays (step limits p k i s m .answer))

@@ -38,14 +38,16 @@ use Rattle.rules.proofs.Fetch.{scan-stops}
 use Rattle.rules.proofs.Release.{room-stops}
 
 -- the tests that both kinds of Complete pass, and both of Release
-completing-passes : (i : ℕ) (m : Mem) → Completing i m
-    → completeRule i m ≡ cond (eqb (succCount m (held m i)) 0) (completeSink i m) (completeInner i m)
+completing-passes : (p i : ℕ) (m : Mem) → Completing p i m
+    → completeRule p i m ≡ cond (eqb (succCount m (held m i)) 0) (completeSink p i m) (completeInner p i m)
 unfolding completeRule
-completing-passes i m c =
+completing-passes p i m c =
     rw (
       told-pass (entries-told m) (λ h. omega (arith, c .entries)),
       told-fail (recorded-told m) (λ e. omega (arith, c .entries)),
       lt-ltb _ _ (c .task .below),
+      le-leb _ _ (c .light),
+      told-pass (counter-told (counterIn m (ringNumber p i i))) (c .counter),
       le-leb _ _ (c .task .rises),
       le-leb _ _ (c .task .inside),
     )
@@ -82,8 +84,8 @@ module _ (p k i : ℕ) (m : Mem) (low : acceptedIn m < 3 * tasks m + edges m) wh
   fetch-accepts o us f =
       let e : f .ring ≡ ringNumber p i (f .filler) = f .ringIs ∙ sym (ap (ringNumber p i) (f .fillerIs)) in
       let t : f .task ≡ headWord k m (ringNumber p i (f .filler)) = f .taskIs ∙ ap (headWord k m) e in
-      rw (lt-ltb _ _ (f .pointer), scan-stops p k i m (f .distance) (f .stop), sym (f .fillerIs), sym t, lt-ltb _ _ (f .below), le-leb _ _ (f .light))
-      (rw (told-pass (counter-told (counterIn m (ringNumber p i i))) (f .counter), fits, f .outcome, f .updates, e))
+      rw (lt-ltb _ _ (f .pointer), scan-stops p k i m (f .distance) (f .stop), sym (f .fillerIs), sym t, lt-ltb _ _ (f .below))
+      (rw (fits, f .outcome, f .updates, e))
 
   placed-accepts : length (m .counters) ≡ p * p → (o : StepOutcome) (us : List Update) → ReleasesPlaced p k i m o us → releaseRule p k i m ≡ accept o (withCount m us)
   unfolding releaseReady releaseTo counted tailOn after
@@ -108,10 +110,10 @@ module _ (p k i : ℕ) (m : Mem) (low : acceptedIn m < 3 * tasks m + edges m) wh
   rule-accepts c Fetch o us f = fetch-accepts o us f
   rule-accepts c Start o us f = rw (fits, f .outcome, f .updates)
   rule-accepts c Complete o us (sink f) =
-      rw (completing-passes i m (f .common), eq-eqb _ _ (f .none), fits, f .outcome, f .updates)
+      rw (completing-passes p i m (f .common), eq-eqb _ _ (f .none), fits, f .outcome, f .updates)
   rule-accepts c Complete o us (inner f) =
       rw (
-        completing-passes i m (f .common),
+        completing-passes p i m (f .common),
         ne-eqb (succCount m (held m i)) 0 (λ e. omega (arith, f .successors)),
         le-leb _ _ (f .places),
         le-leb (rowIn m i .write) (tasks m) (omega (arith, f .room)),

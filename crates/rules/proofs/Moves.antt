@@ -104,8 +104,6 @@ module _ (m : Mem) where
     if-fetched none h l = if-refused _ _
     if-fetched (at j) h (e, stop, q) =
         if-required _ _ _ (λ a.
-        if-required _ _ _ (λ b.
-        if-required _ _ _ (λ c.
         if-counted _ _ (record {
           pointer = h;
           distance = e;
@@ -117,13 +115,11 @@ module _ (m : Mem) where
           task = headWord k m (ringNumber p i j);
           taskIs = refl;
           below = ltb-true _ _ a;
-          light = leb-true _ _ b;
-          counter = told-yes (counter-told (counterIn m (ringNumber p i i))) c;
           outcome = refl;
           updates = refl;
-        }))))
+        }))
 
-    if-inner : Completing i m → HasSuccessors m i → IfAccepted (Counted m (Completes i m)) (completeInner i m)
+    if-inner : Completing p i m → HasSuccessors m i → IfAccepted (Counted m (Completes p i m)) (completeInner p i m)
     unfolding completeInner
     if-inner c h =
         if-required (placesFit m (rowIn m i .read) (rowIn m i .write)) _ _ (λ a.
@@ -131,8 +127,8 @@ module _ (m : Mem) where
         if-required _ _ _ (λ w.
         if-counted _ _ (inner (record { common = c; successors = h; places = leb-true _ _ r; room = ltb-true _ _ w; outcome = refl; updates = refl }))))
 
-    if-completed : Completing i m → IfAccepted (Counted m (Completes i m))
-        (cond (eqb (succCount m (held m i)) 0) (completeSink i m) (completeInner i m))
+    if-completed : Completing p i m → IfAccepted (Counted m (Completes p i m))
+        (cond (eqb (succCount m (held m i)) 0) (completeSink p i m) (completeInner p i m))
     unfolding completeSink
     if-completed c =
         if-cond _
@@ -196,11 +192,15 @@ module _ (m : Mem) where
           let n : ¬ (entriesIn m ≡ tasks m) = told-no (recorded-told m) b in
           let l : ¬ (tasks m < entriesIn m) = told-yes (entries-told m) a in
           if-required _ _ _ (λ t.
+          if-required _ _ _ (λ w.
+          if-required _ _ _ (λ c.
           if-required _ _ _ (λ g.
           if-completed (record {
             entries = omega (arith, l, n);
             task = ranged (held m i) (ltb-true _ _ t) g;
-          })))))
+            light = leb-true _ _ w;
+            counter = told-yes (counter-told (counterIn m (ringNumber p i i))) c;
+          })))))))
       if-ruled Release =
           if-required _ _ _ (λ a.
           let (r, w) = and-true (leb (rowIn m i .read) (rowIn m i .write)) _ a in

@@ -39,14 +39,11 @@ pub record Fetches (p k i : ℕ) (m : Mem) (o : StepOutcome) (us : List Update) 
   pub task : ℕ
   pub taskIs : task ≡ headWord k m ring
   pub below : task < tasks m
-  pub light : weightIn m task ≤ 65535
-  pub counter : ¬ (Beyond2^30 (counterIn m (ringNumber p i i)))
   -- "An accepted Fetch answers the task"
   pub outcome : o ≡ Fetched (record { 0 = task })
-  -- "the slot's word stays. The weight leaves counter (i, i) .. The pointer becomes the ring after, modulo P."
+  -- "the slot's word stays. .. The pointer becomes the ring after, modulo P."
   pub updates : us
       ≡ putEnds ring (record { head = (endsIn m ring .head + 1) % k; tail = endsIn m ring .tail })
-      ∷ putCounter (ringNumber p i i) (counterIn m (ringNumber p i i) -ℤ pos (weightIn m task))
       ∷ putHand i 1 task
       ∷ putPointer i ((filler + 1) % p)
       ∷ []
@@ -62,41 +59,46 @@ pub record Ranged (m : Mem) (t : ℕ) : Type 0 where
   pub rises : firstSucc m t ≤ pastSucc m t
   pub inside : pastSucc m t ≤ edges m
 
--- what every Complete finds: an entry is free for the held task
-pub record Completing (i : ℕ) (m : Mem) : Type 0 where
+-- what every Complete finds: an entry is free for the held task, whose weight can leave counter (i, i)
+pub record Completing (p i : ℕ) (m : Mem) : Type 0 where
   pub entries : entriesIn m < tasks m
   pub task : Ranged m (held m i)
+  pub light : weightIn m (held m i) ≤ 65535
+  pub counter : ¬ (Beyond2^30 (counterIn m (ringNumber p i i)))
 
--- a task without successors: "(task, i) joins the record; .. held becomes NIL"
-pub record CompletesSink (i : ℕ) (m : Mem) (o : StepOutcome) (us : List Update) : Type 0 where
-  pub common : Completing i m
+-- a task without successors: "the weight leaves counter (i, i) at Complete", which may go below zero; "(task, i) joins the record; .. held becomes NIL"
+pub record CompletesSink (p i : ℕ) (m : Mem) (o : StepOutcome) (us : List Update) : Type 0 where
+  pub common : Completing p i m
   pub none : _≡_ {A = ℕ} (succCount m (held m i)) 0
   pub outcome : o ≡ Moved
   pub updates : us
-      ≡ putHand i 0 (nil .0)
+      ≡ putCounter (ringNumber p i i) (counterIn m (ringNumber p i i) -ℤ pos (weightIn m (held m i)))
+      ∷ putHand i 0 (nil .0)
       ∷ putEntry (entriesIn m) (held m i) i
       ∷ putEntries (entriesIn m + 1)
       ∷ []
 
 -- a task with successors, which also "joins i's completed buffer"
-pub record CompletesInner (i : ℕ) (m : Mem) (o : StepOutcome) (us : List Update) : Type 0 where
-  pub common : Completing i m
+pub record CompletesInner (p i : ℕ) (m : Mem) (o : StepOutcome) (us : List Update) : Type 0 where
+  pub common : Completing p i m
   pub successors : HasSuccessors m i
   pub places : rowIn m i .read ≤ rowIn m i .write
   pub room : rowIn m i .write < tasks m
   pub outcome : o ≡ Moved
   pub updates : us
       ≡ putBuffer (bufferAt m i (rowIn m i .write)) (held m i)
+      ∷ putCounter (ringNumber p i i) (counterIn m (ringNumber p i i) -ℤ pos (weightIn m (held m i)))
       ∷ putHand i 0 (nil .0)
       ∷ putPlaces i (record { read = rowIn m i .read; write = rowIn m i .write + 1; cursor = rowIn m i .cursor })
       ∷ putEntry (entriesIn m) (held m i) i
       ∷ putEntries (entriesIn m + 1)
       ∷ []
 
--- "Complete: (task, i) joins the record; the task joins i's completed buffer if it has successors; held becomes NIL."
-pub data Completes (i : ℕ) (m : Mem) (o : StepOutcome) (us : List Update) : Type 0 where
-  sink : CompletesSink i m o us → Completes i m o us
-  inner : CompletesInner i m o us → Completes i m o us
+-- "Complete: (task, i) joins the record; the task joins i's completed buffer if it has successors; held becomes NIL.", and "the weight leaves counter
+-- (i, i) at Complete"
+pub data Completes (p i : ℕ) (m : Mem) (o : StepOutcome) (us : List Update) : Type 0 where
+  sink : CompletesSink p i m o us → Completes p i m o us
+  inner : CompletesInner p i m o us → Completes p i m o us
 
 -- "The cursor advances; after the last successor it returns to 0 and the read place advances."
 pub data Advances (count : ℕ) (r : Row) : Places → Type 0 where
@@ -158,7 +160,7 @@ pub data Releases (p k i : ℕ) (m : Mem) (o : StepOutcome) (us : List Update) :
 abbrev pub Made : Step → ℕ → ℕ → ℕ → Mem → StepOutcome → List Update → Type 0
 Made Fetch p k i m o us = Fetches p k i m o us
 Made Start p k i m o us = Starts i m o us
-Made Complete p k i m o us = Completes i m o us
+Made Complete p k i m o us = Completes p i m o us
 Made Release p k i m o us = Releases p k i m o us
 
 -- when a step is accepted with this outcome and these updates: numbers and lists fit, the worker is there, the phase suits, the accepted

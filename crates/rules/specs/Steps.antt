@@ -32,18 +32,13 @@ use Rattle.rules.specs.Plans.{Plan, refuse, require, refuseIf, checked, 
 unfoldable pub scan : ℕ → ℕ → ℕ → Mem → Found
 scan p k i m = search (λ j. endsFit k m (ringNumber p i j)) (λ j. not (empty (endsIn m (ringNumber p i j)))) (around p (pointerIn m i))
 
--- "The weight leaves counter (i, i), which may go below zero."
-abbrev pub leave : ℕ → ℕ → ℕ → Mem → Update
-leave p i t m = putCounter (ringNumber p i i) (counterIn m (ringNumber p i i) -ℤ pos (weightIn m t))
-
--- "Take its head, which becomes the held task; the slot's word stays. .. The pointer becomes the ring after, modulo P."
+-- "Take its head, which becomes the held task; the slot's word stays. .. The pointer becomes the ring after, modulo P." Neither weight nor
+-- counter is read: document 02's No. 3 has the weight leave at Complete
 unfoldable pub fetchTask : ℕ → ℕ → ℕ → Mem → ℕ → ℕ → Plan
 fetchTask p k i m j t =
     checked (taskFits m t)
-    (checked (weightFits m t)
-    (checked (counterFits (counterIn m (ringNumber p i i)))
     (counted m (Fetched (record { 0 = t }))
-    (putEnds (ringNumber p i j) (headOn k (endsIn m (ringNumber p i j))) ∷ leave p i t m ∷ putHand i (leadsTo Fetch) t ∷ putPointer i (after p j) ∷ []))))
+    (putEnds (ringNumber p i j) (headOn k (endsIn m (ringNumber p i j))) ∷ putHand i (leadsTo Fetch) t ∷ putPointer i (after p j) ∷ []))
 
 -- 10: "Fetch: all P rings empty"
 unfoldable pub fetchFrom : ℕ → ℕ → ℕ → Mem → Found → Plan
@@ -62,33 +57,40 @@ startRule i m = counted m Moved (putHand i (leadsTo Start) (held m i) ∷ [])
 abbrev pub letGo : ℕ → Update
 letGo i = putHand i (leadsTo Complete) (nil .0)
 
+-- "From now on the weight leaves counter (i, i) at Complete."; it "may go below zero"
+abbrev pub leave : ℕ → ℕ → Mem → Update
+leave p i m = putCounter (ringNumber p i i) (counterIn m (ringNumber p i i) -ℤ pos (weightIn m (held m i)))
+
 -- "(task, i) joins the record"
 abbrev pub recordEntry : ℕ → Mem → List Update
 recordEntry i m = putEntry (entriesIn m) (held m i) i ∷ putEntries (entriesIn m + 1) ∷ []
 
 -- the held task is a sink: it has no successors
-unfoldable pub completeSink : ℕ → Mem → Plan
-completeSink i m = counted m Moved (letGo i ∷ recordEntry i m)
+unfoldable pub completeSink : ℕ → ℕ → Mem → Plan
+completeSink p i m = counted m Moved (leave p i m ∷ letGo i ∷ recordEntry i m)
 
 -- "the task joins i's completed buffer if it has successors", at the write place
-unfoldable pub completeInner : ℕ → Mem → Plan
-completeInner i m =
+unfoldable pub completeInner : ℕ → ℕ → Mem → Plan
+completeInner p i m =
     checked (placesFit m (rowIn m i .read) (rowIn m i .write))
     (checked (joinFits m (rowIn m i .write))
     (counted m Moved
     (putBuffer (bufferAt m i (rowIn m i .write)) (held m i)
+    ∷ leave p i m
     ∷ letGo i
     ∷ putPlaces i (record { read = rowIn m i .read; write = rowIn m i .write + 1; cursor = rowIn m i .cursor })
     ∷ recordEntry i m)))
 
 -- 12: "Complete with N entries recorded"; "Complete meets 12 before its other words"
-unfoldable pub completeRule : ℕ → Mem → Plan
-completeRule i m =
+unfoldable pub completeRule : ℕ → ℕ → Mem → Plan
+completeRule p i m =
     checked (entriesFit m)
     (refuseIf (eqb (entriesIn m) (allEntries m)) recordFull 0
     (checked (taskFits m (held m i))
+    (checked (weightFits m (held m i))
+    (checked (counterFits (counterIn m (ringNumber p i i)))
     (checked (rangeFits m (held m i))
-    (cond (eqb (succCount m (held m i)) 0) (completeSink i m) (completeInner i m)))))
+    (cond (eqb (succCount m (held m i)) 0) (completeSink p i m) (completeInner p i m)))))))
 
 -- "The cursor advances; after the last successor it returns to 0 and the read place advances."
 unfoldable pub advanced : ℕ → Row → Places
@@ -146,7 +148,7 @@ releaseRule p k i m =
 unfoldable pub ruleOf : Step → ℕ → ℕ → ℕ → Mem → Plan
 ruleOf Fetch p k i m = fetchRule p k i m
 ruleOf Start p k i m = startRule i m
-ruleOf Complete p k i m = completeRule i m
+ruleOf Complete p k i m = completeRule p i m
 ruleOf Release p k i m = releaseRule p k i m
 
 -- "In a step: 2, 1, 7, phase word (8), 9; then the step's rule is followed from its first sentence"

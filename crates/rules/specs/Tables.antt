@@ -113,10 +113,6 @@ fetchRows p k i m =
     ∷ row nothingThere (only 0 (GoesOn k Empty (scannedEnds p i m) p))
     -- 8: "ring .. word ≥ N"
     ∷ row damaged (only 0 ((t : ℕ) × NextTask p k i m t × (tasks m ≤ t)))
-    -- 8: "weight over 65,535"
-    ∷ row damaged (only 0 ((t : ℕ) × NextTask p k i m t × (65535 < weightIn m t)))
-    -- 8: "counter beyond ±2^30", of "counter (i, i)"
-    ∷ row damaged (only 0 (Beyond2^30 (counterIn m (ringNumber p i i))))
     -- 8: "the accepted word is read last of all, after 10 to 12"
     ∷ row damaged (only 0 (BadAccepted m))
     ∷ []
@@ -130,14 +126,18 @@ startRows m =
 abbrev pub HasSuccessors : Mem → ℕ → Type 0
 HasSuccessors m i = 0 < succCount m (held m i)
 
-abbrev pub completeRows : ℕ → Mem → List Refusal
-completeRows i m =
+abbrev pub completeRows : ℕ → ℕ → Mem → List Refusal
+completeRows p i m =
     -- 8: "entries over N"
     row damaged (only 0 (tasks m < entriesIn m))
     -- 12: "Complete with N entries recorded"; "Complete meets 12 before its other words"
     ∷ row recordFull (only 0 (entriesIn m ≡ tasks m))
     -- 8: "held .. word ≥ N"
     ∷ row damaged (only 0 (tasks m ≤ held m i))
+    -- 8: "weight over 65,535", of the held task, whose weight leaves
+    ∷ row damaged (only 0 (65535 < weightIn m (held m i)))
+    -- 8: "counter beyond ±2^30", of "counter (i, i)"
+    ∷ row damaged (only 0 (Beyond2^30 (counterIn m (ringNumber p i i))))
     -- 8: its successor range
     ∷ row damaged (only 0 (BadRange m (held m i)))
     -- 8: the buffer places, where they are read
@@ -188,7 +188,7 @@ releaseRows p k i m =
 abbrev pub ownRows : Step → ℕ → ℕ → ℕ → Mem → List Refusal
 ownRows Fetch p k i m = fetchRows p k i m
 ownRows Start p k i m = startRows m
-ownRows Complete p k i m = completeRows i m
+ownRows Complete p k i m = completeRows p i m
 ownRows Release p k i m = releaseRows p k i m
 
 -- "In a step: 2, 1, 7, phase word (8), 9; then the step's rule is followed from its first sentence, and whichever of 8, 10, 11, 12
