@@ -3,15 +3,17 @@
 use Prim.Native.Nat.{ℕ, _<_}
 use mathlib.Core.Path.{_≡_, refl, sym, ap, _∙_}
 use mathlib.Core.Logic.{inl}
-use mathlib.Core.List.{List, []}
+use mathlib.Core.List.{List, [], _++_}
 use native.Mathlib.Omega.{arith}
 use native.Mathlib.Decide.{ℕ-discrete}
 use lib.ListN.{length, getD}
-use Rattle.lists.specs.Lists.{occ, placeOf}
+use lib.IntN.{pos}
+use Rattle.lists.specs.Lists.{occ, placeOf, joined}
 use Rattle.lists.proofs.Blocks.{getD-tabulate}
 use Rattle.lists.proofs.Decided.{stable, both?}
 use Rattle.lists.proofs.Occurrences.{occ-hit, at-occ}
 use Rattle.lists.proofs.Positions.{place-member, place-at, place-least, before-member}
+use Rattle.lists.specs.Sums.{sumOf}
 use Rattle.task.specs.Refusals.{Said, answerSays, stepSays, refused, recordFull}
 use Rattle.task.specs.Rows.{Acceptance}
 use Rattle.task.specs.declared.Limits.{Limits}
@@ -19,25 +21,31 @@ use Rattle.task.specs.declared.Answer.{Answer}
 use Rattle.task.specs.declared.Answer.the-variants as answer
 use Rattle.task.specs.declared.Step.{Step}
 use Rattle.task.specs.declared.Step.the-variants.{Complete}
+use Rattle.task.specs.declared.StepOutcome.{StepOutcome}
 use Rattle.task.specs.declared.StepAnswer.{StepAnswer}
 use Rattle.task.specs.declared.StepAnswer.the-variants.{Refused}
 use Rattle.graph.specs.Graph.{Graph, predsOf, Edge}
 use Rattle.graph.specs.Conditions.{EndsFit}
+use Rattle.choice.specs.Least.{load, Least}
+use Rattle.choice.proofs.Least.{least-same}
 use Rattle.exchange.specs.Pairs.{eachOnce}
-use Rattle.rules.specs.Memory.{Mem, tasks, edges, graphIn, rowIn, held, entriesIn}
+use Rattle.rules.specs.Memory.{Mem, tasks, edges, graphIn, weightIn, rowIn, held, entriesIn}
 use Rattle.rules.specs.Sizes.{KeepsLimits}
+use Rattle.rules.specs.Updates.{Update}
 use Rattle.rules.specs.Plans.{Result, resultOf}
 use Rattle.rules.specs.Steps.{step}
 use Rattle.rules.specs.Begin.{begin}
+use Rattle.rules.specs.Moves.{ReleasesPlaced}
 use Rattle.rules.proofs.Headers.{kept, not-beyond}
 use Rattle.rules.proofs.Limits.{beyond-2}
 use Rattle.rules.proofs.Moves.{accepted-step}
 use Rattle.rules.proofs.Numbers.{TwoOrOne, other-step, other-begin}
-use Rattle.algorithm1.specs.Reading.{threadIn}
+use Rattle.algorithm1.specs.Reading.{queueIn, threadIn}
 use Rattle.algorithm1.proofs.Readings.{thread-at}
 use Rattle.system.specs.Stages.{inHand}
 use Rattle.system.proofs.Progress as progress
 use Rattle.runs.specs.Calls.{stepCall, beginCall, says, leaves, Run, KeptBy, memoryOf, eventsOf}
+use Rattle.runs.specs.Counters.{inHandOf}
 use Rattle.runs.specs.Demand.{acceptedSteps, acceptedCompletes, Finished, taskWord, orderOf, OneGraph}
 use Rattle.runs.proofs.Invariant.{itemsOf, meaning}
 use Rattle.runs.proofs.Calls.{accepted-fits, graph-reached, tasks-reached, edges-reached}
@@ -45,6 +53,7 @@ use Rattle.runs.proofs.Begun.{items-reversed}
 use Rattle.runs.proofs.Hands.{hand-holds}
 use Rattle.runs.proofs.Events.{entries-word}
 use Rattle.runs.proofs.Honest.{systemIn, honest-run}
+use Rattle.runs.proofs.Weights.{counters-add-up}
 use Rattle.runs.proofs.Undamaged.{undamaged}
 use Rattle.runs.proofs.Demand.{run-sound, invariant-run, recorded, recorded-words, recorded-length, finished-count, finished-full, finished-order, demand-3}
 
@@ -169,3 +178,12 @@ accepted-kept r limits p k = (
 -- in memory begun and stepped by the engine Complete never meets 12, whatever the limits, P, K and worker
 pub never-full : (r : Run) (limits : Limits) (p k i d : ℕ) → ¬ (stepSays (step limits p k i Complete (memoryOf r) .answer) ≡ refused recordFull d)
 never-full r limits p k i d = undamaged .next r limits p k i Complete .notFull d
+
+-- "target j is the worker with the least sum of its P counters": in a run that is the least weight waiting and in hand, so a lane with a long tile isn't
+-- taken for an empty one. Of every Release that places its successor.
+pub lightest : (r : Run) (i : ℕ) (o : StepOutcome) (us : List Update) (f : ReleasesPlaced (r .workers) (r .slots) i (memoryOf r) o us)
+    → Least (λ h. h < r .workers)
+    (λ h. pos (sumOf (weightIn (r .lent)) (joined (r .workers) (queueIn (r .workers) (r .slots) (memoryOf r) h) ++ inHandOf (memoryOf r) h)))
+    (f .target)
+unfolding load
+lightest r i o us f = least-same (λ h l. sym (counters-add-up .words r h l)) (f .least)

@@ -1,102 +1,106 @@
--- The split counters of a worker add up to the weight of the tasks waiting for it: after an accepted begin, and after each step of
--- Algorithm 1 if they did before.
+-- The split counters of a worker add up to the weight of the tasks waiting for it and of the one in its hand: after an accepted begin, and after
+-- each step of Algorithm 1 if they did before.
 use Prim.Native.Nat.{ℕ, _<_}
 use mathlib.Core.Path.{_≡_, refl, sym, ap, subst, _∙_}
-use mathlib.Core.List.{List, [], _∷_, _++_}
+use mathlib.Core.List.{List}
+use native.Mathlib.Omega.{arith}
 use native.Mathlib.Decide.{ℕ-discrete}
 use lib.ListN.{getD}
-use lib.IntN.{pos, negℤ}
+use lib.IntN.{pos}
 use Rattle.lists.specs.Sums.{sumOf}
 use Rattle.task.specs.Types.{nil}
 use Rattle.task.specs.Refusals.{answerSays, accepted}
 use Rattle.task.specs.declared.Limits.{Limits}
+use Rattle.task.specs.declared.Row.{Row}
 use Rattle.task.specs.declared.Step.{Step}
 use Rattle.task.specs.declared.Step.the-variants.{Fetch, Start, Complete, Release}
 use Rattle.task.specs.declared.StepOutcome.{StepOutcome}
 use Rattle.rules.specs.Memory.{Mem, ringNumber, counterIn, weightIn}
 use Rattle.rules.specs.Begin.{begin}
 use Rattle.rules.specs.Begun.{LaidDown}
-use Rattle.rules.proofs.Begun.{laid-down}
-use Rattle.algorithm1.specs.State.{State, weightOf, queueOf}
-use Rattle.algorithm1.specs.Algorithm.{Fetches, Allocates, lowers, allocates, Lines, Does}
+use Rattle.rules.proofs.Begun.{laid-row, laid-down}
+use Rattle.algorithm1.specs.State.{State, weightOf, queueOf, counterOf, threadOf}
+use Rattle.algorithm1.specs.Algorithm.{executing, Fetches, Starts, Completes, Lowers, Allocates, lowers, allocates, Lines, Does}
 use Rattle.algorithm1.specs.Reading.{stateOf}
-use Rattle.algorithm1.proofs.Readings.{queue-at, counter-at}
+use Rattle.algorithm1.proofs.Readings.{queue-at, counter-at, phase-at}
 use Rattle.algorithm1.proofs.Memories.{first-lt}
+use Rattle.system.specs.Stages.{Hand, inHand}
 use Rattle.runs.specs.Items as items
 use Rattle.runs.specs.Counters.{AddsUp}
 use Rattle.runs.proofs.Invariant.{Shaped}
-use Rattle.runs.proofs.ItemCounters.{Changes, kept-adds-up, taken-adds-up, joined-adds-up, OwnWeights, own-adds-up}
+use Rattle.runs.proofs.Hands.{busy-weight}
+use Rattle.runs.proofs.Meaning.{passes-goes, fetch-acts, start-acts, complete-acts, lower-acts, allocate-acts}
+use Rattle.runs.proofs.ItemCounters.{Changes, changes-adds-up, kept-changes, taken-changes, completed-changes, joined-changes, OwnWeights, own-adds-up}
 
--- every step leaves the weights
+-- of states with the same weights
 pub same-weights : (s s′ : State) → s′ .weights ≡ s .weights → (Q : (ℕ → ℕ) → Type 0) → Q (weightOf s) → Q (weightOf s′)
 same-weights s s′ e Q = subst (λ (ws : List ℕ). Q (λ t. getD ws t 0)) (sym e)
 
-adds-up-after : {p : ℕ} {s s′ : State} → s′ .weights ≡ s .weights
-    → (items.AddsUp (nil .0) (weightOf s) p s → items.AddsUp (nil .0) (weightOf s) p s′) → AddsUp p s → AddsUp p s′
-adds-up-after {p} {s} {s′} e f sums = same-weights s s′ e (λ w. items.AddsUp (nil .0) w p s′) (f sums)
-
-module _ {p i : ℕ} {s s′ : State} {o : StepOutcome} (worker : i < p) where
-  -- what a Fetch takes from a list it takes from the counter, and what a Release adds to one it adds to the other
-  unfoldable pub fetch-changes : Fetches p i s s′ o → Changes p s s′
+module _ {p i : ℕ} {s s′ : State} {o : StepOutcome} (worker : i < p) (shaped : Shaped p s) where
+  -- the task goes from a list into the hand; "the weight leaves counter (i, i) at Complete"
+  fetch-changes : Fetches p i s s′ o → Changes (nil .0) (weightOf s) p s s′
   fetch-changes f =
-      record {
-        owner = i;
-        list = f .list;
-        counter = i;
-        ownerBelow = worker;
-        listBelow = first-lt (f .first);
-        counterBelow = worker;
-        new = f .rest;
-        amount = negℤ (pos (weightOf s (f .task)));
-        queues = rw (f .after);
-        counters = rw (f .after);
-      }
+      taken-changes (weightOf s) shaped (fetch-acts worker shaped f) (f .list) (first-lt (f .first)) (f .rest) (f .phase) (λ z. omega arith) (f .head)
+      (rw (f .after)) (rw (f .after)) (rw (f .after))
 
-  unfoldable pub allocate-changes : {capacity : ℕ} → Allocates p capacity i s s′ o → Changes p s s′
+  -- the phase alone moves: what is in hand stays there
+  start-changes : Starts i s s′ o → Changes (nil .0) (weightOf s) p s s′
+  start-changes f =
+      kept-changes (weightOf s) shaped (start-acts worker shaped f)
+      (busy-weight (weightOf s) (executing (threadOf s i)) (λ z. omega arith)
+      ∙ sym (busy-weight (weightOf s) (threadOf s i) (λ z. omega (arith, f .phase))))
+      (rw (f .after)) (rw (f .after)) (rw (f .after))
+
+  -- the task in hand joins the record, and its weight leaves the worker's own counter
+  complete-changes : Completes i s s′ o → Changes (nil .0) (weightOf s) p s s′
+  complete-changes f =
+      completed-changes (weightOf s) shaped (complete-acts worker shaped f) i worker (λ z. omega (arith, f .phase)) refl (rw (f .after)) (rw (f .after))
+      (rw (f .after))
+
+  lower-changes : Lowers i s s′ o → Changes (nil .0) (weightOf s) p s s′
+  lower-changes f =
+      kept-changes (weightOf s) shaped (lower-acts worker shaped f)
+      (ap (λ (h : Hand ℕ). sumOf (weightOf s) (inHand h)) (passes-goes (f .pass) .hand)) (rw (f .after)) (rw (f .after)) (rw (f .after))
+
+  -- the task joins a list, and its weight the counter
+  allocate-changes : {capacity : ℕ} → Allocates p capacity i s s′ o → Changes (nil .0) (weightOf s) p s s′
   allocate-changes f =
-      record {
-        owner = f .owner;
-        list = i;
-        counter = i;
-        ownerBelow = first-lt (f .room);
-        listBelow = worker;
-        counterBelow = worker;
-        new = queueOf s (f .owner) i ++ (f .task ∷ []);
-        amount = pos (weightOf s (f .task));
-        queues = rw (f .after);
-        counters = rw (f .after);
-      }
+      joined-changes (weightOf s) shaped (allocate-acts worker shaped f) (f .owner) i (first-lt (f .room)) worker (f .task) (passes-goes (f .pass) .hand)
+      (rw (f .after)) (rw (f .after)) (rw (f .after))
 
-  module _ (shaped : Shaped p s) where
-    fetch-adds-up : Fetches p i s s′ o → AddsUp p s → AddsUp p s′
-    unfolding fetch-changes
-    fetch-adds-up f = adds-up-after (rw (f .after)) (taken-adds-up (nil .0) (weightOf s) shaped (fetch-changes f) (f .task) (f .head) refl)
+module _ (p capacity i : ℕ) (s s′ : State) (o : StepOutcome) (shaped : Shaped p s) (step : Step) (d : Does p capacity i step s s′ o) where
+  pub does-changes : Changes (nil .0) (weightOf s) p s s′
+  does-changes = go step (d .lines)
+    where
+      go : (step : Step) → Lines p capacity i step s s′ o → Changes (nil .0) (weightOf s) p s s′
+      go Fetch f = fetch-changes (d .thread) shaped f
+      go Start f = start-changes (d .thread) shaped f
+      go Complete f = complete-changes (d .thread) shaped f
+      go Release (lowers f) = lower-changes (d .thread) shaped f
+      go Release (allocates f) = allocate-changes (d .thread) shaped f
 
-    allocate-adds-up : {capacity : ℕ} → Allocates p capacity i s s′ o → AddsUp p s → AddsUp p s′
-    unfolding allocate-changes
-    allocate-adds-up f = adds-up-after (rw (f .after)) (joined-adds-up (nil .0) (weightOf s) shaped (allocate-changes f) (f .task) refl refl)
+  -- every step leaves the weights
+  pub does-weighs : s′ .weights ≡ s .weights
+  does-weighs = go step (d .lines)
+    where
+      go : (step : Step) → Lines p capacity i step s s′ o → s′ .weights ≡ s .weights
+      go Fetch f = rw (f .after)
+      go Start f = rw (f .after)
+      go Complete f = rw (f .after)
+      go Release (lowers f) = rw (f .after)
+      go Release (allocates f) = rw (f .after)
 
--- "After each step .. the split counters of a worker add up to the weight of the tasks waiting for that worker."
-pub does-adds-up : (p capacity i : ℕ) (s s′ : State) (o : StepOutcome) → Shaped p s → (step : Step) → Does p capacity i step s s′ o
-    → AddsUp p s → AddsUp p s′
-does-adds-up p capacity i s s′ o shaped step d = go step (d .lines)
-  where
-    -- neither a list nor a counter changes
-    kept : s′ .weights ≡ s .weights → s′ .queues ≡ s .queues → s′ .counters ≡ s .counters → AddsUp p s → AddsUp p s′
-    kept ew eq ec = adds-up-after ew (kept-adds-up (nil .0) (weightOf s) p s s′ eq ec)
-
-    go : (step : Step) → Lines p capacity i step s s′ o → AddsUp p s → AddsUp p s′
-    go Fetch f = fetch-adds-up (d .thread) shaped f
-    go Start f = kept (rw (f .after)) (rw (f .after)) (rw (f .after))
-    go Complete f = kept (rw (f .after)) (rw (f .after)) (rw (f .after))
-    go Release (lowers f) = kept (rw (f .after)) (rw (f .after)) (rw (f .after))
-    go Release (allocates f) = allocate-adds-up (d .thread) shaped f
+  -- "After each step": "A worker's counters then add up to the weight waiting for it plus that in its hand"
+  pub does-adds-up : AddsUp p s → AddsUp p s′
+  does-adds-up sums = same-weights s s′ does-weighs (λ w. items.AddsUp (nil .0) w p s′) (changes-adds-up does-changes sums)
 
 module _ (limits : Limits) (p k : ℕ) (m : Mem) (e : answerSays (begin limits p k m .answer) ≡ accepted) where
   -- begin appends each root to a ring "and its weight to that counter"; the other rings are empty, their counters zeroed
-  pub begun-own-weights : OwnWeights (weightOf (stateOf p k (begin limits p k m .memory))) p (stateOf p k (begin limits p k m .memory))
+  begun-counter : (i j : ℕ) → i < p → j < p
+      → counterOf (stateOf p k (begin limits p k m .memory)) i j
+      ≡ pos (sumOf (weightOf (stateOf p k (begin limits p k m .memory))) (queueOf (stateOf p k (begin limits p k m .memory)) i j))
   unfolding stateOf sumOf
-  begun-own-weights i j hi hj = counter-at p k b i j hi hj ∙ go (ℕ-discrete i j) ∙ same-weights
+  begun-counter i j hi hj = counter-at p k b i j hi hj ∙ go (ℕ-discrete i j) ∙ same-weights
     where
       b : Mem
       b = begin limits p k m .memory
@@ -113,6 +117,15 @@ module _ (limits : Limits) (p k : ℕ) (m : Mem) (e : answerSays (begin limits p
       go : Dec (i ≡ j) → counterIn b (ringNumber p i j) ≡ pos (sumOf (weightIn m) list)
       go (yes q) = rw (queue-at p k b i j hi hj, sym q, laid .own i hi) (laid .ownCounter i hi)
       go (no n) = rw (queue-at p k b i j hi hj, laid .empty i j hi hj n) (laid .otherCounter i j hi hj n)
+
+  -- and no hand holds a task
+  pub begun-own-weights : OwnWeights (nil .0) (weightOf (stateOf p k (begin limits p k m .memory))) p (stateOf p k (begin limits p k m .memory))
+  begun-own-weights =
+      record {
+        counter = begun-counter;
+        idle = λ i hi.
+            phase-at p k (begin limits p k m .memory) i hi ∙ ap (λ (r : Row). r .phase) (laid-row (laid-down limits p k m e) i);
+      }
 
   pub begun-adds-up : AddsUp p (stateOf p k (begin limits p k m .memory))
   begun-adds-up = own-adds-up (nil .0) _ p (stateOf p k (begin limits p k m .memory)) begun-own-weights

@@ -98,12 +98,15 @@ module _ (r : Run) where
   is-task t e = tally-pos (decLt t (tasks now)) (omega (arith, e))
 
   -- what runs and what waits are tasks; what is to be released is one whose degree is in its range
-  pub running-task : (i a : ℕ) → i < p → handOf (threadOf state i) ≡ running a → a < tasks now
+  pub held-task : (i a : ℕ) → i < p → inHand (handOf (threadOf state i)) ≡ a ∷ [] → a < tasks now
   unfolding meaning
-  running-task i a worker hand =
+  held-task i a worker hand =
       is-task a
       (held-wanted ℕ-discrete (itemsOf graph) laws p {s = systemIn p k now} invariant-run i a worker
-      (omega (arith, ap (λ (x : Hand ℕ). occ a (inHand x)) hand, occ-hit ℕ-discrete a a [] refl)))
+      (omega (arith, ap (λ (x : List ℕ). occ a x) hand, occ-hit ℕ-discrete a a [] refl)))
+
+  pub running-task : (i a : ℕ) → i < p → handOf (threadOf state i) ≡ running a → a < tasks now
+  running-task i a worker hand = held-task i a worker (ap (λ (x : Hand ℕ). inHand x) hand)
 
   pub waiting-task : (i : ℕ) → i < p → (t : ℕ) → 0 < occ t (waitingFor p state i) → t < tasks now
   unfolding meaning

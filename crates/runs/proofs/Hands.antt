@@ -1,11 +1,13 @@
--- What a thread has in hand, told from its phase and its held item.
+-- What a thread has in hand, told from its phase and its held item, and what that weighs.
 use Prim.Native.Nat.{ℕ, _≤_}
 use mathlib.Core.Path.{_≡_, sym, ap, _∙_}
 use mathlib.Core.List.{[], _∷_}
 use native.Mathlib.Omega.{arith}
 use native.Mathlib.Decide.{ℕ-discrete}
 use borrow.Author.Tests.{ne-eqb}
+use Rattle.lists.specs.Sums.{sumOf}
 use Rattle.lists.proofs.Appends.{head-same}
+use Rattle.lists.proofs.Sums.{sumOf-nil, sumOf-single}
 use Rattle.algorithm1.specs.Items.{Thread}
 use Rattle.system.specs.Stages.{Hand, idle, fetched, running, inHand, phase}
 use Rattle.runs.specs.Items.{handOf}
@@ -48,3 +50,15 @@ module _ {A : Type 0} (r : Thread A) where
   -- the running item is the held one
   pub running-held : (a : A) → _≡_ {A = ℕ} (r .phase) 2 → handOf r ≡ running a → r .held ≡ a
   running-held a e h = head-same (ap (λ (x : Hand A). inHand x) (sym (hand-running e) ∙ h))
+
+-- the weight of what a thread has in hand
+abbrev pub handWeight : {A : Type 0} → (A → ℕ) → Thread A → ℕ
+handWeight w r = sumOf w (inHand (handOf r))
+
+-- an idle thread has nothing in hand, another one its held item
+module _ {A : Type 0} (w : A → ℕ) (r : Thread A) where
+  pub idle-weight : _≡_ {A = ℕ} (r .phase) 0 → handWeight w r ≡ 0
+  idle-weight e = ap (λ (h : Hand A). sumOf w (inHand h)) (hand-idle r e) ∙ sumOf-nil w
+
+  pub busy-weight : ¬ (_≡_ {A = ℕ} (r .phase) 0) → handWeight w r ≡ w (r .held)
+  busy-weight n = ap (sumOf w) (hand-holds r n) ∙ sumOf-single w (r .held)

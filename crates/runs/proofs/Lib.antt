@@ -27,5 +27,6 @@ pub mod Hosted
 pub mod Links
 pub mod Finishing
 pub mod Pair
+pub mod LongTile
 pub mod Examples
 pub mod ItemExamples

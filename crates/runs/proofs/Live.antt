@@ -135,10 +135,19 @@ module _ {limits : Limits} {p k : ℕ} {m : Mem} (h : Honest limits p k m) (i : 
         → Acceptance (stepSays (step limits p k i Complete m .answer))
     complete-live free a below hand = go (ℕ-discrete (succCount m (held m i)) 0)
       where
-        common : Completing i m
-        common = record { entries = free; task = task-ranged (held m i) (rw (row-held a hand) below) }
+        task : held m i < tasks m
+        task = rw (row-held a hand) below
 
-        accepts : (us : List Update) → Completes i m Moved us → Acceptance (stepSays (step limits p k i Complete m .answer))
+        common : Completing p i m
+        common =
+            record {
+              entries = free;
+              task = task-ranged (held m i) task;
+              light = h .graph .light (held m i) task;
+              counter = within-range (counterIn m (ringNumber p i i)) (honest-within h i i worker worker);
+            }
+
+        accepts : (us : List Update) → Completes p i m Moved us → Acceptance (stepSays (step limits p k i Complete m .answer))
         accepts us c =
             allowed-accepted limits p k i Complete m Moved us
             (record { fits = h .fits; worker = worker; phase = row-phase (running a) hand; low = low; made = c })
@@ -179,8 +188,6 @@ module _ {limits : Limits} {p k : ℕ} {m : Mem} (h : Honest limits p k m) (i : 
                 task = headWord k m (scanned p i m e);
                 taskIs = refl;
                 below = task;
-                light = h .graph .light (headWord k m (scanned p i m e)) task;
-                counter = within-range (counterIn m (ringNumber p i i)) (honest-within h i i worker worker);
                 outcome = refl;
                 updates = refl;
               };

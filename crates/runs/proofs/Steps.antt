@@ -227,8 +227,7 @@ module _ (g : Graph) (p i : ℕ) (worker : i < p) (s s′ : State) (sane : Sane 
     fetch-sane : Fetches p i s s′ o → Sane g p s′
     fetch-sane f =
         sane-after (fetch-acts worker (sane .shaped) f) (rw (f .after))
-        (rw (f .after) (even-with (sane .shaped .queues) i (f .list) (f .rest)))
-        (rw (f .after) (even-with (sane .shaped .counters) i i _))
+        (rw (f .after) (even-with (sane .shaped .queues) i (f .list) (f .rest))) (rw (f .after) (sane .shaped .counters))
         (same-buffer s (threadOf s i) (sane .buffers i) 1 (f .task) ((f .list + 1) % p)) (omega arith) (mod-lt (f .list + 1) (omega (arith, worker)))
 
     start-sane : Starts i s s′ o → Sane g p s′
@@ -238,7 +237,8 @@ module _ (g : Graph) (p i : ℕ) (worker : i < p) (s s′ : State) (sane : Sane 
 
     complete-sane : Completes i s s′ o → Sane g p s′
     complete-sane f =
-        sane-after (complete-acts worker (sane .shaped) f) (rw (f .after)) (rw (f .after) (sane .shaped .queues)) (rw (f .after) (sane .shaped .counters))
+        sane-after (complete-acts worker (sane .shaped) f) (rw (f .after)) (rw (f .after) (sane .shaped .queues))
+        (rw (f .after) (even-with (sane .shaped .counters) i i _))
         (buffered-completed s (threadOf s i) (sane .buffers i) (threadOf s i .held) 0 (nil .0)) (omega arith) (sane .pointers i worker)
 
     lower-sane : Lowers i s s′ o → Sane g p s′

@@ -1,7 +1,7 @@
 -- PROMISE: in a run no call is refused with 8 or 12. Of every row of the table with one of these numbers: where a step comes to it, its condition
 -- fails in a memory that a run reaches.
 use Prim.Native.Nat.{ℕ, _+_, _*_, _<_}
-use mathlib.Core.Path.{_≡_, refl, ap, _∙_}
+use mathlib.Core.Path.{_≡_, refl, sym, ap, _∙_}
 use mathlib.Core.Bool.{Bool, true, false, cond}
 use mathlib.Core.Logic.{_⊎_, inl, inr}
 use mathlib.Core.List.{List, [], _∷_, _++_}
@@ -25,20 +25,20 @@ use Rattle.rules.specs.Moves.{Ranged, Releasing}
 use Rattle.rules.proofs.Begin.{begin-follows}
 use Rattle.rules.proofs.Follows.{step-follows}
 use Rattle.rules.proofs.Numbers.{TwoOrOne, other-step}
-use Rattle.algorithm1.specs.State.{threadOf}
-use Rattle.algorithm1.specs.Reading.{stateOf}
-use Rattle.algorithm1.proofs.Readings.{phase-at}
+use Rattle.algorithm1.specs.State.{threadOf, Thread}
+use Rattle.algorithm1.specs.Reading.{stateOf, threadIn}
+use Rattle.algorithm1.proofs.Readings.{phase-at, thread-at}
 use Rattle.runs.specs.Calls.{Call, stepCall, beginCall, lookupCall, says, plain, Event, eventOf, began, recalled, eventsAfter, Run, memoryOf, eventsOf}
 use Rattle.runs.specs.Demand.{Finished}
 use Rattle.runs.specs.Undamaged.{NoDamage, NoDamageIn, Undamaged}
 use Rattle.runs.proofs.Invariant.{pendingOf}
 use Rattle.runs.proofs.Calls.{tasks-reached}
-use Rattle.runs.proofs.Hands.{hand-running}
+use Rattle.runs.proofs.Hands.{hand-running, hand-holds}
 use Rattle.runs.proofs.Honest.{Honest, honest-run}
 use Rattle.runs.proofs.Weights.{honest-within}
 use Rattle.runs.proofs.Live.{within-range, row-held, row-pointer, joined-recorded, task-ranged, next-waits, scan-sound}
 use Rattle.runs.proofs.LiveRelease.{counters-within, few-places, places-good, pending-none, releasing, room-sound}
-use Rattle.runs.proofs.Demand.{running-task, waiting-task, pending-task, running-open, low, unfinished-free}
+use Rattle.runs.proofs.Demand.{running-task, waiting-task, pending-task, running-open, low, unfinished-free, held-task}
 use Rattle.runs.proofs.Afterwards.{rests, scan-none}
 
 -- rows of which none that is given has one of the two numbers
@@ -113,31 +113,31 @@ module _ (r : Run) where
         (failing-row (λ d c. scan-sound h i worker (c .1))
         (ordinary-row (omega arith) (λ some.
         failing-row (λ d c. omega (arith, c .1 .2, next-task (c .1 .0) (c .1 .1)))
-        (failing-row (λ d c. omega (arith, c .1 .2, h .graph .light (c .1 .0) (next-task (c .1 .0) (c .1 .1))))
-        (failing-row (λ d c. within-range (counterIn now (ringNumber p i i)) (honest-within h i i worker worker) (c .1))
-        (failing-row (λ d c. omega (arith, c .1, open-low (λ f. some 0 (refl, scan-none r f i worker)))) harmless-end))))))
+        (failing-row (λ d c. omega (arith, c .1, open-low (λ f. some 0 (refl, scan-none r f i worker)))) harmless-end))))
 
     start-harmless : rowIn now i .phase ≡ 1 → Harmless (startRows now)
     start-harmless one = failing-row (λ d c. omega (arith, c .1, open-low (λ f. omega (arith, one, rests r f .phases i worker)))) harmless-end
 
     module _ (two : rowIn now i .phase ≡ 2) where
-      held-task : held now i < tasks now
-      held-task =
+      own-task : held now i < tasks now
+      own-task =
           let runs = hand-running (threadOf (stateOf p k now) i) (phase-at p k now i worker ∙ two) in
           rw (row-held h i worker _ runs) (running-task r i _ worker runs)
 
       free : entriesIn now < tasks now
       free = running-open r i worker two
 
-      complete-harmless : Harmless (completeRows i now)
+      complete-harmless : Harmless (completeRows p i now)
       complete-harmless =
           failing-row (λ d c. omega (arith, c .1, free))
           (failing-row (λ d c. omega (arith, c .1, free))
-          (failing-row (λ d c. omega (arith, c .1, held-task))
-          (failing-row (λ d c. ranged-good (task-ranged h i worker (held now i) held-task) (c .1))
+          (failing-row (λ d c. omega (arith, c .1, own-task))
+          (failing-row (λ d c. omega (arith, c .1, h .graph .light (held now i) own-task))
+          (failing-row (λ d c. within-range (counterIn now (ringNumber p i i)) (honest-within h i i worker worker) (c .1))
+          (failing-row (λ d c. ranged-good (task-ranged h i worker (held now i) own-task) (c .1))
           (failing-row (λ d c. places-good h i worker (c .1 .1))
           (failing-row (λ d c. omega (arith, c .1 .1, joined-recorded h i worker, free))
-          (failing-row (λ d c. omega (arith, c .1, low r free)) harmless-end))))))
+          (failing-row (λ d c. omega (arith, c .1, low r free)) harmless-end))))))))
 
     -- a Release of a worker whose buffer isn't empty finds its words in their ranges
     finds : ¬ (rowIn now i .read ≡ rowIn now i .write) → (to : Places) × Releasing i now to
@@ -233,6 +233,18 @@ events-undamaged : (r : Run) → NoDamageIn (eventsOf r)
 unfolding machine.memoryAfter
 events-undamaged r = further-undamaged (withCalls r []) (r .calls) [] tt
 
+held-is : (r : Run) (i : ℕ) → i < r .workers → ¬ (_≡_ {A = ℕ} (rowIn (memoryOf r) i .phase) 0) → held (memoryOf r) i < tasks (r .lent)
+unfolding threadIn
+held-is r i worker n =
+    let at = thread-at (r .workers) (r .slots) (memoryOf r) i worker in
+    omega (
+      arith,
+      held-task r i (held (memoryOf r) i) worker
+          (hand-holds (threadOf (stateOf (r .workers) (r .slots) (memoryOf r)) i) (λ e. n (sym (phase-at (r .workers) (r .slots) (memoryOf r) i worker) ∙ e))
+          ∙ ap (λ (t : Thread). t .held ∷ []) at),
+      tasks-reached r,
+    )
+
 pub undamaged : Undamaged
 undamaged =
     record {
@@ -240,4 +252,6 @@ undamaged =
       events = events-undamaged;
       places = λ r i h. (honest-run r .words .places i h, omega (arith, few-places (honest-run r) i h, tasks-reached r));
       entries = λ r. omega (arith, honest-run r .words .entries, tasks-reached r);
+      phases = λ r i h. rw (phase-at (r .workers) (r .slots) (memoryOf r) i h) at (honest-run r .sane .phases i);
+      hands = held-is;
     }

@@ -1,8 +1,13 @@
--- PROMISE: the split counters, after every list of a run's calls: they add up to the weight of what waits, and each is within its range.
+-- PROMISE: the split counters, after every list of a run's calls: they add up to the weight of what waits and of what is in hand, and each is within
+-- its range.
 use Prim.Native.Nat.{ℕ, _≤_, _<_}
 use mathlib.Core.Path.{_≡_, refl, sym, ap, _∙_}
+use mathlib.Core.Bool.{Bool, cond}
+use mathlib.Core.List.{[], _∷_, _++_}
 use native.Mathlib.Omega.{arith}
 use native.Mathlib.Decide.{ℕ-discrete}
+use borrow.Author.Tests.{eq-eqb, ne-eqb}
+use lib.Dec.{eqb}
 use lib.IntN.{pos}
 use Rattle.lists.specs.Lists.{joined, allOf}
 use Rattle.lists.specs.Sums.{sumToZ, sumOf}
@@ -11,15 +16,18 @@ use Rattle.lists.proofs.Sums.{sum-most, sumOf-all}
 use Rattle.lists.proofs.SumsZ.{sumZ-same}
 use Rattle.task.specs.Types.{nil, capped}
 use Rattle.task.specs.declared.Limits.{Limits}
-use Rattle.rules.specs.Memory.{Mem, tasks, graphIn, ringNumber, counterIn, weightIn}
-use Rattle.algorithm1.specs.State.{State, weightOf, queueOf, counterOf, waitingFor}
-use Rattle.algorithm1.specs.Reading.{queueIn, stateOf}
-use Rattle.algorithm1.proofs.Readings.{queue-at, counter-at}
-use Rattle.runs.specs.Counters.{Within, CountersAddUp}
+use Rattle.rules.specs.Memory.{Mem, tasks, graphIn, ringNumber, counterIn, weightIn, rowIn, held}
+use Rattle.algorithm1.specs.State.{Thread, State, weightOf, queueOf, counterOf, waitingFor, threadOf}
+use Rattle.algorithm1.specs.Reading.{queueIn, threadIn, stateOf}
+use Rattle.algorithm1.proofs.Readings.{queue-at, counter-at, thread-at, phase-at}
+use Rattle.system.specs.Stages.{Hand, inHand}
+use Rattle.runs.specs.Items.{handOf}
+use Rattle.runs.specs.Counters.{Within, inHandOf, CountersAddUp}
 use Rattle.runs.proofs.Invariant.{itemsOf, meaning}
 use Rattle.runs.proofs.Begun.{all-listed}
 use Rattle.runs.proofs.Calls.{weights-reached}
-use Rattle.runs.proofs.ItemCounters.{charged-waiting}
+use Rattle.runs.proofs.Hands.{hand-idle, hand-holds}
+use Rattle.runs.proofs.ItemCounters.{charged-items}
 use Rattle.runs.proofs.ItemBounds.{placed, placed-all, bounded-within}
 use Rattle.runs.proofs.Honest.{systemIn, Honest, honest-invariant, ends-sound, honest-run}
 
@@ -44,14 +52,30 @@ module _ {limits : Limits} {p k : ℕ} {m : Mem} (h : Honest limits p k m) where
   pub honest-within : (i j : ℕ) → i < p → j < p → Within (counterIn m (ringNumber p i j))
   honest-within i j hi hj = rw (counter-at p k m i j hi hj) at (bounded-within (nil .0) (weightOf state) p state (h .bounded) placed-few i j hi hj)
 
-  -- the counters and the lists are the lent words
-  honest-words : (i : ℕ) → i < p → sumToZ p (λ j. counterIn m (ringNumber p i j)) ≡ pos (sumOf (weightIn m) (joined p (queueIn p k m i)))
+  -- the task in hand is the held one where the phase isn't 0
+  hand-words : (i : ℕ) → i < p → inHand (handOf (threadOf state i)) ≡ inHandOf m i
+  unfolding inHandOf threadIn
+  hand-words i l = go (ℕ-discrete (rowIn m i .phase) 0)
+    where
+      told : {b : Bool} → eqb (rowIn m i .phase) 0 ≡ b → inHandOf m i ≡ cond b [] (held m i ∷ [])
+      told e = ap (λ (b : Bool). cond b [] (held m i ∷ [])) e
+
+      go : Dec (rowIn m i .phase ≡ 0) → inHand (handOf (threadOf state i)) ≡ inHandOf m i
+      go (yes e) = ap (λ (x : Hand ℕ). inHand x) (hand-idle (threadOf state i) (phase-at p k m i l ∙ e)) ∙ sym (told (eq-eqb (rowIn m i .phase) 0 e))
+      go (no n) =
+          hand-holds (threadOf state i) (λ e. n (sym (phase-at p k m i l) ∙ e))
+          ∙ ap (λ (r : Thread). r .held ∷ []) (thread-at p k m i l) ∙ sym (told (ne-eqb (rowIn m i .phase) 0 n))
+
+  -- the counters, the lists and the hands are the lent words
+  honest-words : (i : ℕ) → i < p
+      → sumToZ p (λ j. counterIn m (ringNumber p i j)) ≡ pos (sumOf (weightIn m) (joined p (queueIn p k m i) ++ inHandOf m i))
   unfolding waitingFor stateOf
   honest-words i l =
       sym (sumZ-same p (λ j. counterIn m (ringNumber p i j)) (counterOf state i) (λ j lj. counter-at p k m i j l lj))
       ∙ h .addsUp .worker i l
       ∙ ap (λ l. pos (sumOf (weightIn m) l))
-      (charged-waiting (nil .0) p state i ∙ joined-same p (queueIn p k m i) (queueOf state i) (λ j lj. queue-at p k m i j l lj))
+      (charged-items (nil .0) p state i
+      ∙ rw (joined-same p (queueIn p k m i) (queueOf state i) (λ j lj. queue-at p k m i j l lj), hand-words i l) refl)
 
 pub counters-add-up : CountersAddUp
 counters-add-up =

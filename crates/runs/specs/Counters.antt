@@ -1,7 +1,10 @@
--- "After each step, in memory begun and written by the engine alone, the split counters of a worker add up to the weight of the tasks waiting
--- for that worker." "A counter always lies within ±67,107,840 in an honest run."
+-- "A worker's counters then add up to the weight waiting for it plus that in its hand" (document 02, No. 3), "After each step, in memory begun and
+-- written by the engine alone". "A counter always lies within ±67,107,840 in an honest run."
 use Prim.Native.Nat.{ℕ, _+_, _*_, _<_}
 use mathlib.Core.Path.{_≡_}
+use mathlib.Core.Bool.{cond}
+use mathlib.Core.List.{List, [], _∷_, _++_}
+use lib.Dec.{eqb}
 use lib.ListN.{getD}
 use lib.IntN.{ℤ, pos, negsuc}
 use lib.Signed.{_≤ℤ_}
@@ -9,7 +12,7 @@ use Rattle.lists.specs.Lists.{joined}
 use Rattle.lists.specs.Sums.{sumToZ, sumOf}
 use Rattle.task.specs.Types.{nil}
 use Rattle.ring.specs.Ring.{Sound}
-use Rattle.rules.specs.Memory.{ringNumber, endsIn, weightIn}
+use Rattle.rules.specs.Memory.{Mem, ringNumber, endsIn, weightIn, rowIn, held}
 use Rattle.algorithm1.specs.State.{State, weightOf}
 use Rattle.algorithm1.specs.Reading.{queueIn, stateOf}
 use Rattle.runs.specs.Calls.{Run, memoryOf}
@@ -24,13 +27,18 @@ pub record Within (c : ℤ) : Type 0 where
   pub low : negsuc 67107839 ≤ℤ c
   pub high : c ≤ℤ pos 67107840
 
+-- the task in worker i's hand, if any: phases 1 and 2 have one (in a run there is no other phase, and it is a task: `Undamaged`)
+unfoldable pub inHandOf : Mem → ℕ → List ℕ
+inHandOf m i = cond (eqb (rowIn m i .phase) 0) [] (held m i ∷ [])
+
 -- PROMISE: after every list of a run's calls
 pub record CountersAddUp : Type 0 where
   -- no ring's list is read from damaged ends, as an empty one: both are slots
   pub ends : (r : Run) (i j : ℕ) → i < r .workers → j < r .workers → Sound (r .slots) (endsIn (memoryOf r) (ringNumber (r .workers) i j))
   pub addsUp : (r : Run) → AddsUp (r .workers) (stateOf (r .workers) (r .slots) (memoryOf r))
-  -- the same in the lent words: the counters at places i·P .. i·P + P−1, and begin's weights of the tasks in the rings of owner i
+  -- the same in the lent words: the counters at places i·P .. i·P + P−1, and begin's weights of the tasks in the rings of owner i and of the one in its
+  -- hand
   pub words : (r : Run) (i : ℕ) → i < r .workers
       → sumToZ (r .workers) (λ j. getD (memoryOf r .counters) (i * r .workers + j) (pos 0))
-      ≡ pos (sumOf (weightIn (r .lent)) (joined (r .workers) (queueIn (r .workers) (r .slots) (memoryOf r) i)))
+      ≡ pos (sumOf (weightIn (r .lent)) (joined (r .workers) (queueIn (r .workers) (r .slots) (memoryOf r) i) ++ inHandOf (memoryOf r) i))
   pub within : (r : Run) (i j : ℕ) → i < r .workers → j < r .workers → Within (getD (memoryOf r .counters) (i * r .workers + j) (pos 0))

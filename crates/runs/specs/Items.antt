@@ -18,10 +18,10 @@ handOf r = cond (eqb (r .phase) 0) idle (cond (eqb (r .phase) 1) (fetched (r .he
 pub data Stage : Type 0 where
   waiting held : Stage
 
--- the stages whose weight a worker's counters carry, where each item has a weight of its own: it joins when an item is placed, and leaves when it is
--- fetched
+-- the stages whose weight a worker's counters carry, where each item has a weight of its own, "the weight waiting for it plus that in its hand": it
+-- joins when an item is placed, and leaves when it is completed
 abbrev pub charged : List Stage
-charged = waiting ∷ []
+charged = waiting ∷ held ∷ []
 
 module _ {A : Type 0} (none : A) where
   -- worker i's items at a stage

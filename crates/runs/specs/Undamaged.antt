@@ -6,7 +6,7 @@ use mathlib.Core.List.{List, [], _∷_}
 use Rattle.task.specs.Refusals.{Said, refused, damaged, recordFull, stepSays}
 use Rattle.task.specs.declared.Limits.{Limits}
 use Rattle.task.specs.declared.Step.{Step}
-use Rattle.rules.specs.Memory.{tasks, rowIn, entriesIn}
+use Rattle.rules.specs.Memory.{tasks, rowIn, held, entriesIn}
 use Rattle.rules.specs.Steps.{step}
 use Rattle.runs.specs.Calls.{Event, Run, memoryOf, eventsOf}
 
@@ -29,3 +29,6 @@ pub record Undamaged : Type 0 where
   pub places : (r : Run) (i : ℕ) → i < r .workers
       → (rowIn (memoryOf r) i .read ≤ rowIn (memoryOf r) i .write) × (rowIn (memoryOf r) i .write ≤ tasks (r .lent))
   pub entries : (r : Run) → entriesIn (memoryOf r) ≤ tasks (r .lent)
+  -- "phase over 2", "held .. word ≥ N": a worker that isn't idle holds a task
+  pub phases : (r : Run) (i : ℕ) → i < r .workers → rowIn (memoryOf r) i .phase ≤ 2
+  pub hands : (r : Run) (i : ℕ) → i < r .workers → ¬ (_≡_ {A = ℕ} (rowIn (memoryOf r) i .phase) 0) → held (memoryOf r) i < tasks (r .lent)
