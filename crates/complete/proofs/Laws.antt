@@ -1,11 +1,12 @@
 -- The cases of Complete's plan, in the order of its rule; what its reads and writes ask; the step's result in each case.
 use Prim.Native.Nat.{ℕ, _+_, _-_, _*_, _≤_, _<_}
-use mathlib.Core.Path.{_≡_, refl, ap, _∙_}
+use mathlib.Core.Path.{_≡_, refl, sym, ap, _∙_}
 use mathlib.Core.Bool.{Bool, true, false, cond, not, _&&_, _||_}
 use mathlib.Core.List.{List}
 use native.Mathlib.Omega.{arith}
 use lib.Dec.{ltb, leb, eqb}
 use lib.ListN.{length, getD, set}
+use lib.IntN.{ℤ, pos, _-ℤ_}
 use borrow.Author.Tests.{ltb-true, lt-ltb, le-ltb, le-leb, lt-leb, eq-eqb, ne-eqb, not-true, not-false}
 use Rattle.lists.proofs.Apart.{unequal}
 use Rattle.lists.proofs.Places.{place-lt}
@@ -19,7 +20,8 @@ use Rattle.task.specs.declared.StepOutcome.the-variants.{Moved}
 use Rattle.memory.specs.Field as list
 use Rattle.memory.specs.Updates.{storeWords, updated, written}
 use Rattle.memory.proofs.Fields.{set-again}
-use Rattle.rules.specs.Memory.{Mem, allEntries, allSteps, rowIn, withHand, withPlaces}
+use Rattle.rules.specs.Memory.{Mem, allEntries, allSteps, ringNumber, rowIn, withHand, withPlaces}
+use Rattle.rules.specs.Words.{counterFits}
 use Rattle.rules.specs.Plans.{Plan, refuse, refuseIf, checked, counted}
 use Rattle.rules.specs.Steps.{completeSink, completeInner, completeRule, ruleOf}
 use Rattle.admission.specs.Admission.{sizesOf, Judges, Measured, Admits, Enters}
@@ -47,7 +49,16 @@ other : (a b : Bool) → not (a || b) ≡ false → a ≡ false → b ≡ true
 other true b e q = unequal cc
 other false b e q = not-false b e
 
-module _ (n e : ℕ) (row : Row) (succStarts run : List ℕ) where
+module _ (e own : ℕ) (row : Row) (weights succStarts : List ℕ) (counters : List ℤ) (run : List ℕ) where
+  abbrev n : ℕ
+  n = length weights
+
+  abbrev weight : ℕ
+  weight = getD weights (row .held .0) 0
+
+  abbrev counter : ℤ
+  counter = getD counters own (pos 0)
+
   abbrev first : ℕ
   first = getD succStarts (row .held .0) 0
 
@@ -71,104 +82,153 @@ module _ (n e : ℕ) (row : Row) (succStarts run : List ℕ) where
   abbrev joins : Plan → Plan
   joins rest = checked (leb (row .read) (row .write) && leb (row .write) n) (checked (ltb (row .write) n) (steady rest))
 
+  -- the rule once the held task is known
+  abbrev weighed : Plan → Plan → Plan
+  weighed alone joined =
+      checked (leb weight 65535)
+      (checked (counterFits counter)
+      (checked ranged
+      (cond sink (steady alone) (joins joined))))
+
   -- the rule in the words that are read, by what it comes to for a sink and for a task with successors
   abbrev ruled : Plan → Plan → Plan
   ruled alone joined =
       checked (leb (getD run 0 0) n)
       (refuseIf (eqb (getD run 0 0) n) recordFull 0
       (checked (ltb (row .held .0) n)
-      (checked ranged
-      (cond sink (steady alone) (joins joined)))))
+      (weighed alone joined)))
 
-  -- what the rule comes to, the run words being those that it reads
-  abbrev alone : ℕ → Mem → Plan
-  alone i m = planOf i m (Sink (getD run 0 0) (getD run 1 0))
+  -- what the rule comes to, the words being those that it reads
+  abbrev alone : ℕ → ℕ → Mem → Plan
+  alone p i m = planOf p i m (Sink (getD run 0 0) (getD run 1 0) weight)
 
-  abbrev joined : ℕ → Mem → Plan
-  joined i m = planOf i m (Inner (getD run 0 0) (getD run 1 0))
+  abbrev joined : ℕ → ℕ → Mem → Plan
+  joined p i m = planOf p i m (Inner (getD run 0 0) (getD run 1 0) weight)
 
-  planned : (plan : CompletePlan) → ((i : ℕ) (m : Mem) → ruled (alone i m) (joined i m) ≡ planOf i m plan) → Plans n e row succStarts run plan
+  abbrev Planned : CompletePlan → Type 0
+  Planned plan = Plans e own row weights succStarts counters run plan
+
+  planned : (plan : CompletePlan) → ((p i : ℕ) (m : Mem) → ruled (alone p i m) (joined p i m) ≡ planOf p i m plan) → Planned plan
   unfolding completeRule completeSink completeInner counted allEntries allSteps
-  planned plan f i m hn he hr hs hu = rw (← hn, ← he, hr, ← hs, ← hu) at f i m
+  planned plan f p i m he ho hr hw hs hc hu = rw (← he, ho, hr, ← hw, ← hs, ← hc, ← hu) at f p i m
 
-  pub plan-over : n < getD run 0 0 → Plans n e row succStarts run (Refused 8 0)
-  plan-over h = planned (Refused 8 0) (λ i m. simp (lt-leb _ _ h))
+  pub plan-over : n < getD run 0 0 → Planned (Refused 8 0)
+  plan-over h = planned (Refused 8 0) (λ p i m. simp (lt-leb _ _ h))
 
   module _ (a : getD run 0 0 ≤ n) where
-    pub plan-full : getD run 0 0 ≡ n → Plans n e row succStarts run (Refused 12 0)
-    plan-full h = planned (Refused 12 0) (λ i m. simp (le-leb _ _ a, eq-eqb _ _ h))
+    pub plan-full : getD run 0 0 ≡ n → Planned (Refused 12 0)
+    plan-full h = planned (Refused 12 0) (λ p i m. simp (le-leb _ _ a, eq-eqb _ _ h))
 
     module _ (b : ¬ (getD run 0 0 ≡ n)) where
-      pub plan-held : n ≤ row .held .0 → Plans n e row succStarts run (Refused 8 0)
-      plan-held h = planned (Refused 8 0) (λ i m. simp (le-leb _ _ a, ne-eqb _ _ b, le-ltb _ _ h))
+      pub plan-held : n ≤ row .held .0 → Planned (Refused 8 0)
+      plan-held h = planned (Refused 8 0) (λ p i m. simp (le-leb _ _ a, ne-eqb _ _ b, le-ltb _ _ h))
 
       module _ (c : row .held .0 < n) where
-        pub plan-range : not ranged ≡ true → Plans n e row succStarts run (Refused 8 0)
-        plan-range h = planned (Refused 8 0) (λ i m. simp (le-leb _ _ a, ne-eqb _ _ b, lt-ltb _ _ c, not-true ranged h))
+        -- what the tests up to here leave of the rule
+        heldKnown : (plan : CompletePlan) → ((p i : ℕ) (m : Mem) → weighed (alone p i m) (joined p i m) ≡ planOf p i m plan) → Planned plan
+        heldKnown plan f = planned plan (λ p i m. rw (le-leb _ _ a, ne-eqb _ _ b, lt-ltb _ _ c) (f p i m))
 
-        module _ (d : not ranged ≡ false) where
-          -- what the tests up to here leave of the rule
-          later : (plan : CompletePlan) → ((i : ℕ) (m : Mem) → cond sink (steady (alone i m)) (joins (joined i m)) ≡ planOf i m plan)
-              → Plans n e row succStarts run plan
-          later plan f = planned plan (λ i m. simp (le-leb _ _ a, ne-eqb _ _ b, lt-ltb _ _ c, not-false ranged d) (f i m))
+        pub plan-heavy : 65535 < weight → Planned (Refused 8 0)
+        plan-heavy h = heldKnown (Refused 8 0) (λ p i m. rw (lt-leb weight 65535 h) refl)
 
-          pub plan-places : not (sink || placed) ≡ true → Plans n e row succStarts run (Refused 8 0)
-          plan-places h =
-              let (s, j) = or-false sink placed (not-true (sink || placed) h) in
-              later (Refused 8 0) (λ i m. rw s (unplaced (leb (row .read) (row .write)) (leb (row .write) n) (ltb (row .write) n) _ j))
+        module _ (l : weight ≤ 65535) (fits : Bool) (hf : fits ≡ counterFits counter) where
+          pub plan-counter : not fits ≡ true → Planned (Refused 8 0)
+          plan-counter h = heldKnown (Refused 8 0) (λ p i m. rw (le-leb weight 65535 l, sym hf ∙ not-true fits h) refl)
 
-          module _ (f : not (sink || placed) ≡ false) where
-            pub plan-counted : 3 * n + e ≤ getD run 1 0 → Plans n e row succStarts run (Refused 8 0)
-            plan-counted h = later (Refused 8 0) (λ i m. simp (le-ltb _ _ h, cond-either))
+          module _ (x : not fits ≡ false) where
+            counter-fits : counterFits counter ≡ true
+            counter-fits = sym hf ∙ not-false fits x
 
-            module _ (g : getD run 1 0 < 3 * n + e) where
-              room : Room n e run (getD run 0 0) (getD run 1 0)
-              room = record { entriesWord = refl; acceptedWord = refl; entry = omega arith; step = g }
+            pub plan-range : not ranged ≡ true → Planned (Refused 8 0)
+            plan-range h = heldKnown (Refused 8 0) (λ p i m. rw (le-leb weight 65535 l, counter-fits, not-true ranged h) refl)
 
-              pub plan-sink : sink ≡ true → Decides n e row succStarts run (Sink (getD run 0 0) (getD run 1 0))
-              plan-sink s = (later (Sink (getD run 0 0) (getD run 1 0)) (λ i m. simp (s, lt-ltb _ _ g)), room)
+            module _ (d : not ranged ≡ false) where
+              later : (plan : CompletePlan) → ((p i : ℕ) (m : Mem) → cond sink (steady (alone p i m)) (joins (joined p i m)) ≡ planOf p i m plan)
+                  → Planned plan
+              later plan f = heldKnown plan (λ p i m. rw (le-leb weight 65535 l, counter-fits, not-false ranged d) (f p i m))
 
-              pub plan-inner : sink ≡ false → Decides n e row succStarts run (Inner (getD run 0 0) (getD run 1 0))
-              plan-inner s =
-                  let (r, w) = and-true (leb (row .read) (row .write)) (ltb (row .write) n) (other sink placed f s) in
-                  let x : row .write < n = ltb-true (row .write) n w in
-                  let y : row .write ≤ n = omega arith in
-                  (later (Inner (getD run 0 0) (getD run 1 0)) (λ i m. simp (s, r, le-leb _ _ y, w, lt-ltb _ _ g)), (room, x))
+              pub plan-places : not (sink || placed) ≡ true → Planned (Refused 8 0)
+              plan-places h =
+                  let (s, j) = or-false sink placed (not-true (sink || placed) h) in
+                  later (Refused 8 0) (λ p i m. rw s (unplaced (leb (row .read) (row .write)) (leb (row .write) n) (ltb (row .write) n) _ j))
+
+              module _ (f : not (sink || placed) ≡ false) where
+                pub plan-counted : 3 * n + e ≤ getD run 1 0 → Planned (Refused 8 0)
+                plan-counted h = later (Refused 8 0) (λ p i m. simp (le-ltb _ _ h, cond-either))
+
+                module _ (g : getD run 1 0 < 3 * n + e) where
+                  room : Room e own (row .held .0) weights counters run (getD run 0 0) (getD run 1 0) weight
+                  room = record {
+                    entriesWord = refl;
+                    acceptedWord = refl;
+                    weighs = refl;
+                    entry = omega arith;
+                    step = g;
+                    light = l;
+                    counter = counter-fits;
+                  }
+
+                  pub plan-sink : sink ≡ true → Decides e own row weights succStarts counters run (Sink (getD run 0 0) (getD run 1 0) weight)
+                  plan-sink s = (later (Sink (getD run 0 0) (getD run 1 0) weight) (λ p i m. simp (s, lt-ltb _ _ g)), room)
+
+                  pub plan-inner : sink ≡ false → Decides e own row weights succStarts counters run (Inner (getD run 0 0) (getD run 1 0) weight)
+                  plan-inner s =
+                      let (r, w) = and-true (leb (row .read) (row .write)) (ltb (row .write) n) (other sink placed f s) in
+                      let x : row .write < n = ltb-true (row .write) n w in
+                      let y : row .write ≤ n = omega arith in
+                      (later (Inner (getD run 0 0) (getD run 1 0) weight) (λ p i m. simp (s, r, le-leb _ _ y, w, lt-ltb _ _ g)), (room, x))
 
 -- What an admitted step's lengths let the plan read and its writes store.
 module _ (p k i : ℕ) (sizes : Sizes) (f : Measured p k i sizes) where
-  pub plan-asks : (starts words : ℕ) → starts ≡ sizes .«succ_starts» → words ≡ sizes .run
-      → (sizes .weights ≤ engine .tasks) × ((sizes .preds ≤ engine .edges) × ((starts ≡ sizes .weights + 1) × (words ≡ 2)))
-  plan-asks starts words s r = (f .fewTasks, (f .fewEdges, (s ∙ f .lengths .list list.succStarts, r ∙ f .lengths .list list.run)))
+  pub own-asks : (i < p) × (p ≤ engine .workers)
+  own-asks = (f .worker, f .fewWorkers)
 
-  pub record-asks : (places words : ℕ) (run : List ℕ) (entries accepted : ℕ) → places ≡ sizes .executed → words ≡ sizes .run
-      → Room (sizes .weights) (sizes .preds) run entries accepted → Recordable places words entries accepted
-  record-asks places words run entries accepted x r room = (
-    r ∙ f .lengths .list list.run,
-    (
-      omega (arith, f .lengths .list list.executed, room .entry),
-      (omega (arith, f .fewTasks, room .entry), omega (arith, f .fewTasks, f .fewEdges, room .step)),
-    ),
-  )
+  module _ (n : ℕ) (hn : n ≡ sizes .weights) where
+    pub plan-asks : (starts places words own : ℕ) → own < p * p → starts ≡ sizes .«succ_starts» → places ≡ sizes .counters → words ≡ sizes .run
+        → (n ≤ engine .tasks) × ((sizes .preds ≤ engine .edges) × ((starts ≡ n + 1) × ((own < places) × (words ≡ 2))))
+    plan-asks starts places words own o s c r = (
+      omega (arith, f .fewTasks),
+      (
+        f .fewEdges,
+        (omega (arith, f .lengths .list list.succStarts), (omega (arith, f .lengths .list list.counters), r ∙ f .lengths .list list.run)),
+      ),
+    )
 
-  pub buffer-asks : (places write : ℕ) → places ≡ sizes .buffers → write < sizes .weights
-      → (i * sizes .weights + write < places) × (places ≤ engine .workers * engine .tasks)
-  buffer-asks places write b h =
-      let few = few-places p k (sizes .weights) (f .fewWorkers, (f .fewSlots, f .fewTasks)) in
-      let lies = place-lt (sizes .weights) p i write (f .worker) h in
-      (omega (arith, f .lengths .list list.buffers), omega (arith, f .lengths .list list.buffers))
+    pub buffer-asks : (places write : ℕ) → places ≡ sizes .buffers → write < n → (i * n + write < places) × (places ≤ engine .workers * engine .tasks)
+    buffer-asks places write b h =
+        let few = few-places p k (sizes .weights) (f .fewWorkers, (f .fewSlots, f .fewTasks)) in
+        let lies = place-lt (sizes .weights) p i write (f .worker) (rw (← hn) h) in
+        rw hn (omega (arith, f .lengths .list list.buffers), omega (arith, f .lengths .list list.buffers))
 
-  pub place-asks : (write : ℕ) → write < sizes .weights → write < engine .tasks
-  place-asks write h = omega (arith, f .fewTasks)
+    pub place-asks : (write : ℕ) → write < n → write < engine .tasks
+    place-asks write h = omega (arith, f .fewTasks)
+
+  -- by the words as read
+  module _ (own task : ℕ) (weights : List ℕ) (counters : List ℤ) (run : List ℕ) (entries accepted weight : ℕ)
+      (room : Room (sizes .preds) own task weights counters run entries accepted weight) where
+    pub counter-asks : own < p * p → length counters ≡ sizes .counters
+        → (own < length counters) × ((counterFits (getD counters own (pos 0)) ≡ true) × (weight ≤ 65535))
+    counter-asks o c = (omega (arith, f .lengths .list list.counters), (room .counter, room .light))
+
+    pub record-asks : length weights ≡ sizes .weights → (places words : ℕ) → places ≡ sizes .executed → words ≡ sizes .run
+        → Recordable places words entries accepted
+    record-asks w places words x r = (
+      r ∙ f .lengths .list list.run,
+      (
+        omega (arith, f .lengths .list list.executed, room .entry),
+        (omega (arith, f .fewTasks, room .entry), omega (arith, f .fewTasks, f .fewEdges, room .step)),
+      ),
+    )
 
 -- an accepted plan can be written
-pub sink-writable : (n e : ℕ) (row : Row) (succStarts run : List ℕ) (plan : CompletePlan) → Decides n e row succStarts run plan
-    → (entries accepted : ℕ) → plan ≡ Sink entries accepted → Room n e run entries accepted
-sink-writable n e row succStarts run plan d entries accepted w = rw w at d .1
+module _ (e own : ℕ) (row : Row) (weights succStarts : List ℕ) (counters : List ℤ) (run : List ℕ) (plan : CompletePlan)
+    (d : Decides e own row weights succStarts counters run plan) (entries accepted weight : ℕ) where
+  pub sink-writable : plan ≡ Sink entries accepted weight → Room e own (row .held .0) weights counters run entries accepted weight
+  sink-writable w = rw w at d .1
 
-pub inner-writable : (n e : ℕ) (row : Row) (succStarts run : List ℕ) (plan : CompletePlan) → Decides n e row succStarts run plan
-    → (entries accepted : ℕ) → plan ≡ Inner entries accepted → Room n e run entries accepted × (row .write < n)
-inner-writable n e row succStarts run plan d entries accepted w = rw w at d .1
+  pub inner-writable : plan ≡ Inner entries accepted weight
+      → Room e own (row .held .0) weights counters run entries accepted weight × (row .write < length weights)
+  inner-writable w = rw w at d .1
 
 -- an accepted Complete leaves the row's other words
 pub hand-and-write : (row : Row) (judged : Judged) (r : Admitted) → Admits row Complete judged r → (after : Row) → r ≡ admitted.To after → (write : ℕ)
@@ -176,30 +236,31 @@ pub hand-and-write : (row : Row) (judged : Judged) (r : Admitted) → Admits row
 hand-and-write row judged r told after v write a o = rw (o, admission-entered row Complete judged r told after v .1) refl
 
 -- The step by value: its admission and its plan, then the result.
-module _ (p k i : ℕ) (sizes : Sizes) (row : Row) (succStarts buffers executed run : List ℕ) (judged : Judged) (r : Admitted)
-    (told : Admits row Complete judged r) where
+module _ (p k i : ℕ) (sizes : Sizes) (row : Row) (weights succStarts : List ℕ) (counters : List ℤ) (buffers executed run : List ℕ) (judged : Judged)
+    (r : Admitted) (told : Admits row Complete judged r) where
   abbrev before : Mem → Mem
-  before m = lent m succStarts buffers executed run (m .rows)
+  before m = lent m weights succStarts counters buffers executed run (m .rows)
 
-  pub row-refused : (n d : ℕ) → r ≡ admitted.Refused n d
-      → Completes p k i sizes judged row succStarts buffers buffers executed executed run run (stepped.Refused n d)
+  -- what it leaves of the lists that it writes
+  abbrev Leaves : List ℤ → List ℕ → List ℕ → List ℕ → Stepped → Type 0
+  Leaves counters' buffers' executed' run' a =
+      Completes p k i sizes judged row weights succStarts counters counters' buffers buffers' executed executed' run run' a
+
+  pub row-refused : (n d : ℕ) → r ≡ admitted.Refused n d → Leaves counters buffers executed run (stepped.Refused n d)
   row-refused n d v limits m j e h =
       refused-result limits p k i Complete (before m) n d
       (admission-refused p k i sizes row Complete limits (before m) e h judged j r told n d v)
 
-  module _ (after : Row) (v : r ≡ admitted.To after) (plan : CompletePlan) (decided : Decides (sizes .weights) (sizes .preds) after succStarts run plan) where
+  module _ (after : Row) (v : r ≡ admitted.To after) (own : ℕ) (ho : own ≡ ringNumber p i i) (plan : CompletePlan)
+      (decided : Decides (sizes .preds) own after weights succStarts counters run plan) where
     module _ (limits : Limits) (m : Mem) (j : Judges limits p k i sizes judged) (e : sizesOf (before m) ≡ sizes) (h : rowIn m i ≡ row) where
       enters : Enters limits p k i Complete (before m) after
       enters = admission-enters p k i sizes row Complete limits (before m) e h judged j r told after v
 
-      tasks-are : length (m .weights) ≡ sizes .weights
-      tasks-are = ap (λ (x : Sizes). x .weights) e
+      follows : (q : CompletePlan) → plan ≡ q → completeRule p i (before m) ≡ planOf p i (before m) q
+      follows q w = rw (← w) (decided .0 p i (before m) (ap (λ (x : Sizes). x .preds) e) ho (enters .leads) refl refl refl refl)
 
-      follows : (q : CompletePlan) → plan ≡ q → completeRule i (before m) ≡ planOf i (before m) q
-      follows q w = rw (← w) (decided .0 i (before m) tasks-are (ap (λ (x : Sizes). x .preds) e) (enters .leads) refl refl)
-
-    pub rule-refuses : (n d : ℕ) → plan ≡ Refused n d
-        → Completes p k i sizes judged row succStarts buffers buffers executed executed run run (stepped.Refused n d)
+    pub rule-refuses : (n d : ℕ) → plan ≡ Refused n d → Leaves counters buffers executed run (stepped.Refused n d)
     unfolding ruleOf
     rule-refuses n d w limits m j e h =
         rule-refused limits p k i Complete (before m) after (enters limits m j e h) n d (follows limits m j e h (Refused n d) w)
@@ -208,29 +269,32 @@ module _ (p k i : ℕ) (sizes : Sizes) (row : Row) (succStarts buffers executed 
     abbrev left : ℕ → Row
     left write = withHand (after .phase) nil (withPlaces (after .read) write (after .cursor) after)
 
-    module _ (entries accepted : ℕ) (room : Room (sizes .weights) (sizes .preds) run entries accepted) (executed' run' : List ℕ)
+    module _ (entries accepted weight : ℕ) (room : Room (sizes .preds) own (after .held .0) weights counters run entries accepted weight)
+        (counters' : List ℤ) (lowered : counters' ≡ set counters own (getD counters own (pos 0) -ℤ pos weight)) (executed' run' : List ℕ)
         (records : Records entries accepted (after .held .0) i executed executed' run run') (a : Stepped) where
-      pub sink-made : plan ≡ Sink entries accepted → a ≡ stepped.Taken Moved (left (after .write))
-          → Completes p k i sizes judged row succStarts buffers buffers executed executed' run run' a
+      pub sink-made : plan ≡ Sink entries accepted weight → a ≡ stepped.Taken Moved (left (after .write)) → Leaves counters' buffers executed' run' a
       unfolding ruleOf written updated storeWords
       sink-made w o limits m j e h =
-          rw (o, records .0, records .1, room .entriesWord, room .acceptedWord, enters limits m j e h .leads)
-          (rule-accepted limits p k i Complete (before m) after (enters limits m j e h) Moved _ (follows limits m j e h (Sink entries accepted) w))
+          rw (o, lowered, records .0, records .1, room .entriesWord, room .acceptedWord, room .weighs, ho, enters limits m j e h .leads)
+          (rule-accepted limits p k i Complete (before m) after (enters limits m j e h) Moved _ (follows limits m j e h (Sink entries accepted weight) w))
 
-      pub inner-made : plan ≡ Inner entries accepted
-          → (buffers' : List ℕ) → buffers' ≡ set buffers (i * sizes .weights + after .write) (after .held .0) → a ≡ stepped.Taken Moved (left (after .write + 1))
-          → Completes p k i sizes judged row succStarts buffers buffers' executed executed' run run' a
+      pub inner-made : plan ≡ Inner entries accepted weight
+          → (buffers' : List ℕ) → buffers' ≡ set buffers (i * length weights + after .write) (after .held .0)
+          → a ≡ stepped.Taken Moved (left (after .write + 1))
+          → Leaves counters' buffers' executed' run' a
       unfolding ruleOf written updated storeWords
       inner-made w buffers' hb o limits m j e h =
           rw (
             o,
+            lowered,
             records .0,
             records .1,
             room .entriesWord,
             room .acceptedWord,
+            room .weighs,
+            ho,
             hb,
-            ← tasks-are limits m j e h,
             enters limits m j e h .leads,
             ← set-again (m .rows) i (withHand 0 nil (rowIn m i)) idle (withPlaces (rowIn m i .read) (rowIn m i .write + 1) (rowIn m i .cursor)),
           )
-          (rule-accepted limits p k i Complete (before m) after (enters limits m j e h) Moved _ (follows limits m j e h (Inner entries accepted) w))
+          (rule-accepted limits p k i Complete (before m) after (enters limits m j e h) Moved _ (follows limits m j e h (Inner entries accepted weight) w))

@@ -2,6 +2,7 @@
 use Prim.Native.Nat.{ℕ}
 use mathlib.Core.Path.{_≡_}
 use mathlib.Core.List.{List}
+use lib.IntN.{ℤ}
 use Rattle.task.specs.declared.Limits.{Limits}
 use Rattle.task.specs.declared.Row.{Row}
 use Rattle.task.specs.declared.Step.the-variants as step-name
@@ -17,20 +18,24 @@ use Rattle.admission.specs.declared.Stepped.{Stepped}
 use Rattle.admission.specs.declared.Stepped.the-variants.{Refused, Taken}
 
 -- a memory with the lists that Complete reads and writes
-abbrev pub lent : Mem → List ℕ → List ℕ → List ℕ → List ℕ → List Row → Mem
-lent m succStarts buffers executed run rows =
-    put list.succStarts succStarts
+abbrev pub lent : Mem → List ℕ → List ℕ → List ℤ → List ℕ → List ℕ → List ℕ → List Row → Mem
+lent m weights succStarts counters buffers executed run rows =
+    put list.weights weights
+    (put list.succStarts succStarts
+    (put list.counters counters
     (put list.buffers buffers
     (put list.executed executed
     (put list.run run
-    (put list.rows rows m))))
+    (put list.rows rows m))))))
 
 -- whatever the other lists hold
-abbrev pub Completes : ℕ → ℕ → ℕ → Sizes → Judged → Row → List ℕ → List ℕ → List ℕ → List ℕ → List ℕ → List ℕ → List ℕ → Stepped → Type 0
-Completes p k i sizes judged row succStarts buffers buffers' executed executed' run run' r =
-    (limits : Limits) (m : Mem) → Judges limits p k i sizes judged → sizesOf (lent m succStarts buffers executed run (m .rows)) ≡ sizes → rowIn m i ≡ row
-    → resultOf (answerOf r) (lent m succStarts buffers' executed' run' (rowsAfter (m .rows) i r))
-    ≡ step limits p k i step-name.Complete (lent m succStarts buffers executed run (m .rows))
+abbrev pub Completes : ℕ → ℕ → ℕ → Sizes → Judged → Row → List ℕ → List ℕ → List ℤ → List ℤ
+    → List ℕ → List ℕ → List ℕ → List ℕ → List ℕ → List ℕ → Stepped → Type 0
+Completes p k i sizes judged row weights succStarts counters counters' buffers buffers' executed executed' run run' r =
+    (limits : Limits) (m : Mem) → Judges limits p k i sizes judged
+    → sizesOf (lent m weights succStarts counters buffers executed run (m .rows)) ≡ sizes → rowIn m i ≡ row
+    → resultOf (answerOf r) (lent m weights succStarts counters' buffers' executed' run' (rowsAfter (m .rows) i r))
+    ≡ step limits p k i step-name.Complete (lent m weights succStarts counters buffers executed run (m .rows))
 
 -- the row keeps its words but the hand and the write place
 abbrev pub HandAndWrite : Row → Stepped → Type 0

@@ -1,4 +1,4 @@
-// Complete: the held task joins the record, and the completed buffer if it has successors.
+// Complete: the held task's weight leaves the worker's own counter; the task joins the record, and the completed buffer if it has successors.
 ghost use mathlib.Core.Path.{_≡_};
 ghost use Prim.Native.Nat.{_+_, _*_, _≤_, _<_};
 ghost use lib.ListN.{length, set};
@@ -20,19 +20,32 @@ use task::TaskId;
 use task::WorkerId;
 use task::refusal;
 
-// What Complete is to do: refused, or the held task joins the record, and the buffer where it is no sink; with the run words as read.
+// What Complete is to do: refused, or the held task joins the record, and the buffer where it is no sink; with the run words and the task's
+// weight as read.
 enum CompletePlan {
     Refused(u32, u32),
-    Sink(u32, u32),
-    Inner(u32, u32),
+    Sink(u32, u32, u32),
+    Inner(u32, u32, u32),
 }
 
-// Everything is read and checked: the entries word, the held task and its successor range, for a task with successors
-// the buffer's places, the accepted word.
-fn plan_complete(succ_starts: &[u32], run: &[u32], n: usize, e: usize, row: Row) -> CompletePlan
-    requires { ⌜ (n ≤ engine .tasks) × ((e ≤ engine .edges) × ((length (now «succ_starts») ≡ n + 1) × (length (now run) ≡ 2))) ⌝ }
-    ensures { λ r. ⌜ Decides n e row (now («succ_starts» .entry)) (now (run .entry)) r ⌝ }
+// Everything is read and checked: the entries word, the held task, its weight, the worker's own counter, the successor range, for a task with
+// successors the buffer's places, the accepted word.
+fn plan_complete(
+    weights: &[u32],
+    succ_starts: &[u32],
+    counters: &[i32],
+    run: &[u32],
+    e: usize,
+    own: usize,
+    row: Row,
+) -> CompletePlan
+    requires { ⌜
+        (length (now weights) ≤ engine .tasks) × ((e ≤ engine .edges) × ((length (now «succ_starts») ≡ length (now weights) + 1)
+        × ((own < length (now counters)) × (length (now run) ≡ 2))))
+        ⌝ }
+    ensures { λ r. ⌜ Decides e own row (now (weights .entry)) (now («succ_starts» .entry)) (now (counters .entry)) (now (run .entry)) r ⌝ }
 {
+    let n = weights.len();
     let entries = run[0];
     if n < entries as usize {
         return CompletePlan::Refused(refusal::DAMAGED, 0);
@@ -42,6 +55,13 @@ fn plan_complete(succ_starts: &[u32], run: &[u32], n: usize, e: usize, row: Row)
     }
     let held = row.held.0 as usize;
     if n <= held {
+        return CompletePlan::Refused(refusal::DAMAGED, 0);
+    }
+    let weight = weights[held];
+    if 65535 < weight {
+        return CompletePlan::Refused(refusal::DAMAGED, 0);
+    }
+    if !counters::counter_fits(counters, own) {
         return CompletePlan::Refused(refusal::DAMAGED, 0);
     }
     let first = succ_starts[held];
@@ -59,10 +79,9 @@ fn plan_complete(succ_starts: &[u32], run: &[u32], n: usize, e: usize, row: Row)
         return CompletePlan::Refused(refusal::DAMAGED, 0);
     }
     if sink {
-        CompletePlan::Sink(entries, accepted)
-    } else {
-        CompletePlan::Inner(entries, accepted)
+        return CompletePlan::Sink(entries, accepted, weight);
     }
+    CompletePlan::Inner(entries, accepted, weight)
 }
 
 // The task and its worker join the record, and the step is counted, by the run words as read.
@@ -94,7 +113,7 @@ fn join_buffer(buffers: &mut [u32], n: usize, worker: WorkerId, write: u32, task
 }
 
 // An accepted Complete: "held becomes NIL", and the write place is as given.
-fn leave(row: Row, write: u32) -> Stepped
+fn let_go(row: Row, write: u32) -> Stepped
     ensures { λ r. ⌜ r ≡ Stepped.Taken StepOutcome.Moved (withHand (row .phase) nil (withPlaces (row .read) write (row .cursor) row)) ⌝ }
 {
     let pointer = row.pointer;
@@ -119,18 +138,22 @@ pub fn complete_row(
     k: usize,
     worker: WorkerId,
     row: Row,
+    weights: &[u32],
     succ_starts: &[u32],
+    counters: &mut [i32],
     buffers: &mut [u32],
     executed: &mut [u32],
     run: &mut [u32],
 ) -> Stepped
     requires { ⌜
-        Knows p k (worker .0) sizes judged × ((length (now «succ_starts») ≡ sizes .«succ_starts»)
+        Knows p k (worker .0) sizes judged × ((length (now weights) ≡ sizes .weights)
+        × ((length (now «succ_starts») ≡ sizes .«succ_starts») × ((length (now counters) ≡ sizes .counters)
         × ((length (now buffers) ≡ sizes .buffers) × ((length (now executed) ≡ sizes .executed)
-        × (length (now run) ≡ sizes .run))))
+        × (length (now run) ≡ sizes .run))))))
         ⌝ }
     ensures { λ r. ⌜
-        Completes p k (worker .0) sizes judged row (now («succ_starts» .entry)) (now (buffers .entry)) (now (buffers .exit))
+        Completes p k (worker .0) sizes judged row (now (weights .entry)) (now («succ_starts» .entry))
+        (now (counters .entry)) (now (counters .exit)) (now (buffers .entry)) (now (buffers .exit))
         (now (executed .entry)) (now (executed .exit)) (now (run .entry)) (now (run .exit)) r
         ⌝ }
     ensures { λ r. ⌜ HandAndWrite row r ⌝ }
@@ -140,19 +163,21 @@ pub fn complete_row(
         Admitted::Refused(number, detail) => return Stepped::Refused(number, detail),
         Admitted::To(after) => after,
     };
-    let n = sizes.weights;
-    let plan = plan_complete(succ_starts, run, n, sizes.preds, after);
+    let own = searches::ring_number(p, worker, worker);
+    let plan = plan_complete(weights, succ_starts, counters, run, sizes.preds, own, after);
     let held = after.held;
     match plan {
         CompletePlan::Refused(number, detail) => Stepped::Refused(number, detail),
-        CompletePlan::Sink(entries, accepted) => {
+        CompletePlan::Sink(entries, accepted, weight) => {
+            counters::lower(counters, own, weight);
             join_record(executed, run, entries, accepted, held, worker);
-            leave(after, after.write)
+            let_go(after, after.write)
         }
-        CompletePlan::Inner(entries, accepted) => {
+        CompletePlan::Inner(entries, accepted, weight) => {
+            counters::lower(counters, own, weight);
             join_record(executed, run, entries, accepted, held, worker);
-            join_buffer(buffers, n, worker, after.write, held);
-            leave(after, after.write + 1)
+            join_buffer(buffers, weights.len(), worker, after.write, held);
+            let_go(after, after.write + 1)
         }
     }
 }

@@ -1,13 +1,11 @@
 -- Laws over plain lists and numbers that the functions' proofs cite: the rule's stages, each with its test.
 use Prim.Native.Nat.{ℕ, _+_, _*_, _%_, _≤_, _<_}
 use mathlib.Core.Path.{_≡_, refl, sym, ap, subst, _∙_}
-use mathlib.Core.Bool.{Bool, true, false, not}
 use mathlib.Core.List.{List, [], _∷_}
 use native.Mathlib.Omega.{arith}
 use native.Mathlib.Nat.{mod-lt}
-use borrow.Author.Tests.{lt-ltb, le-ltb, le-leb, lt-leb, not-true, not-false}
+use borrow.Author.Tests.{lt-ltb, le-ltb}
 use lib.ListN.{length, getD, set}
-use lib.IntN.{ℤ, pos, _-ℤ_}
 use Rattle.lists.specs.Circles.{after}
 use Rattle.lists.proofs.Places.{place-end}
 use Rattle.task.specs.Types.{idle, engine}
@@ -26,10 +24,9 @@ use Rattle.memory.specs.Field as list
 use Rattle.memory.specs.Updates.{updated, written}
 use Rattle.memory.proofs.Fields.{set-again}
 use Rattle.rules.specs.Memory.{Mem, allSteps, ringNumber, rowIn, withHand, withPointer, pointerIn}
-use Rattle.rules.specs.Words.{counterFits}
 use Rattle.rules.specs.Updates.{Update, putEnds, putHand, putPointer}
 use Rattle.rules.specs.Plans.{accept, withCount, counted}
-use Rattle.rules.specs.Steps.{scan, leave, fetchTask, fetchFrom, fetchRule, ruleOf}
+use Rattle.rules.specs.Steps.{scan, fetchTask, fetchFrom, fetchRule, ruleOf}
 use Rattle.rules.proofs.Searches.{Looked, search-looked}
 use Rattle.searches.specs.Searches.{foundOf, Reads}
 use Rattle.searches.specs.declared.Found.{Found}
@@ -42,60 +39,31 @@ use Rattle.admission.specs.declared.Judged.{Judged}
 use Rattle.admission.specs.declared.Stepped.{Stepped}
 use Rattle.admission.specs.declared.Stepped.the-variants as stepped
 use Rattle.admission.proofs.Rows.{admission-measured, admission-refused, admission-entered, admission-enters, few-steps, refused-result, rule-refused, rule-accepted}
-use Rattle.fetch.specs.Fetch.{lent, stepsWith, FetchesAdmitted, Fetches, HandAndPointer}
-use Rattle.fetch.specs.Plan.{Ready, Sized, scanOf, lowered, PlansTask, Takes, PlansFetch}
+use Rattle.fetch.specs.Fetch.{lent, Extent, FetchesAdmitted, Fetches, HandAndPointer}
+use Rattle.fetch.specs.Plan.{Ready, Sized, scanOf, PlansTask, Takes, PlansFetch}
 use Rattle.fetch.specs.declared.Head.{Head}
 use Rattle.fetch.specs.declared.FetchPlan.{FetchPlan}
 use Rattle.fetch.specs.declared.FetchPlan.the-variants.{Refused, Take}
 
 -- a memory before the step
-abbrev old : List ℕ → List ℕ → List ℕ → List ℤ → List ℕ → Mem → Mem
-old weights rings ends counters run m = lent m weights rings ends counters run (m .rows)
+abbrev old : List ℕ → List ℕ → List ℕ → Mem → Mem
+old rings ends run m = lent m rings ends run (m .rows)
 
 -- Task t, of the ring filled by j, with these ends.
-module _ (p i steps : ℕ) (weights : List ℕ) (counters : List ℤ) (run : List ℕ) (j : ℕ) (both : Ends) (t : ℕ) where
-  pub task-unknown : length weights ≤ t → PlansTask p i steps weights counters run j both t (Refused 8 0)
+module _ (n steps : ℕ) (run : List ℕ) (j : ℕ) (both : Ends) (t : ℕ) where
+  pub task-unknown : n ≤ t → PlansTask n steps run j both t (Refused 8 0)
   unfolding PlansTask fetchTask
-  task-unknown a k rings ends m e = rw (le-ltb t (length weights) a)
+  task-unknown a p k i rings ends m e = rw (e .0, le-ltb t n a)
 
-  module _ (a : t < length weights) where
-    pub task-heavy : 65535 < getD weights t 0 → PlansTask p i steps weights counters run j both t (Refused 8 0)
-    unfolding PlansTask fetchTask
-    task-heavy b k rings ends m e = rw (lt-ltb t (length weights) a, lt-leb (getD weights t 0) 65535 b)
+  module _ (a : t < n) where
+    pub task-counted : steps ≤ getD run 1 0 → PlansTask n steps run j both t (Refused 8 0)
+    unfolding PlansTask fetchTask counted allSteps
+    task-counted b p k i rings ends m e = rw (e .1, e .0, lt-ltb t n a, le-ltb (getD run 1 0) steps b)
 
-    module _ (b : getD weights t 0 ≤ 65535) (q : ℕ) (hq : q ≡ ringNumber p i i)
-        (fits : Bool) (hf : fits ≡ counterFits (getD counters q (pos 0))) where
-      counter-is : counterFits (getD counters (ringNumber p i i) (pos 0)) ≡ fits
-      counter-is = rw (← hq, hf)
-
-      pub task-counter : not fits ≡ true → PlansTask p i steps weights counters run j both t (Refused 8 0)
-      unfolding PlansTask fetchTask
-      task-counter c k rings ends m e =
-          rw (lt-ltb t (length weights) a, le-leb (getD weights t 0) 65535 b, counter-is ∙ not-true fits c)
-
-      module _ (c : not fits ≡ false) where
-        pub task-counted : steps ≤ getD run 1 0 → PlansTask p i steps weights counters run j both t (Refused 8 0)
-        unfolding PlansTask fetchTask counted allSteps
-        task-counted d k rings ends m e =
-            rw (
-              lt-ltb t (length weights) a,
-              le-leb (getD weights t 0) 65535 b,
-              counter-is ∙ not-false fits c,
-              e,
-              le-ltb (getD run 1 0) steps d,
-            )
-
-        pub task-fetchable : getD run 1 0 < steps → (filler : WorkerId) (task : TaskId) → filler .0 ≡ j → task .0 ≡ t
-            → PlansTask p i steps weights counters run j both t
-            (Take (record { filler = filler; ends = both; task = task; weight = getD weights t 0; accepted = getD run 1 0 }))
-        unfolding PlansTask
-        task-fetchable d filler task e f = (
-          e,
-          (
-            refl,
-            (f, record { known = rw f a; weighs = rw f refl; light = b; counter = counter-is ∙ not-false fits c; counts = refl; accepted = d }),
-          ),
-        )
+    pub task-fetchable : getD run 1 0 < steps → (filler : WorkerId) (task : TaskId) → filler .0 ≡ j → task .0 ≡ t
+        → PlansTask n steps run j both t (Take (record { filler = filler; ends = both; task = task; accepted = getD run 1 0 }))
+    unfolding PlansTask
+    task-fetchable b filler task e f = (e, (refl, (f, record { known = rw f a; counts = refl; accepted = b })))
 
 -- Where the scan stops.
 module _ (p k i pointer : ℕ) (ends : List ℕ) (x : Found) (hx : foundOf x ≡ scanOf p k i pointer ends)
@@ -115,28 +83,28 @@ module _ (p k i pointer : ℕ) (ends : List ℕ) (x : Found) (hx : foundOf x ≡
       go (d, s, q) = rw (ends-found, q) (mod-lt (pointer + d) (omega arith), s .sound)
 
 -- from the pointer on
-goes-on : (p k i pointer : ℕ) (weights rings ends : List ℕ) (counters : List ℤ) (run : List ℕ) → pointer < p
+goes-on : (p k i pointer : ℕ) (rings ends run : List ℕ) → pointer < p
     → (f : rules.Found) → f ≡ scanOf p k i pointer ends → (m : Mem) → pointerIn m i ≡ pointer
-    → fetchRule p k i (old weights rings ends counters run m) ≡ fetchFrom p k i (old weights rings ends counters run m) f
+    → fetchRule p k i (old rings ends run m) ≡ fetchFrom p k i (old rings ends run m) f
 unfolding fetchRule scan
-goes-on p k i pointer weights rings ends counters run h f hf m q = rw (hf, q, lt-ltb pointer p h)
+goes-on p k i pointer rings ends run h f hf m q = rw (hf, q, lt-ltb pointer p h)
 
 -- The whole rule, with the pointer of worker i.
-module _ (p k i steps pointer : ℕ) (weights rings ends : List ℕ) (counters : List ℤ) (run : List ℕ) where
-  pub pointer-damaged : p ≤ pointer → PlansFetch p k i steps pointer weights rings ends counters run (Refused 8 0)
+module _ (p k i n steps pointer : ℕ) (rings ends run : List ℕ) where
+  pub pointer-damaged : p ≤ pointer → PlansFetch p k i n steps pointer rings ends run (Refused 8 0)
   unfolding PlansFetch fetchRule
   pointer-damaged h m e q = rw (q, le-ltb pointer p h)
 
   module _ (h : pointer < p) (x : Found) (hx : foundOf x ≡ scanOf p k i pointer ends) where
     follows : (y : Found) → x ≡ y → (m : Mem) → pointerIn m i ≡ pointer
-        → fetchRule p k i (old weights rings ends counters run m) ≡ fetchFrom p k i (old weights rings ends counters run m) (foundOf y)
-    follows y v m q = rw (← v) (goes-on p k i pointer weights rings ends counters run h (foundOf x) hx m q)
+        → fetchRule p k i (old rings ends run m) ≡ fetchFrom p k i (old rings ends run m) (foundOf y)
+    follows y v m q = rw (← v) (goes-on p k i pointer rings ends run h (foundOf x) hx m q)
 
-    pub scan-unsound : x ≡ found.Unsound → PlansFetch p k i steps pointer weights rings ends counters run (Refused 8 0)
+    pub scan-unsound : x ≡ found.Unsound → PlansFetch p k i n steps pointer rings ends run (Refused 8 0)
     unfolding PlansFetch fetchFrom
     scan-unsound v m e q = follows found.Unsound v m q
 
-    pub scan-none : x ≡ found.None → PlansFetch p k i steps pointer weights rings ends counters run (Refused 10 0)
+    pub scan-none : x ≡ found.None → PlansFetch p k i n steps pointer rings ends run (Refused 10 0)
     unfolding PlansFetch fetchFrom
     scan-none v m e q = follows found.None v m q
 
@@ -146,11 +114,10 @@ module _ (p k i steps pointer : ℕ) (weights rings ends : List ℕ) (counters :
       task-at : t ≡ getD rings (slotAt k (ringNumber p i (j .0)) (both .head)) 0
       task-at = rw (← hq) ht
 
-      pub scan-takes : (r : FetchPlan) → PlansTask p i steps weights counters run (j .0) both t r
-          → PlansFetch p k i steps pointer weights rings ends counters run r
+      pub scan-takes : (r : FetchPlan) → PlansTask n steps run (j .0) both t r → PlansFetch p k i n steps pointer rings ends run r
       unfolding PlansTask PlansFetch fetchFrom
-      scan-takes (Refused n d) plans =
-          λ m e w. follows (found.At j both) v m w ∙ rw (← ends-found p k i pointer ends x hx reads j both v, ← task-at) (plans k rings ends m e)
+      scan-takes (Refused number detail) plans =
+          λ m e w. follows (found.At j both) v m w ∙ rw (← ends-found p k i pointer ends x hx reads j both v, ← task-at) (plans p k i rings ends m e)
       scan-takes (Take head) (a, (b, (c, f))) =
           let stops : (j .0 < p) × Sound k both = scan-stops p k i pointer ends x hx reads j both v h in
           record {
@@ -164,68 +131,55 @@ module _ (p k i steps pointer : ℕ) (weights rings ends : List ℕ) (counters :
           }
 
 -- what is needed to read the head of ring q
-pub head-ready : (p k i : ℕ) (rings ends : List ℕ) (counters : List ℤ) (run : List ℕ) → Sized p k i rings ends counters run
+pub head-ready : (p k i : ℕ) (rings ends run : List ℕ) → Sized p k i rings ends run
     → (q : ℕ) → q < p * p → (both : Ends) → Sound k both → (q * k + k ≤ length rings) × Sound k both
-head-ready p k i rings ends counters run s q h both f = (rw (s .allRings) (place-end k (p * p) q h), f)
+head-ready p k i rings ends run s q h both f = (rw (s .allRings) (place-end k (p * p) q h), f)
 
 -- What is needed to write at place q.
-module _ (p k i : ℕ) (ends : List ℕ) (counters : List ℤ) (run : List ℕ) (s : Ready p k i ends counters run) (q r : ℕ) (h : (q ≡ r) × (q < p * p)) where
+module _ (p k i : ℕ) (ends run : List ℕ) (s : Ready p k i ends run) (q r : ℕ) (h : (q ≡ r) × (q < p * p)) where
   pub ends-ready : (both : Ends) → both ≡ endsAt ends r → Sound k both
       → (q * endWords + endWords ≤ length ends) × ((both ≡ endsAt ends q) × (Sound k both × (k ≤ engine .slots)))
   ends-ready both e f = (omega (arith, s .allEnds, h .1), (rw (h .0) e, (f, s .fewSlots)))
 
-  pub counter-ready : (weight : ℕ) → counterFits (getD counters r (pos 0)) ≡ true → weight ≤ 65535
-      → (q < length counters) × ((counterFits (getD counters q (pos 0)) ≡ true) × (weight ≤ 65535))
-  counter-ready weight f l = (omega (arith, s .allCounters, h .1), (rw (h .0) f, l))
-
--- what is stored as the ends of ring q are those of the ring filled by j, and likewise for the counter
+-- what is stored as the ends of ring q are those of the ring filled by j
 pub stored-at : (ends new : List ℕ) (q r : ℕ) (both : Ends) → q ≡ r → new ≡ storeEnds ends q both → new ≡ storeEnds ends r both
 stored-at ends new q r both e h = rw (← e) h
 
-pub lowered-at : (counters new : List ℤ) (q r weight : ℕ) → q ≡ r → new ≡ set counters q (getD counters q (pos 0) -ℤ pos weight)
-    → new ≡ lowered counters r weight
-unfolding lowered
-lowered-at counters new q r weight e h = rw (← e) h
-
 -- A plan that takes.
-module _ (p k i steps pointer : ℕ) (weights rings ends : List ℕ) (counters : List ℤ) (run : List ℕ) (x : FetchPlan)
-    (hx : PlansFetch p k i steps pointer weights rings ends counters run x) (head : Head) (v : x ≡ Take head) where
-  takes-of : Takes p k i steps pointer weights rings ends counters run head
+module _ (p k i n steps pointer : ℕ) (rings ends run : List ℕ) (x : FetchPlan)
+    (hx : PlansFetch p k i n steps pointer rings ends run x) (head : Head) (v : x ≡ Take head) where
+  takes-of : Takes p k i n steps pointer rings ends run head
   unfolding PlansFetch
-  takes-of = subst (PlansFetch p k i steps pointer weights rings ends counters run) v hx
+  takes-of = subst (PlansFetch p k i n steps pointer rings ends run) v hx
 
   pub fetch-filler : head .filler .0 < p
   fetch-filler = takes-of .filler
 
-  pub fetch-ready : Sized p k i rings ends counters run → steps ≤ 65535
-      → (Ready p k i ends counters run
-      × ((head .filler .0 < p) × ((head .ends ≡ endsAt ends (ringNumber p i (head .filler .0))) × Sound k (head .ends))))
-      × ((counterFits (getD counters (ringNumber p i i) (pos 0)) ≡ true) × ((head .weight ≤ 65535) × (head .accepted ≤ 65535)))
-  fetch-ready s l = (
-    (s .ready, (takes-of .filler, (takes-of .reads, takes-of .sound))),
-    (takes-of .task .counter, (takes-of .task .light, omega (arith, takes-of .task .accepted))),
-  )
+  pub fetch-ready : Sized p k i rings ends run → steps ≤ 65535
+      → Ready p k i ends run × ((head .filler .0 < p) × ((head .ends ≡ endsAt ends (ringNumber p i (head .filler .0)))
+      × (Sound k (head .ends) × (head .accepted ≤ 65535))))
+  fetch-ready s l = (s .ready, (takes-of .filler, (takes-of .reads, (takes-of .sound, omega (arith, takes-of .task .accepted)))))
 
 -- A plan carried out, for a worker with this row.
-module _ (p k i steps : ℕ) (row : Row) (weights rings ends : List ℕ) (counters : List ℤ) (run : List ℕ) (x : FetchPlan)
-    (hx : PlansFetch p k i steps (row .pointer .0) weights rings ends counters run x) where
+module _ (p k i n steps : ℕ) (row : Row) (rings ends run : List ℕ) (x : FetchPlan)
+    (hx : PlansFetch p k i n steps (row .pointer .0) rings ends run x) where
   abbrev before : Mem → Mem
-  before = old weights rings ends counters run
+  before = old rings ends run
 
   -- Fetch sets out from the pointer that stands in the worker's row
   points-at : (limits : Limits) (m : Mem) → Enters limits p k i Fetch (before m) row → pointerIn m i ≡ row .pointer .0
   points-at limits m enters = sym (ap (λ (r : Row). r .pointer .0) (enters .leads))
 
-  pub fetch-refused : (n d : ℕ) → x ≡ Refused n d
-      → FetchesAdmitted steps p k i row weights rings ends ends counters counters run run (stepped.Refused n d)
+  pub fetch-refused : (number detail : ℕ) → x ≡ Refused number detail
+      → FetchesAdmitted n steps p k i row rings ends ends run run (stepped.Refused number detail)
   unfolding PlansFetch ruleOf
-  fetch-refused n d v limits m e enters =
-      rule-refused limits p k i Fetch (before m) row enters n d
-      (subst (PlansFetch p k i steps (row .pointer .0) weights rings ends counters run) v hx m e (points-at limits m enters))
+  fetch-refused number detail v limits m e enters =
+      rule-refused limits p k i Fetch (before m) row enters number detail
+      (subst (PlansFetch p k i n steps (row .pointer .0) rings ends run) v hx m e (points-at limits m enters))
 
   module _ (head : Head) (v : x ≡ Take head) where
-    takes : Takes p k i steps (row .pointer .0) weights rings ends counters run head
-    takes = takes-of p k i steps (row .pointer .0) weights rings ends counters run x hx head v
+    takes : Takes p k i n steps (row .pointer .0) rings ends run head
+    takes = takes-of p k i n steps (row .pointer .0) rings ends run x hx head v
 
     -- the ring that the task leaves
     abbrev ring : ℕ
@@ -234,43 +188,34 @@ module _ (p k i steps : ℕ) (row : Row) (weights rings ends : List ℕ) (counte
     abbrev updates : Mem → List Update
     updates m =
         withCount (before m)
-        (putEnds ring (headOn k (endsAt ends ring))
-        ∷ leave p i (head .task .0) (before m)
-        ∷ putHand i (leadsTo Fetch) (head .task .0)
-        ∷ putPointer i (after p (head .filler .0))
-        ∷ [])
+        (putEnds ring (headOn k (endsAt ends ring)) ∷ putHand i (leadsTo Fetch) (head .task .0) ∷ putPointer i (after p (head .filler .0)) ∷ [])
 
-    planned : (m : Mem) → stepsWith weights m ≡ steps → pointerIn m i ≡ row .pointer .0
+    planned : (m : Mem) → Extent n steps m → pointerIn m i ≡ row .pointer .0
         → fetchRule p k i (before m) ≡ accept (Fetched (head .task)) (updates m)
     unfolding fetchFrom fetchTask counted allSteps
     planned m e h =
-        goes-on p k i (row .pointer .0) weights rings ends counters run (takes .points) (rules.at (head .filler .0)) (sym (takes .found)) m h
+        goes-on p k i (row .pointer .0) rings ends run (takes .points) (rules.at (head .filler .0)) (sym (takes .found)) m h
         ∙ rw (
           ← takes .reads,
           ← takes .first,
-          lt-ltb (head .task .0) (length weights) (takes .task .known),
-          le-leb (getD weights (head .task .0) 0) 65535 (rw (← takes .task .weighs) (takes .task .light)),
-          takes .task .counter,
-          e,
+          e .1,
+          e .0,
+          lt-ltb (head .task .0) n (takes .task .known),
           lt-ltb (getD run 1 0) steps (rw (← takes .task .counts) (takes .task .accepted)),
         )
 
-    pub fetch-taken : (new-ends : List ℕ) (new-counters : List ℤ) (new-run : List ℕ) (next : ℕ)
-        → (new-ends ≡ storeEnds ends ring (headOn k (head .ends)))
-        × ((new-counters ≡ lowered counters (ringNumber p i i) (head .weight)) × (new-run ≡ set run 1 (head .accepted + 1)))
-        → next ≡ after p (head .filler .0)
-        → FetchesAdmitted steps p k i row weights rings ends new-ends counters new-counters run new-run
+    pub fetch-taken : (new-ends new-run : List ℕ) (next : ℕ)
+        → (new-ends ≡ storeEnds ends ring (headOn k (head .ends))) × (new-run ≡ set run 1 (head .accepted + 1)) → next ≡ after p (head .filler .0)
+        → FetchesAdmitted n steps p k i row rings ends new-ends run new-run
         (stepped.Taken (Fetched (head .task)) (withPointer next (withHand (row .phase) (head .task) row)))
-    unfolding lowered written updated ruleOf
-    fetch-taken new-ends new-counters new-run next (a, (b, c)) f limits m e enters =
+    unfolding written updated ruleOf
+    fetch-taken new-ends new-run next (a, b) f limits m e enters =
         rw (
           a,
           b,
-          c,
           f,
           enters .leads,
           takes .reads,
-          takes .task .weighs,
           takes .task .counts,
           ← set-again (m .rows) i (withHand (leadsTo Fetch) (head .task) (rowIn m i)) idle (withPointer (after p (head .filler .0))),
         )
@@ -285,17 +230,15 @@ module _ (p k i : ℕ) (sizes : Sizes) (judged : Judged) (known : Knows p k i si
   pub row-steps : 3 * sizes .weights + sizes .preds ≤ 11264
   row-steps = few-steps p k i sizes measured
 
-  pub row-sized : (rings ends : List ℕ) (counters : List ℤ) (run : List ℕ)
-      → (length rings ≡ sizes .rings) × ((length ends ≡ sizes .ends) × ((length counters ≡ sizes .counters) × (length run ≡ sizes .run)))
-      → Sized p k i rings ends counters run × (3 * sizes .weights + sizes .preds ≤ 65535)
-  row-sized rings ends counters run (r, (e, (c, n))) = (
+  pub row-sized : (rings ends run : List ℕ) → (length rings ≡ sizes .rings) × ((length ends ≡ sizes .ends) × (length run ≡ sizes .run))
+      → Sized p k i rings ends run × (3 * sizes .weights + sizes .preds ≤ 65535)
+  row-sized rings ends run (r, (e, n)) = (
     record {
       ready = record {
         fewWorkers = measured .fewWorkers;
         fewSlots = measured .fewSlots;
         worker = measured .worker;
         allEnds = e ∙ measured .lengths .list list.ends;
-        allCounters = c ∙ measured .lengths .list list.counters;
         bothWords = n ∙ measured .lengths .list list.run;
       };
       allRings = r ∙ measured .lengths .list list.rings;
@@ -304,26 +247,25 @@ module _ (p k i : ℕ) (sizes : Sizes) (judged : Judged) (known : Knows p k i si
   )
 
 -- What the admission has told.
-module _ (p k i : ℕ) (sizes : Sizes) (judged : Judged) (row : Row) (weights rings ends : List ℕ) (counters : List ℤ) (run : List ℕ)
-    (x : Admitted) (told : Admits row Fetch judged x) where
-  pub row-refused : (n d : ℕ) → x ≡ admitted.Refused n d
-      → Fetches p k i sizes judged row weights rings ends ends counters counters run run (stepped.Refused n d)
-  row-refused n d v limits m judges e h =
-      refused-result limits p k i Fetch (old weights rings ends counters run m) n d
-      (admission-refused p k i sizes row Fetch limits (old weights rings ends counters run m) e h judged judges x told n d v)
+module _ (p k i : ℕ) (sizes : Sizes) (judged : Judged) (row : Row) (rings ends run : List ℕ) (x : Admitted) (told : Admits row Fetch judged x) where
+  pub row-refused : (number detail : ℕ) → x ≡ admitted.Refused number detail
+      → Fetches p k i sizes judged row rings ends ends run run (stepped.Refused number detail)
+  row-refused number detail v limits m judges e h =
+      refused-result limits p k i Fetch (old rings ends run m) number detail
+      (admission-refused p k i sizes row Fetch limits (old rings ends run m) e h judged judges x told number detail v)
 
   module _ (row′ : Row) (v : x ≡ admitted.To row′) where
     -- what the rule keeps of the row in its new phase, it keeps of the worker's row
     kept : (r : Stepped) → HandAndPointer row′ r → HandAndPointer row r
-    kept (stepped.Refused n d) h = h
+    kept (stepped.Refused number detail) h = h
     kept (stepped.Taken o after) h = h ∙ rw (admission-entered row Fetch judged x told row′ v .1) refl
 
-    pub row-fetches : (new-ends : List ℕ) (new-counters : List ℤ) (new-run : List ℕ) (r : Stepped)
-        → FetchesAdmitted (3 * sizes .weights + sizes .preds) p k i row′ weights rings ends new-ends counters new-counters run new-run r
-        × HandAndPointer row′ r
-        → Fetches p k i sizes judged row weights rings ends new-ends counters new-counters run new-run r × HandAndPointer row r
-    row-fetches new-ends new-counters new-run r (f, w) = (
-      (λ limits m judges e h. f limits m (rw (← e) refl)
-          (admission-enters p k i sizes row Fetch limits (old weights rings ends counters run m) e h judged judges x told row′ v)),
+    pub row-fetches : (new-ends new-run : List ℕ) (r : Stepped)
+        → FetchesAdmitted (sizes .weights) (3 * sizes .weights + sizes .preds) p k i row′ rings ends new-ends run new-run r × HandAndPointer row′ r
+        → Fetches p k i sizes judged row rings ends new-ends run new-run r × HandAndPointer row r
+    unfolding allSteps
+    row-fetches new-ends new-run r (f, w) = (
+      (λ limits m judges e h. f limits m (rw (← e) (refl, refl))
+          (admission-enters p k i sizes row Fetch limits (old rings ends run m) e h judged judges x told row′ v)),
       kept r w,
     )

@@ -1,5 +1,5 @@
 use Rattle.lists.proofs.Told.{first-holds}
-use Rattle.complete.proofs.Laws.{plan-over, plan-full, plan-held, plan-range, plan-places, plan-counted, plan-sink, plan-inner}
+use Rattle.complete.proofs.Laws.{plan-over, plan-full, plan-held, plan-heavy, plan-counter, plan-range, plan-places, plan-counted, plan-sink, plan-inner}
 use Prim.Native.Nat.{_+_}
 use native.Mathlib.Omega.{arith}
 use borrow.Author.Needs.{needs}
@@ -10,22 +10,37 @@ shared-slice-read-entries : tie.Need-shared-slice-read-entries
 shared-slice-read-entries c = search needs
 
 cast-if1 : tie.Need-cast-if1
-cast-if1 c = omega (arith, c .shared-slice-known .given 0)
+cast-if1 c = omega (arith, c .shared-slice-known4 .given 0)
 
 returns : tie.Need-returns
-returns c = (plan-over _ _ _ _ _ (c .if1 .taken), tt)
+returns c = (plan-over _ _ _ _ _ _ _ (c .if1 .taken), tt)
 
 cast-if2 : tie.Need-cast-if2
 cast-if2 c = search needs
 
 returns-2 : tie.Need-returns-2
-returns-2 c = (plan-full _ _ _ _ _ (c .before .if1 .left) (c .if2 .taken), tt)
+returns-2 c = (plan-full _ _ _ _ _ _ _ (c .before .if1 .left) (c .if2 .taken), tt)
 
 cast-held : tie.Need-cast-held
 cast-held c = search needs
 
 returns-3 : tie.Need-returns-3
-returns-3 c = (plan-held _ _ _ _ _ (c .before .before .before .if1 .left) (c .before .before .if2 .left) (c .if3 .taken), tt)
+returns-3 c = (plan-held _ _ _ _ _ _ _ (c .before .before .before .if1 .left) (c .before .before .if2 .left) (c .if3 .taken), tt)
+
+mul-weight : tie.Need-mul-weight
+mul-weight c = search needs
+
+shared-slice-read-weight : tie.Need-shared-slice-read-weight
+shared-slice-read-weight c = search needs
+
+returns-4 : tie.Need-returns-4
+returns-4 c = (plan-heavy _ _ _ _ _ _ _ (c .before .before .before .before .before .if1 .left) (c .before .before .before .before .if2 .left) (c .before .before .if3 .left) (c .if4 .taken), tt)
+
+counter-fits-requires : tie.Need-counter-fits-requires
+counter-fits-requires c κs = search needs
+
+returns-5 : tie.Need-returns-5
+returns-5 c = (plan-counter _ _ _ _ _ _ _ (c .before .before .before .before .before .before .before .if1 .left) (c .before .before .before .before .before .before .if2 .left) (c .before .before .before .before .if3 .left) (c .before .before .if4 .left) _ (c .before .counter-fits .ensures) (c .if5 .taken), tt)
 
 mul-first : tie.Need-mul-first
 mul-first c = search needs
@@ -42,41 +57,41 @@ mul-past c = search needs
 shared-slice-read-past : tie.Need-shared-slice-read-past
 shared-slice-read-past c = search needs
 
-cast-if4 : tie.Need-cast-if4
-cast-if4 c = omega (arith, c .shared-slice-known3 .given (c .before .before .before .before .before .before .before .args .row .held .0 + 1))
+cast-if6 : tie.Need-cast-if6
+cast-if6 c = omega (arith, c .shared-slice-known7 .given (c .before .before .before .before .before .before .before .before .before .before .before .before .before .before .args .row .held .0 + 1))
 
-returns-4 : tie.Need-returns-4
-returns-4 c = (plan-range _ _ _ _ _ (c .before .before .before .before .before .before .if1 .left) (c .before .before .before .before .before .if2 .left) (c .before .before .before .if3 .left) (c .if4 .taken), tt)
+returns-6 : tie.Need-returns-6
+returns-6 c = (plan-range _ _ _ _ _ _ _ (c .before .before .before .before .before .before .before .before .before .before .if1 .left) (c .before .before .before .before .before .before .before .before .before .if2 .left) (c .before .before .before .before .before .before .before .if3 .left) (c .before .before .before .before .before .if4 .left) _ (c .before .before .before .before .counter-fits .ensures) (c .before .before .before .if5 .left) (c .if6 .taken), tt)
 
 sub-sink : tie.Need-sub-sink
-sub-sink c = first-holds _ _ _ (c .if4 .left)
+sub-sink c = first-holds _ _ _ (c .if6 .left)
 
 cast-joins : tie.Need-cast-joins
 cast-joins c = search needs
 
-returns-5 : tie.Need-returns-5
-returns-5 c = (plan-places _ _ _ _ _ (c .before .before .before .before .before .before .before .before .before .if1 .left) (c .before .before .before .before .before .before .before .before .if2 .left) (c .before .before .before .before .before .before .if3 .left) (c .before .before .before .if4 .left) (c .if5 .taken), tt)
+returns-7 : tie.Need-returns-7
+returns-7 c = (plan-places _ _ _ _ _ _ _ (c .before .before .before .before .before .before .before .before .before .before .before .before .before .if1 .left) (c .before .before .before .before .before .before .before .before .before .before .before .before .if2 .left) (c .before .before .before .before .before .before .before .before .before .before .if3 .left) (c .before .before .before .before .before .before .before .before .if4 .left) _ (c .before .before .before .before .before .before .before .counter-fits .ensures) (c .before .before .before .before .before .before .if5 .left) (c .before .before .before .if6 .left) (c .if7 .taken), tt)
 
 shared-slice-read-accepted : tie.Need-shared-slice-read-accepted
 shared-slice-read-accepted c = search needs
 
-mul-if6 : tie.Need-mul-if6
-mul-if6 c = search needs
+mul-if8 : tie.Need-mul-if8
+mul-if8 c = search needs
 
-add-if6 : tie.Need-add-if6
-add-if6 c = search needs
+add-if8 : tie.Need-add-if8
+add-if8 c = search needs
 
-cast-if6 : tie.Need-cast-if6
-cast-if6 c = omega (arith, c .shared-slice-known4 .given 1)
-
-returns-6 : tie.Need-returns-6
-returns-6 c = (plan-counted _ _ _ _ _ (c .before .before .before .before .before .before .before .before .before .before .before .if1 .left) (c .before .before .before .before .before .before .before .before .before .before .if2 .left) (c .before .before .before .before .before .before .before .before .if3 .left) (c .before .before .before .before .before .if4 .left) (c .before .before .if5 .left) (c .if6 .taken), tt)
-
-returns-7 : tie.Need-returns-7
-returns-7 c = plan-sink _ _ _ _ _ (c .before .before .before .before .before .before .before .before .before .before .before .before .if1 .left) (c .before .before .before .before .before .before .before .before .before .before .before .if2 .left) (c .before .before .before .before .before .before .before .before .before .if3 .left) (c .before .before .before .before .before .before .if4 .left) (c .before .before .before .if5 .left) (c .before .if6 .left) (c .if7 .taken)
+cast-if8 : tie.Need-cast-if8
+cast-if8 c = omega (arith, c .shared-slice-known8 .given 1)
 
 returns-8 : tie.Need-returns-8
-returns-8 c = plan-inner _ _ _ _ _ (c .before .before .before .before .before .before .before .before .before .before .before .before .if1 .left) (c .before .before .before .before .before .before .before .before .before .before .before .if2 .left) (c .before .before .before .before .before .before .before .before .before .if3 .left) (c .before .before .before .before .before .before .if4 .left) (c .before .before .before .if5 .left) (c .before .if6 .left) (c .if7 .left)
+returns-8 c = (plan-counted _ _ _ _ _ _ _ (c .before .before .before .before .before .before .before .before .before .before .before .before .before .before .before .if1 .left) (c .before .before .before .before .before .before .before .before .before .before .before .before .before .before .if2 .left) (c .before .before .before .before .before .before .before .before .before .before .before .before .if3 .left) (c .before .before .before .before .before .before .before .before .before .before .if4 .left) _ (c .before .before .before .before .before .before .before .before .before .counter-fits .ensures) (c .before .before .before .before .before .before .before .before .if5 .left) (c .before .before .before .before .before .if6 .left) (c .before .before .if7 .left) (c .if8 .taken), tt)
+
+returns-9 : tie.Need-returns-9
+returns-9 c = plan-sink _ _ _ _ _ _ _ (c .before .before .before .before .before .before .before .before .before .before .before .before .before .before .before .before .if1 .left) (c .before .before .before .before .before .before .before .before .before .before .before .before .before .before .before .if2 .left) (c .before .before .before .before .before .before .before .before .before .before .before .before .before .if3 .left) (c .before .before .before .before .before .before .before .before .before .before .before .if4 .left) _ (c .before .before .before .before .before .before .before .before .before .before .counter-fits .ensures) (c .before .before .before .before .before .before .before .before .before .if5 .left) (c .before .before .before .before .before .before .if6 .left) (c .before .before .before .if7 .left) (c .before .if8 .left) (c .if9 .taken)
+
+returns-10 : tie.Need-returns-10
+returns-10 c = plan-inner _ _ _ _ _ _ _ (c .before .before .before .before .before .before .before .before .before .before .before .before .before .before .before .before .if1 .left) (c .before .before .before .before .before .before .before .before .before .before .before .before .before .before .before .if2 .left) (c .before .before .before .before .before .before .before .before .before .before .before .before .before .if3 .left) (c .before .before .before .before .before .before .before .before .before .before .before .if4 .left) _ (c .before .before .before .before .before .before .before .before .before .before .counter-fits .ensures) (c .before .before .before .before .before .before .before .before .before .if5 .left) (c .before .before .before .before .before .before .if6 .left) (c .before .before .before .if7 .left) (c .before .if8 .left) (c .if9 .left)
 
 pub plan-complete-spec : {M : Type 1} → statement M
 plan-complete-spec =
@@ -89,20 +104,25 @@ plan-complete-spec =
     returns-2
     cast-held
     returns-3
+    mul-weight
+    shared-slice-read-weight
+    returns-4
+    counter-fits-requires
+    returns-5
     mul-first
     shared-slice-read-first
     add-past
     mul-past
     shared-slice-read-past
-    cast-if4
-    returns-4
-    sub-sink
-    cast-joins
-    returns-5
-    shared-slice-read-accepted
-    mul-if6
-    add-if6
     cast-if6
     returns-6
+    sub-sink
+    cast-joins
     returns-7
-    returns-8)
+    shared-slice-read-accepted
+    mul-if8
+    add-if8
+    cast-if8
+    returns-8
+    returns-9
+    returns-10)

@@ -15,17 +15,17 @@ enum-known-plan-2 c = search needs
 
 take-head-requires : tie.Need-take-head-requires
 take-head-requires c κs =
-    fetch-ready _ _ _ _ _ _ _ _ _ _ _ (c .before .before .before .before .before .before .plan-fetch .ensures) _
-    (c .before .before .before .before .plan2 .given .1)
-    (c .before .before .before .before .before .before .before .before .before .before .before .before .before .before .before .pre .0)
-    (c .before .before .before .before .before .before .before .before .before .before .before .before .before .before .before .pre .1)
+    fetch-ready _ _ _ _ _ _ _ _ _ _ (c .before .before .before .before .before .plan-fetch .ensures) _
+    (c .before .before .before .plan2 .given .1)
+    (c .before .before .before .before .before .before .before .before .before .before .before .before .pre .0)
+    (c .before .before .before .before .before .before .before .before .before .before .before .before .pre .1)
 
 after-worker-requires : tie.Need-after-worker-requires
 after-worker-requires c κs = (
-  fetch-filler _ _ _ _ _ _ _ _ _ _ _
-      (c .before .before .before .before .before .before .before .before .before .before .before .before .before .plan-fetch .ensures) _
-      (c .before .before .before .before .before .before .before .before .before .before .before .plan2 .given .1),
-  c .before .before .before .before .before .before .before .before .before .before .before .before .before .before .before .before .before .before .before .before .before .before .pre .0 .ready .fewWorkers,
+  fetch-filler _ _ _ _ _ _ _ _ _ _
+      (c .before .before .before .before .before .before .before .before .before .before .before .plan-fetch .ensures) _
+      (c .before .before .before .before .before .before .before .before .before .plan2 .given .1),
+  c .before .before .before .before .before .before .before .before .before .before .before .before .before .before .before .before .before .before .pre .0 .ready .fewWorkers,
 )
 
 same-length : tie.Need-same-length
@@ -34,27 +34,21 @@ same-length c = search needs
 same-length-2 : tie.Need-same-length-2
 same-length-2 c = search needs
 
+returns : tie.Need-returns
+returns c = (fetch-refused _ _ _ _ _ _ _ _ _ _ (c .before .before .before .plan-fetch .ensures) _ _ (c .before .plan .given .1), tt)
+
 same-length-3 : tie.Need-same-length-3
 same-length-3 c = search needs
-
-returns : tie.Need-returns
-returns c = (fetch-refused _ _ _ _ _ _ _ _ _ _ _ (c .before .before .before .plan-fetch .ensures) _ _ (c .before .plan .given .1), tt)
 
 same-length-4 : tie.Need-same-length-4
 same-length-4 c = search needs
 
-same-length-5 : tie.Need-same-length-5
-same-length-5 c = search needs
-
-same-length-6 : tie.Need-same-length-6
-same-length-6 c = search needs
-
 returns-2 : tie.Need-returns-2
 returns-2 c = (
-  fetch-taken _ _ _ _ _ _ _ _ _ _ _
-      (c .before .before .before .before .before .before .before .before .before .before .before .before .before .before .plan-fetch .ensures) _
-      (c .before .before .before .before .before .before .before .before .before .before .before .before .plan2 .given .1)
-      _ _ _ _ (c .before .before .before .before .before .before .before .take-head .ensures) (c .after-worker .ensures),
+  fetch-taken _ _ _ _ _ _ _ _ _ _
+      (c .before .before .before .before .before .before .before .before .before .before .before .before .plan-fetch .ensures) _
+      (c .before .before .before .before .before .before .before .before .before .before .plan2 .given .1)
+      _ _ _ (c .before .before .before .before .before .before .take-head .ensures) (c .after-worker .ensures),
   refl,
 )
 
@@ -69,9 +63,7 @@ fetch-admitted-spec =
     after-worker-requires
     same-length
     same-length-2
-    same-length-3
     returns
+    same-length-3
     same-length-4
-    same-length-5
-    same-length-6
     returns-2)

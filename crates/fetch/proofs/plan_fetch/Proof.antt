@@ -7,7 +7,7 @@ cast-if1 : tie.Need-cast-if1
 cast-if1 c = search needs
 
 returns : tie.Need-returns
-returns c = pointer-damaged _ _ _ _ _ _ _ _ _ _ (c .if1 .taken)
+returns c = pointer-damaged _ _ _ _ _ _ _ _ _ (c .if1 .taken)
 
 find-task-requires : tie.Need-find-task-requires
 find-task-requires c κs = search needs
@@ -23,17 +23,17 @@ enum-known-found c = search needs
 
 ring-number-requires : tie.Need-ring-number-requires
 ring-number-requires c κs = (
-  c .before .before .before .before .before .before .before .before .before .before .pre .ready .worker,
+  c .before .before .before .before .before .before .before .before .before .pre .ready .worker,
   (
     scan-stops _ _ _ _ _ _ (c .before .before .before .find-task .ensures .0) (c .before .before .before .find-task .ensures .1) _ _ (c .before .found .given .1)
         (c .before .before .before .before .if1 .left) .0,
-    c .before .before .before .before .before .before .before .before .before .before .pre .ready .fewWorkers,
+    c .before .before .before .before .before .before .before .before .before .pre .ready .fewWorkers,
   ),
 )
 
 head-of-requires : tie.Need-head-of-requires
 head-of-requires c κs =
-    head-ready _ _ _ _ _ _ _ (c .before .before .before .before .before .before .before .before .before .before .before .pre) _ (c .ring-number .ensures .1) _
+    head-ready _ _ _ _ _ _ (c .before .before .before .before .before .before .before .before .before .before .pre) _ (c .ring-number .ensures .1) _
     (scan-stops _ _ _ _ _ _ (c .before .before .before .before .find-task .ensures .0) (c .before .before .before .before .find-task .ensures .1) _ _ (c .before .before .found .given .1)
     (c .before .before .before .before .before .if1 .left) .1)
 
@@ -42,17 +42,17 @@ plan-task-requires c κs = search needs
 
 returns-2 : tie.Need-returns-2
 returns-2 c =
-    scan-unsound _ _ _ _ _ _ _ _ _ _ (c .before .before .before .if1 .left) _ (c .before .before .find-task .ensures .0)
+    scan-unsound _ _ _ _ _ _ _ _ _ (c .before .before .before .if1 .left) _ (c .before .before .find-task .ensures .0)
     (c .enum-told .given .1)
 
 returns-3 : tie.Need-returns-3
 returns-3 c =
-    scan-none _ _ _ _ _ _ _ _ _ _ (c .before .before .before .if1 .left) _ (c .before .before .find-task .ensures .0)
+    scan-none _ _ _ _ _ _ _ _ _ (c .before .before .before .if1 .left) _ (c .before .before .find-task .ensures .0)
     (c .enum-told2 .given .1)
 
 returns-4 : tie.Need-returns-4
 returns-4 c =
-    scan-takes _ _ _ _ _ _ _ _ _ _ (c .before .before .before .before .before .before .before .if1 .left) _
+    scan-takes _ _ _ _ _ _ _ _ _ (c .before .before .before .before .before .before .before .if1 .left) _
     (c .before .before .before .before .before .before .find-task .ensures .0)
     (c .before .before .before .before .before .before .find-task .ensures .1)
     _ _ (c .before .before .before .before .found .given .1) _ (c .before .before .ring-number .ensures .0) _ (c .before .head-of .ensures) _

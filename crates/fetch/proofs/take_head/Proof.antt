@@ -1,4 +1,4 @@
-use Rattle.fetch.proofs.Laws.{ends-ready, counter-ready, stored-at, lowered-at}
+use Rattle.fetch.proofs.Laws.{ends-ready, stored-at}
 use mathlib.Core.Path.{refl}
 use borrow.Author.Needs.{needs}
 use Rattle.fetch.proofs.take_head.Statement.{statement}
@@ -7,20 +7,10 @@ use Rattle.fetch.proofs.take_head.Tie as tie
 ring-number-requires : tie.Need-ring-number-requires
 ring-number-requires c κs = search needs
 
-lower-requires : tie.Need-lower-requires
-lower-requires c κs =
-    counter-ready _ _ _ _ _ _ (c .before .before .before .before .pre .0 .0) _ _ (c .ring-number .ensures) _
-    (c .before .before .before .before .pre .1 .0) (c .before .before .before .before .pre .1 .1 .0)
-
-ring-number-requires-2 : tie.Need-ring-number-requires-2
-ring-number-requires-2 c κs = search needs
-
 take-at-requires : tie.Need-take-at-requires
 take-at-requires c κs =
-    ends-ready _ _ _ _ _ _ (c .before .before .before .before .before .before .before .before .before .before .pre .0 .0) _ _
-    (c .ring-number2 .ensures) _
-    (c .before .before .before .before .before .before .before .before .before .before .pre .0 .1 .1 .0)
-    (c .before .before .before .before .before .before .before .before .before .before .pre .0 .1 .1 .1)
+    ends-ready _ _ _ _ _ (c .before .before .before .before .before .before .pre .0) _ _ (c .ring-number .ensures) _
+    (c .before .before .before .before .before .before .pre .1 .1 .0) (c .before .before .before .before .before .before .pre .1 .1 .1 .0)
 
 add-run : tie.Need-add-run
 add-run c = search needs
@@ -34,30 +24,12 @@ same-length c = search needs
 same-length-2 : tie.Need-same-length-2
 same-length-2 c = search needs
 
-same-length-3 : tie.Need-same-length-3
-same-length-3 c = search needs
-
 returns : tie.Need-returns
 returns c = (
-  stored-at _ _ _ _ _ (c .before .before .before .before .ring-number2 .ensures .0) (c .before .before .before .take-at .ensures .1),
-  (
-    lowered-at _ _ _ _ _ (c .before .before .before .before .before .before .before .before .before .before .ring-number .ensures .0)
-        (c .before .before .before .before .before .before .before .before .before .lower .ensures),
-    refl,
-  ),
+  stored-at _ _ _ _ _ (c .before .before .before .before .ring-number .ensures .0) (c .before .before .before .take-at .ensures .1),
+  refl,
 )
 
 pub take-head-spec : {M : Type 1} → statement M
 take-head-spec =
-    tie.close
-    (tie.spec
-    ring-number-requires
-    lower-requires
-    ring-number-requires-2
-    take-at-requires
-    add-run
-    slice-write-run
-    same-length
-    same-length-2
-    same-length-3
-    returns)
+    tie.close (tie.spec ring-number-requires take-at-requires add-run slice-write-run same-length same-length-2 returns)
