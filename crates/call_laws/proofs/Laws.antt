@@ -46,13 +46,13 @@ module _ (w ps p′ ss s d r e : List ℕ) (c : List ℤ) (b x n : List ℕ) (ro
     pub start-lent : length n ≡ sizes .run
     start-lent = rw measured
 
-    pub fetch-lent : (length w ≡ sizes .weights)
-        × ((length r ≡ sizes .rings) × ((length e ≡ sizes .ends) × ((length c ≡ sizes .counters) × (length n ≡ sizes .run))))
-    fetch-lent = rw measured (refl, (refl, (refl, (refl, refl))))
+    pub fetch-lent : (length r ≡ sizes .rings) × ((length e ≡ sizes .ends) × (length n ≡ sizes .run))
+    fetch-lent = rw measured (refl, (refl, refl))
 
-    pub complete-lent : (length ss ≡ sizes .«succ_starts»)
-        × ((length b ≡ sizes .buffers) × ((length x ≡ sizes .executed) × (length n ≡ sizes .run)))
-    complete-lent = rw measured (refl, (refl, (refl, refl)))
+    pub complete-lent : (length w ≡ sizes .weights)
+        × ((length ss ≡ sizes .«succ_starts») × ((length c ≡ sizes .counters)
+        × ((length b ≡ sizes .buffers) × ((length x ≡ sizes .executed) × (length n ≡ sizes .run)))))
+    complete-lent = rw measured (refl, (refl, (refl, (refl, (refl, refl)))))
 
     pub release-lent : Lent sizes (tablesOf w ss s b) (wordsOf d r e c n)
     release-lent =
@@ -80,13 +80,14 @@ module _ (w ps p′ ss s d r e : List ℕ) (c : List ℤ) (b x n : List ℕ) (ro
             → resultOf y (put list.run n′ (put list.rows rows′ lent)) ≡ step limits p k i Start lent
         start-made n′ f = rw (ended .0, ended .1) (f limits lent judges (sym measured) (sym loaded))
 
-        pub fetch-made : (e′ : List ℕ) (c′ : List ℤ) (n′ : List ℕ) → Fetches p k i sizes j row w r e e′ c c′ n n′ a
-            → resultOf y (put list.ends e′ (put list.counters c′ (put list.run n′ (put list.rows rows′ lent)))) ≡ step limits p k i Fetch lent
-        fetch-made e′ c′ n′ f = rw (ended .0, ended .1) (f limits lent judges (sym measured) (sym loaded))
+        pub fetch-made : (e′ n′ : List ℕ) → Fetches p k i sizes j row r e e′ n n′ a
+            → resultOf y (put list.ends e′ (put list.run n′ (put list.rows rows′ lent))) ≡ step limits p k i Fetch lent
+        fetch-made e′ n′ f = rw (ended .0, ended .1) (f limits lent judges (sym measured) (sym loaded))
 
-        pub complete-made : (b′ x′ n′ : List ℕ) → Completes p k i sizes j row ss b b′ x x′ n n′ a
-            → resultOf y (put list.buffers b′ (put list.executed x′ (put list.run n′ (put list.rows rows′ lent)))) ≡ step limits p k i Complete lent
-        complete-made b′ x′ n′ f = rw (ended .0, ended .1) (f limits lent judges (sym measured) (sym loaded))
+        pub complete-made : (c′ : List ℤ) (b′ x′ n′ : List ℕ) → Completes p k i sizes j row w ss c c′ b b′ x x′ n n′ a
+            → resultOf y (put list.counters c′ (put list.buffers b′ (put list.executed x′ (put list.run n′ (put list.rows rows′ lent)))))
+            ≡ step limits p k i Complete lent
+        complete-made c′ b′ x′ n′ f = rw (ended .0, ended .1) (f limits lent judges (sym measured) (sym loaded))
 
         pub release-made : (d′ r′ e′ : List ℕ) (c′ : List ℤ) (n′ : List ℕ)
             → Releases p k i sizes j row (tablesOf w ss s b) (wordsOf d r e c n) (wordsOf d′ r′ e′ c′ n′) a

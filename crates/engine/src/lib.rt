@@ -144,7 +144,7 @@ pub fn fetch(
     degrees: &[u32],
     rings: &[u32],
     ends: &mut [u32],
-    counters: &mut [i32],
+    counters: &[i32],
     buffers: &[u32],
     executed: &[u32],
     run: &mut [u32],
@@ -157,7 +157,7 @@ pub fn fetch(
         resultOf r
         (cellMem (now (weights .entry)) (now («pred_starts» .entry)) (now (preds .entry)) (now («succ_starts» .entry))
         (now (succs .entry)) (now (degrees .entry)) (now (rings .entry)) (now (ends .exit))
-        (now (counters .exit)) (now (buffers .entry)) (now (executed .entry)) (now (run .exit))
+        (now (counters .entry)) (now (buffers .entry)) (now (executed .entry)) (now (run .exit))
         (now (rows .exit)))
         ≡ step limits p k (worker .0) Step.Fetch
         (cellMem (now (weights .entry)) (now («pred_starts» .entry)) (now (preds .entry)) (now («succ_starts» .entry))
@@ -186,19 +186,7 @@ pub fn fetch(
         return StepAnswer::Refused(number, detail);
     }
     let row = rows::row_at(rows, worker);
-    let stepped = fetch::fetch_row(
-        sizes,
-        judged,
-        p,
-        k,
-        worker,
-        row,
-        weights,
-        rings,
-        ends,
-        counters,
-        run,
-    );
+    let stepped = fetch::fetch_row(sizes, judged, p, k, worker, row, rings, ends, run);
     store_fetched(rows, worker, row, stepped)
 }
 
@@ -268,7 +256,7 @@ pub fn complete(
     degrees: &[u32],
     rings: &[u32],
     ends: &[u32],
-    counters: &[i32],
+    counters: &mut [i32],
     buffers: &mut [u32],
     executed: &mut [u32],
     run: &mut [u32],
@@ -281,7 +269,7 @@ pub fn complete(
         resultOf r
         (cellMem (now (weights .entry)) (now («pred_starts» .entry)) (now (preds .entry)) (now («succ_starts» .entry))
         (now (succs .entry)) (now (degrees .entry)) (now (rings .entry)) (now (ends .entry))
-        (now (counters .entry)) (now (buffers .exit)) (now (executed .exit)) (now (run .exit))
+        (now (counters .exit)) (now (buffers .exit)) (now (executed .exit)) (now (run .exit))
         (now (rows .exit)))
         ≡ step limits p k (worker .0) Step.Complete
         (cellMem (now (weights .entry)) (now («pred_starts» .entry)) (now (preds .entry)) (now («succ_starts» .entry))
@@ -317,7 +305,9 @@ pub fn complete(
         k,
         worker,
         row,
+        weights,
         succ_starts,
+        counters,
         buffers,
         executed,
         run,
@@ -453,19 +443,7 @@ pub fn step(
     let row = rows::row_at(rows, worker);
     match which {
         Step::Fetch => {
-            let stepped = fetch::fetch_row(
-                sizes,
-                judged,
-                p,
-                k,
-                worker,
-                row,
-                weights,
-                rings,
-                ends,
-                counters,
-                run,
-            );
+            let stepped = fetch::fetch_row(sizes, judged, p, k, worker, row, rings, ends, run);
             store_fetched(rows, worker, row, stepped)
         }
         Step::Start => {
@@ -480,7 +458,9 @@ pub fn step(
                 k,
                 worker,
                 row,
+                weights,
                 succ_starts,
+                counters,
                 buffers,
                 executed,
                 run,

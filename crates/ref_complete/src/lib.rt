@@ -21,7 +21,7 @@ pub fn complete(
     degrees: &[u32],
     rings: &[u32],
     ends: &[u32],
-    counters: &[i32],
+    counters: &mut [i32],
     buffers: &mut [u32],
     executed: &mut [u32],
     run: &mut [u32],
@@ -34,7 +34,7 @@ pub fn complete(
         resultOf r
         (memOf (now (weights .entry)) (now («pred_starts» .entry)) (now (preds .entry)) (now («succ_starts» .entry))
         (now (succs .entry)) (now (degrees .entry)) (now (rings .entry)) (now (ends .entry))
-        (now (counters .entry)) (now (buffers .exit)) (now (executed .exit)) (now (run .exit))
+        (now (counters .exit)) (now (buffers .exit)) (now (executed .exit)) (now (run .exit))
         (now (rows .exit)))
         ≡ step limits p k (worker .0) Step.Complete
         (memOf (now (weights .entry)) (now («pred_starts» .entry)) (now (preds .entry)) (now («succ_starts» .entry))
@@ -67,7 +67,9 @@ pub fn complete(
         k,
         worker,
         row,
+        weights,
         succ_starts,
+        counters,
         buffers,
         executed,
         run,

@@ -21,7 +21,7 @@ pub fn fetch(
     degrees: &[u32],
     rings: &[u32],
     ends: &mut [u32],
-    counters: &mut [i32],
+    counters: &[i32],
     buffers: &[u32],
     executed: &[u32],
     run: &mut [u32],
@@ -34,7 +34,7 @@ pub fn fetch(
         resultOf r
         (memOf (now (weights .entry)) (now («pred_starts» .entry)) (now (preds .entry)) (now («succ_starts» .entry))
         (now (succs .entry)) (now (degrees .entry)) (now (rings .entry)) (now (ends .exit))
-        (now (counters .exit)) (now (buffers .entry)) (now (executed .entry)) (now (run .exit))
+        (now (counters .entry)) (now (buffers .entry)) (now (executed .entry)) (now (run .exit))
         (now (rows .exit)))
         ≡ step limits p k (worker .0) Step.Fetch
         (memOf (now (weights .entry)) (now («pred_starts» .entry)) (now (preds .entry)) (now («succ_starts» .entry))
@@ -60,19 +60,7 @@ pub fn fetch(
     };
     let judged = admission::judge(limits, sizes, p, k, worker);
     let row = row_list::row_at(rows, worker);
-    let stepped = fetch::fetch_row(
-        sizes,
-        judged,
-        p,
-        k,
-        worker,
-        row,
-        weights,
-        rings,
-        ends,
-        counters,
-        run,
-    );
+    let stepped = fetch::fetch_row(sizes, judged, p, k, worker, row, rings, ends, run);
     row_list::store_row(rows, worker, admission::row_after(stepped, row));
     admission::answer_of(stepped)
 }

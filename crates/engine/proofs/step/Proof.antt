@@ -51,10 +51,10 @@ enum-told-2 : tie.Need-enum-told-2
 enum-told-2 c = search needs
 
 fetch-row-requires : tie.Need-fetch-row-requires
-fetch-row-requires c κs = let a = c .before .before .before .before .before .before .before .before .before .before .before .before .before .before .before .before .before .before .before .before .before .before .before .before .before .before .before .before .before .before .before .args in ((c .before .before .before .before .before .before .before .before .before .before .judge .ensures .1), fetch-lent (a .weights .now) (a .pred-starts .now) (a .preds .now) (a .succ-starts .now) (a .succs .now) (a .degrees .now) (a .rings .now) (a .ends .now) (a .counters .now) (a .buffers .now) (a .executed .now) (a .run .now) (rowsOf (a .rows .now)) _ (c .before .before .before .before .before .before .before .before .before .before .before .sizes-of .ensures))
+fetch-row-requires c κs = let a = c .before .before .before .before .before .before .before .before .before .before .before .before .before .before .before .before .before .before .before .before .before .before .before .before .before .before .before .before .before .before .args in ((c .before .before .before .before .before .before .before .before .before .judge .ensures .1), fetch-lent (a .weights .now) (a .pred-starts .now) (a .preds .now) (a .succ-starts .now) (a .succs .now) (a .degrees .now) (a .rings .now) (a .ends .now) (a .counters .now) (a .buffers .now) (a .executed .now) (a .run .now) (rowsOf (a .rows .now)) _ (c .before .before .before .before .before .before .before .before .before .before .sizes-of .ensures))
 
 store-fetched-requires : tie.Need-store-fetched-requires
-store-fetched-requires c κs = (let a = c .before .before .before .before .before .before .before .before .before .before .before .before .before .before .before .before .before .before .before .before .before .before .before .before .before .before .before .before .before .before .before .before .before .before .before .before .before .before .args in row-there (a .p) (a .k) (a .worker .0) (c .before .before .before .before .before .before .before .before .before .before .before .before .before .before .before .before .before .before .sizes-of .result) (c .before .before .before .before .before .before .before .before .before .before .before .before .before .before .before .before .before .judge .result) (c .before .before .before .before .before .before .before .before .before .before .before .before .before .before .before .before .before .judge .ensures .1) (c .before .before .before .before .before .before .before .before .before .before .before .before .before .before .before .enum-told .given .1) _ (there (a .weights .now) (a .pred-starts .now) (a .preds .now) (a .succ-starts .now) (a .succs .now) (a .degrees .now) (a .rings .now) (a .ends .now) (a .counters .now) (a .buffers .now) (a .executed .now) (a .run .now) (a .rows .now) _ (c .before .before .before .before .before .before .before .before .before .before .before .before .before .before .before .before .before .before .sizes-of .ensures)), ((c .before .before .before .before .before .before .before .before .before .before .before .before .before .row-at .ensures), (c .before .before .before .before .before .before .fetch-row .ensures .1)))
+store-fetched-requires c κs = (let a = c .before .before .before .before .before .before .before .before .before .before .before .before .before .before .before .before .before .before .before .before .before .before .before .before .before .before .before .before .before .before .before .before .before .before .before .before .args in row-there (a .p) (a .k) (a .worker .0) (c .before .before .before .before .before .before .before .before .before .before .before .before .before .before .before .before .sizes-of .result) (c .before .before .before .before .before .before .before .before .before .before .before .before .before .before .before .judge .result) (c .before .before .before .before .before .before .before .before .before .before .before .before .before .before .before .judge .ensures .1) (c .before .before .before .before .before .before .before .before .before .before .before .before .before .enum-told .given .1) _ (there (a .weights .now) (a .pred-starts .now) (a .preds .now) (a .succ-starts .now) (a .succs .now) (a .degrees .now) (a .rings .now) (a .ends .now) (a .counters .now) (a .buffers .now) (a .executed .now) (a .run .now) (a .rows .now) _ (c .before .before .before .before .before .before .before .before .before .before .before .before .before .before .before .before .sizes-of .ensures)), ((c .before .before .before .before .before .before .before .before .before .before .before .row-at .ensures), (c .before .before .before .before .before .fetch-row .ensures .1)))
 
 enum-told-3 : tie.Need-enum-told-3
 enum-told-3 c = search needs
@@ -69,10 +69,10 @@ enum-told-4 : tie.Need-enum-told-4
 enum-told-4 c = search needs
 
 complete-row-requires : tie.Need-complete-row-requires
-complete-row-requires c κs = let a = c .before .before .before .before .before .before .before .before .before .before .before .before .before .before .before .before .before .before .before .before .before .before .before .before .before .before .before .before .before .before .args in ((c .before .before .before .before .before .before .before .before .before .judge .ensures .1), complete-lent (a .weights .now) (a .pred-starts .now) (a .preds .now) (a .succ-starts .now) (a .succs .now) (a .degrees .now) (a .rings .now) (a .ends .now) (a .counters .now) (a .buffers .now) (a .executed .now) (a .run .now) (rowsOf (a .rows .now)) _ (c .before .before .before .before .before .before .before .before .before .before .sizes-of .ensures))
+complete-row-requires c κs = let a = c .before .before .before .before .before .before .before .before .before .before .before .before .before .before .before .before .before .before .before .before .before .before .before .before .before .before .before .before .before .before .before .args in ((c .before .before .before .before .before .before .before .before .before .before .judge .ensures .1), complete-lent (a .weights .now) (a .pred-starts .now) (a .preds .now) (a .succ-starts .now) (a .succs .now) (a .degrees .now) (a .rings .now) (a .ends .now) (a .counters .now) (a .buffers .now) (a .executed .now) (a .run .now) (rowsOf (a .rows .now)) _ (c .before .before .before .before .before .before .before .before .before .before .before .sizes-of .ensures))
 
 store-completed-requires : tie.Need-store-completed-requires
-store-completed-requires c κs = (let a = c .before .before .before .before .before .before .before .before .before .before .before .before .before .before .before .before .before .before .before .before .before .before .before .before .before .before .before .before .before .before .before .before .before .before .before .before .before .before .args in row-there (a .p) (a .k) (a .worker .0) (c .before .before .before .before .before .before .before .before .before .before .before .before .before .before .before .before .before .before .sizes-of .result) (c .before .before .before .before .before .before .before .before .before .before .before .before .before .before .before .before .before .judge .result) (c .before .before .before .before .before .before .before .before .before .before .before .before .before .before .before .before .before .judge .ensures .1) (c .before .before .before .before .before .before .before .before .before .before .before .before .before .before .before .enum-told .given .1) _ (there (a .weights .now) (a .pred-starts .now) (a .preds .now) (a .succ-starts .now) (a .succs .now) (a .degrees .now) (a .rings .now) (a .ends .now) (a .counters .now) (a .buffers .now) (a .executed .now) (a .run .now) (a .rows .now) _ (c .before .before .before .before .before .before .before .before .before .before .before .before .before .before .before .before .before .before .sizes-of .ensures)), ((c .before .before .before .before .before .before .before .before .before .before .before .before .before .row-at .ensures), (c .before .before .before .before .before .before .before .complete-row .ensures .1)))
+store-completed-requires c κs = (let a = c .before .before .before .before .before .before .before .before .before .before .before .before .before .before .before .before .before .before .before .before .before .before .before .before .before .before .before .before .before .before .before .before .before .before .before .before .before .before .before .before .args in row-there (a .p) (a .k) (a .worker .0) (c .before .before .before .before .before .before .before .before .before .before .before .before .before .before .before .before .before .before .before .before .sizes-of .result) (c .before .before .before .before .before .before .before .before .before .before .before .before .before .before .before .before .before .before .before .judge .result) (c .before .before .before .before .before .before .before .before .before .before .before .before .before .before .before .before .before .before .before .judge .ensures .1) (c .before .before .before .before .before .before .before .before .before .before .before .before .before .before .before .before .before .enum-told .given .1) _ (there (a .weights .now) (a .pred-starts .now) (a .preds .now) (a .succ-starts .now) (a .succs .now) (a .degrees .now) (a .rings .now) (a .ends .now) (a .counters .now) (a .buffers .now) (a .executed .now) (a .run .now) (a .rows .now) _ (c .before .before .before .before .before .before .before .before .before .before .before .before .before .before .before .before .before .before .before .before .sizes-of .ensures)), ((c .before .before .before .before .before .before .before .before .before .before .before .before .before .before .before .row-at .ensures), (c .before .before .before .before .before .before .before .before .complete-row .ensures .1)))
 
 enum-told-5 : tie.Need-enum-told-5
 enum-told-5 c = search needs
@@ -108,7 +108,7 @@ same-length-16 : tie.Need-same-length-16
 same-length-16 c = search needs
 
 returns-2 : tie.Need-returns-2
-returns-2 c = let a = c .before .before .before .before .before .before .before .before .before .before .before .before .before .before .before .before .before .before .before .before .before .before .before .before .before .before .before .before .before .before .before .before .before .before .before .before .before .before .before .before .args in rw (c .before .before .before .before .before .before .before .before .before .before .before .before .before .enum-told2 .given .1) (fetch-made (a .weights .now) (a .pred-starts .now) (a .preds .now) (a .succ-starts .now) (a .succs .now) (a .degrees .now) (a .rings .now) (a .ends .now) (a .counters .now) (a .buffers .now) (a .executed .now) (a .run .now) (rowsOf (a .rows .now)) _ (c .before .before .before .before .before .before .before .before .before .before .before .before .before .before .before .before .before .before .before .before .sizes-of .ensures) (a .limits) (a .p) (a .k) (a .worker .0) (c .before .before .before .before .before .before .before .before .before .before .before .before .before .before .before .before .before .before .before .judge .result) (c .before .before .before .before .before .before .before .before .before .before .before .before .before .before .before .before .before .before .before .judge .ensures .0) _ _ (c .before .before .before .before .before .before .before .before .fetch-row .result) _ (c .before .before .before .before .before .before .before .before .before .before .before .before .before .before .before .row-at .ensures) (c .before .store-fetched .ensures) _ _ _ (c .before .before .before .before .before .before .before .before .fetch-row .ensures .0))
+returns-2 c = let a = c .before .before .before .before .before .before .before .before .before .before .before .before .before .before .before .before .before .before .before .before .before .before .before .before .before .before .before .before .before .before .before .before .before .before .before .before .before .before .args in rw (c .before .before .before .before .before .before .before .before .before .before .before .enum-told2 .given .1) (fetch-made (a .weights .now) (a .pred-starts .now) (a .preds .now) (a .succ-starts .now) (a .succs .now) (a .degrees .now) (a .rings .now) (a .ends .now) (a .counters .now) (a .buffers .now) (a .executed .now) (a .run .now) (rowsOf (a .rows .now)) _ (c .before .before .before .before .before .before .before .before .before .before .before .before .before .before .before .before .before .before .sizes-of .ensures) (a .limits) (a .p) (a .k) (a .worker .0) (c .before .before .before .before .before .before .before .before .before .before .before .before .before .before .before .before .before .judge .result) (c .before .before .before .before .before .before .before .before .before .before .before .before .before .before .before .before .before .judge .ensures .0) _ _ (c .before .before .before .before .before .before .before .fetch-row .result) _ (c .before .before .before .before .before .before .before .before .before .before .before .before .before .row-at .ensures) (c .before .store-fetched .ensures) _ _ (c .before .before .before .before .before .before .before .fetch-row .ensures .0))
 
 same-length-17 : tie.Need-same-length-17
 same-length-17 c = search needs
@@ -162,7 +162,7 @@ same-length-32 : tie.Need-same-length-32
 same-length-32 c = search needs
 
 returns-4 : tie.Need-returns-4
-returns-4 c = let a = c .before .before .before .before .before .before .before .before .before .before .before .before .before .before .before .before .before .before .before .before .before .before .before .before .before .before .before .before .before .before .before .before .before .before .before .before .before .before .before .before .args in rw (c .before .before .before .before .before .before .before .before .before .before .before .before .before .enum-told4 .given .1) (complete-made (a .weights .now) (a .pred-starts .now) (a .preds .now) (a .succ-starts .now) (a .succs .now) (a .degrees .now) (a .rings .now) (a .ends .now) (a .counters .now) (a .buffers .now) (a .executed .now) (a .run .now) (rowsOf (a .rows .now)) _ (c .before .before .before .before .before .before .before .before .before .before .before .before .before .before .before .before .before .before .before .before .sizes-of .ensures) (a .limits) (a .p) (a .k) (a .worker .0) (c .before .before .before .before .before .before .before .before .before .before .before .before .before .before .before .before .before .before .before .judge .result) (c .before .before .before .before .before .before .before .before .before .before .before .before .before .before .before .before .before .before .before .judge .ensures .0) _ _ (c .before .before .before .before .before .before .before .before .before .complete-row .result) _ (c .before .before .before .before .before .before .before .before .before .before .before .before .before .before .before .row-at .ensures) (c .before .store-completed .ensures) _ _ _ (c .before .before .before .before .before .before .before .before .before .complete-row .ensures .0))
+returns-4 c = let a = c .before .before .before .before .before .before .before .before .before .before .before .before .before .before .before .before .before .before .before .before .before .before .before .before .before .before .before .before .before .before .before .before .before .before .before .before .before .before .before .before .before .before .args in rw (c .before .before .before .before .before .before .before .before .before .before .before .before .before .before .before .enum-told4 .given .1) (complete-made (a .weights .now) (a .pred-starts .now) (a .preds .now) (a .succ-starts .now) (a .succs .now) (a .degrees .now) (a .rings .now) (a .ends .now) (a .counters .now) (a .buffers .now) (a .executed .now) (a .run .now) (rowsOf (a .rows .now)) _ (c .before .before .before .before .before .before .before .before .before .before .before .before .before .before .before .before .before .before .before .before .before .before .sizes-of .ensures) (a .limits) (a .p) (a .k) (a .worker .0) (c .before .before .before .before .before .before .before .before .before .before .before .before .before .before .before .before .before .before .before .before .before .judge .result) (c .before .before .before .before .before .before .before .before .before .before .before .before .before .before .before .before .before .before .before .before .before .judge .ensures .0) _ _ (c .before .before .before .before .before .before .before .before .before .before .complete-row .result) _ (c .before .before .before .before .before .before .before .before .before .before .before .before .before .before .before .before .before .row-at .ensures) (c .before .store-completed .ensures) _ _ _ _ (c .before .before .before .before .before .before .before .before .before .before .complete-row .ensures .0))
 
 same-length-33 : tie.Need-same-length-33
 same-length-33 c = search needs

@@ -22,14 +22,11 @@ same-length-2 c = search needs
 same-length-3 : tie.Need-same-length-3
 same-length-3 c = search needs
 
-same-length-4 : tie.Need-same-length-4
-same-length-4 c = search needs
-
 returns : tie.Need-returns
 returns c =
     step-replied _ _ _ _ stepReplyOf _ _ _ _ _ _
-    (c .before .before .before .before .before .before .before .before .before .before .before .before .engine .ensures)
-    (c .before .before .before .before .before .before .before .fetch .ensures)
+    (c .before .before .before .before .before .before .before .before .before .before .engine .ensures)
+    (c .before .before .before .before .before .before .fetch .ensures)
     (c .step-reply-of .ensures)
 
 pub yolluvek-fetch-spec : {M : Type 1} → statement M
@@ -42,5 +39,4 @@ yolluvek-fetch-spec =
     same-length
     same-length-2
     same-length-3
-    same-length-4
     returns)

@@ -1,6 +1,6 @@
 -- written by tools/walkgen: a walk of `yolluvek_ref_fetch`. The call is made at the engine's limits, and its answer turned into a reply.
 use contract.Running.{tablesOf}
-use Rattle.row_list.proofs.Words.{_≡_, refl, ℕ, [], _∷_, List, length, ℤ, URA, w32, w64, Val, vint, SProp, ent, emp, via, id⊢, fst∗, Memory, Routine}
+use Rattle.row_list.proofs.Words.{_≡_, refl, ℕ, [], _∷_, List, length, URA, w32, w64, Val, vint, SProp, ent, emp, via, id⊢, fst∗, Memory, Routine}
 use Rattle.row_list.proofs.Words.{Heap, Calls, Loops, WpFn, Tables, Atoms, Fun, fact, givenOf, tables, Given, ‵, raw, some, later, _⊛_, ⋆, _$_}
 use Rattle.row_list.proofs.Words.{_∵_, !, qed, by, move, keep, use1, use2, split, join, pick, fsplit, fjoin, feqL, suffices, frame, await, done, look}
 use Rattle.row_list.proofs.Words.{init, stop, from, and-then, no-more, assigns, land, returns, enter, alloc1, alloc0, params1, pass1, pass0, free0}
@@ -46,7 +46,7 @@ fetch-triple 𝓤 H A mem run = tripleOf 𝓤 H A fetch.signature (fetch.spec �
 abbrev params : List (Param 13)
 params =
     reads u32 0 tt ∷ reads u32 1 tt ∷ reads u32 2 tt ∷ reads u32 3 tt ∷ reads u32 4 tt ∷ reads u32 5 tt ∷ reads u32 6 tt ∷ gives u32 7 tt ∷
-    gives i32 8 tt ∷ reads u32 9 tt ∷ reads u32 10 tt ∷ gives u32 11 tt ∷ gives RowT 12 tt ∷ number ∷ number ∷ word ∷ []
+    reads i32 8 tt ∷ reads u32 9 tt ∷ reads u32 10 tt ∷ gives u32 11 tt ∷ gives RowT 12 tt ∷ number ∷ number ∷ word ∷ []
 
 abbrev stayed : Stays (fn.ended .signature .params) (fn.ended .kept)
 stayed = stays 13 params
@@ -69,7 +69,7 @@ module _ {M : Type 1} (𝓤 : URA M) (H : Heap 𝓤) (A : Atoms 𝓤) (W : Given
   abbrev loans : List Loan
   loans =
       read (m .weights) ∷ read (m .predStarts) ∷ read (m .preds) ∷ read (m .succStarts) ∷ read (m .succs) ∷ read (m .degrees) ∷ read
-      (m .rings) ∷ give (m .ends) ∷ give (m .counters) ∷ read (m .buffers) ∷ read (m .executed) ∷ give (m .run) ∷ give (m .rows) ∷ []
+      (m .rings) ∷ give (m .ends) ∷ read (m .counters) ∷ read (m .buffers) ∷ read (m .executed) ∷ give (m .run) ∷ give (m .rows) ∷ []
 
   abbrev args : Limits → Args fetch.signature (lives m)
   args lim = arguments lim m (p, (k, (worker-of i, tt)))
@@ -89,30 +89,29 @@ module _ {M : Type 1} (𝓤 : URA M) (H : Heap 𝓤) (A : Atoms 𝓤) (W : Given
       move ! (1 ∷ 0 ∷ []) $ fjoin ! $ owned ! LimitsT (Is LimitsT) (limits-makes 𝓤 H A) lim _ lim-is $ fjoin ! $ move ! (1 ∷ 0 ∷ []) $ join ! $
       nothing ! $ move ! (1 ∷ 0 ∷ []) $ done !
 
-  abbrev Said : Limits → StepAnswer → List ℕ → List ℤ → List ℕ → List Row → Type 0
-  Said lim a z7 z8 z11 z12 =
+  abbrev Said : Limits → StepAnswer → List ℕ → List ℕ → List Row → Type 0
+  Said lim a z7 z11 z12 =
       resultOf a (memory (m .weights .now) (m .predStarts .now) (m .preds .now) (m .succStarts .now) (m .succs .now) (m .degrees .now)
-      (m .rings .now) z7 z8 (m .buffers .now) (m .executed .now) z11 z12) ≡ stepOf lim p k i Kind.Fetch
+      (m .rings .now) z7 (m .counters .now) (m .buffers .now) (m .executed .now) z11 z12) ≡ stepOf lim p k i Kind.Fetch
       (memory (m .weights .now) (m .predStarts .now) (m .preds .now) (m .succStarts .now) (m .succs .now) (m .degrees .now) (m .rings .now)
       (m .ends .now) (m .counters .now) (m .buffers .now) (m .executed .now) (m .run .now) (m .rows .now))
 
-  exits : (z7 : List ℕ) (z8 : List ℤ) (z11 : List ℕ) (z12 : List Row) → length z7 ≡ length (m .ends .now) → length z8 ≡ length (m .counters .now)
-      → length z11 ≡ length (m .run .now) → length z12 ≡ length (m .rows .now) → (lim : Limits) → lim ≡ engine → (a : StepAnswer)
-      → Said lim a z7 z8 z11 z12 → (x : Val) (y : StepReply) → y ≡ stepReplyOf a → Is StepReplyT y (x ∷ [])
-      → ent 𝓤 (⋆ 𝓤 H A (chain (all-tokens m) ∷ ‵ (final (m .ends) z7) ∷ ‵ (final (m .counters) z8) ∷ ‵ (final (m .run) z11) ∷ ‵ (final
-      (m .rows) z12) ∷ [])) ((walkOf 𝓤 H A fn.ended stayed (fn.clauses 𝓤 H A mem run) .post here) x)
-  exits z7 z8 z11 z12 l7 l8 l11 l12 lim e a made x y replied y-is =
-      qed W (chain (all-tokens m) ∷ ‵ (final (m .ends) z7) ∷ ‵ (final (m .counters) z8) ∷ ‵ (final (m .run) z11) ∷ ‵ (final (m .rows) z12) ∷ []) ∵
+  exits : (z7 : List ℕ) (z11 : List ℕ) (z12 : List Row) → length z7 ≡ length (m .ends .now) → length z11 ≡ length (m .run .now)
+      → length z12 ≡ length (m .rows .now) → (lim : Limits) → lim ≡ engine → (a : StepAnswer) → Said lim a z7 z11 z12 → (x : Val) (y : StepReply)
+      → y ≡ stepReplyOf a → Is StepReplyT y (x ∷ []) → ent 𝓤 (⋆ 𝓤 H A (chain (all-tokens m) ∷ ‵ (final (m .ends) z7) ∷ ‵ (final
+      (m .run) z11) ∷ ‵ (final (m .rows) z12) ∷ [])) ((walkOf 𝓤 H A fn.ended stayed (fn.clauses 𝓤 H A mem run) .post here) x)
+  exits z7 z11 z12 l7 l11 l12 lim e a made x y replied y-is =
+      qed W (chain (all-tokens m) ∷ ‵ (final (m .ends) z7) ∷ ‵ (final (m .run) z11) ∷ ‵ (final (m .rows) z12) ∷ []) ∵
       suffices ! _ (finishes 𝓤 H A fn.ended stayed (fn.clauses 𝓤 H A mem run) W here x y
-      (tt, (tt, (tt, (tt, (tt, (tt, (tt, (z7, (z8, (tt, (tt, (z11, (z12, (tt, (tt, (tt, tt))))))))))))))))
-      (tt, (tt, (tt, (tt, (tt, (tt, (tt, (l7, (l8, (tt, (tt, (l11, (l12, (tt, (tt, (tt, tt))))))))))))))))) $
+      (tt, (tt, (tt, (tt, (tt, (tt, (tt, (z7, (tt, (tt, (tt, (z11, (z12, (tt, (tt, (tt, tt))))))))))))))))
+      (tt, (tt, (tt, (tt, (tt, (tt, (tt, (l7, (tt, (tt, (tt, (l11, (l12, (tt, (tt, (tt, tt))))))))))))))))) $
       says ! (step-replied lim engine p k stepReplyOf i Kind.Fetch (memory (m .weights .now) (m .predStarts .now) (m .preds .now)
       (m .succStarts .now) (m .succs .now) (m .degrees .now) (m .rings .now) (m .ends .now) (m .counters .now) (m .buffers .now) (m .executed .now)
       (m .run .now) (m .rows .now)) (memory (m .weights .now) (m .predStarts .now) (m .preds .now) (m .succStarts .now) (m .succs .now)
-      (m .degrees .now) (m .rings .now) z7 z8 (m .buffers .now) (m .executed .now) z11 z12) a y e made replied) $ frame ! $ nothing ! $ nothing ! $
-      fjoin ! $ nothing ! $ fjoin ! $ nothing ! $ fjoin ! $ move ! (4 ∷ 0 ∷ []) $ fjoin ! $ move ! (3 ∷ 0 ∷ []) $ fjoin ! $ nothing ! $ fjoin ! $
-      nothing ! $ fjoin ! $ move ! (2 ∷ 0 ∷ []) $ fjoin ! $ move ! (1 ∷ 0 ∷ []) $ fjoin ! $ nothing ! $ fjoin ! $ nothing ! $ fjoin ! $ nothing ! $
-      fjoin ! $ nothing ! $ fjoin ! $ nothing ! $ fjoin ! $ nothing ! $ fjoin ! $ nothing ! $ fjoin ! $ frame ! $
+      (m .degrees .now) (m .rings .now) z7 (m .counters .now) (m .buffers .now) (m .executed .now) z11 z12) a y e made replied) $ frame ! $
+      nothing ! $ nothing ! $ fjoin ! $ nothing ! $ fjoin ! $ nothing ! $ fjoin ! $ move ! (3 ∷ 0 ∷ []) $ fjoin ! $ move ! (2 ∷ 0 ∷ []) $ fjoin ! $
+      nothing ! $ fjoin ! $ nothing ! $ fjoin ! $ nothing ! $ fjoin ! $ move ! (1 ∷ 0 ∷ []) $ fjoin ! $ nothing ! $ fjoin ! $ nothing ! $ fjoin ! $
+      nothing ! $ fjoin ! $ nothing ! $ fjoin ! $ nothing ! $ fjoin ! $ nothing ! $ fjoin ! $ nothing ! $ fjoin ! $ frame ! $
       owned ! StepReplyT (Is StepReplyT) (step-reply-makes 𝓤 H A) y _ y-is $ done !
 
   module _ (C : Calls 𝓤 H) (Λ : Loops 𝓤 H) (fm : FmC 𝓤 H (W .laws) C) (known-limits-engine : Triple 𝓤 (C #task·Limits·engine)
@@ -130,60 +129,57 @@ module _ {M : Type 1} (𝓤 : URA M) (H : Heap 𝓤) (A : Atoms 𝓤) (W : Given
         alloc1 ! (λ l₀. alloc1 ! (λ l₁. alloc1 ! (λ l₂. alloc1 ! (λ l₃. alloc1 ! (λ l₄. alloc1 ! (λ l₅. alloc1 ! (λ l₆. alloc1 ! (λ l₇.
         alloc1 ! (λ l₈. alloc1 ! (λ l₉. alloc1 ! (λ l₁₀. alloc1 ! (λ l₁₁. alloc1 ! (λ l₁₂. alloc1 ! (λ l₁₃. alloc1 ! (λ l₁₄. alloc1 ! (λ l₁₅.
         alloc1 ! (λ l₁₆. alloc1 ! (λ l₁₇. alloc1 ! (λ l₁₈. alloc1 ! (λ l₁₉. alloc1 ! (λ l₂₀. alloc1 ! (λ l₂₁. alloc1 ! (λ l₂₂. alloc1 ! (λ l₂₃.
-        alloc1 ! (λ l₂₄. alloc1 ! (λ l₂₅. alloc1 ! (λ l₂₆. alloc1 ! (λ l₂₇. alloc0 ! $ params1 ! $
-        pass1 ! (init ! 52 refl (slice-fits (m .weights) .0)) $ pass1 ! (init ! 50 refl (slice-fits (m .predStarts) .0)) $
-        pass1 ! (init ! 48 refl (slice-fits (m .preds) .0)) $ pass1 ! (init ! 46 refl (slice-fits (m .succStarts) .0)) $
-        pass1 ! (init ! 44 refl (slice-fits (m .succs) .0)) $ pass1 ! (init ! 42 refl (slice-fits (m .degrees) .0)) $
-        pass1 ! (init ! 40 refl (slice-fits (m .rings) .0)) $ pass1 ! (init ! 38 refl (slice-fits (m .ends) .0)) $
-        pass1 ! (init ! 36 refl (slice-fits (m .counters) .0)) $ pass1 ! (init ! 34 refl (slice-fits (m .buffers) .0)) $
-        pass1 ! (init ! 32 refl (slice-fits (m .executed) .0)) $ pass1 ! (init ! 30 refl (slice-fits (m .run) .0)) $
-        pass1 ! (init ! 28 refl (slice-fits (m .rows) .0)) $ pass1 ! (init ! 26 refl (tt, record { fits = p-is .1 })) $
-        pass1 ! (init ! 24 refl (tt, record { fits = k-is .1 })) $ pass1 ! (init ! 22 refl (tt, record { fits = i-is .1 })) $ pass0 ! $
-        move ! (57 ∷ []) $ opens-owns ! (typesAt (fn.signature .params) (lives m)) (here .0 .3) (here .0 .4) $
+        alloc1 ! (λ l₂₄. alloc1 ! (λ l₂₅. alloc0 ! $ params1 ! $ pass1 ! (init ! 48 refl (slice-fits (m .weights) .0)) $
+        pass1 ! (init ! 46 refl (slice-fits (m .predStarts) .0)) $ pass1 ! (init ! 44 refl (slice-fits (m .preds) .0)) $
+        pass1 ! (init ! 42 refl (slice-fits (m .succStarts) .0)) $ pass1 ! (init ! 40 refl (slice-fits (m .succs) .0)) $
+        pass1 ! (init ! 38 refl (slice-fits (m .degrees) .0)) $ pass1 ! (init ! 36 refl (slice-fits (m .rings) .0)) $
+        pass1 ! (init ! 34 refl (slice-fits (m .ends) .0)) $ pass1 ! (init ! 32 refl (slice-fits (m .counters) .0)) $
+        pass1 ! (init ! 30 refl (slice-fits (m .buffers) .0)) $ pass1 ! (init ! 28 refl (slice-fits (m .executed) .0)) $
+        pass1 ! (init ! 26 refl (slice-fits (m .run) .0)) $ pass1 ! (init ! 24 refl (slice-fits (m .rows) .0)) $
+        pass1 ! (init ! 22 refl (tt, record { fits = p-is .1 })) $ pass1 ! (init ! 20 refl (tt, record { fits = k-is .1 })) $
+        pass1 ! (init ! 18 refl (tt, record { fits = i-is .1 })) $ pass0 ! $ move ! (53 ∷ []) $
+        opens-owns ! (typesAt (fn.signature .params) (lives m)) (here .0 .3) (here .0 .4) $
         -- the engine's limits; the lists that are written are lent on
         limits-made mem run ! fm known-limits-engine (no-more !) (λ v lim e lim-is.
-        land ! (from ! (stop !)) (init ! 35 refl (limits-typed 𝓤 H A W lim _ lim-is .0)) $
-        assigns ! (target ! 55 refl refl refl refl) (from ! (stop !)) (init ! 33 refl (tt, tt)) $
-        assigns ! (agg ! (and-then ! (at ! 33 refl) (and-then ! (part ! 55 refl refl refl) (no-more !)))) (from ! (stop !))
-        (init ! 31 refl (slice-fits (m .ends) .0)) $ assigns ! (target ! 53 refl refl refl refl) (from ! (stop !)) (init ! 29 refl (tt, tt)) $
-        assigns ! (agg ! (and-then ! (at ! 29 refl) (and-then ! (part ! 53 refl refl refl) (no-more !)))) (from ! (stop !))
-        (init ! 27 refl (slice-fits (m .counters) .0)) $ assigns ! (target ! 47 refl refl refl refl) (from ! (stop !)) (init ! 25 refl (tt, tt)) $
-        assigns ! (agg ! (and-then ! (at ! 25 refl) (and-then ! (part ! 47 refl refl refl) (no-more !)))) (from ! (stop !))
-        (init ! 23 refl (slice-fits (m .run) .0)) $ assigns ! (target ! 45 refl refl refl refl) (from ! (stop !)) (init ! 21 refl (tt, tt)) $
-        assigns ! (agg ! (and-then ! (at ! 21 refl) (and-then ! (part ! 45 refl refl refl) (no-more !)))) (from ! (stop !))
+        land ! (from ! (stop !)) (init ! 31 refl (limits-typed 𝓤 H A W lim _ lim-is .0)) $
+        assigns ! (target ! 51 refl refl refl refl) (from ! (stop !)) (init ! 29 refl (tt, tt)) $
+        assigns ! (agg ! (and-then ! (at ! 29 refl) (and-then ! (part ! 51 refl refl refl) (no-more !)))) (from ! (stop !))
+        (init ! 27 refl (slice-fits (m .ends) .0)) $ assigns ! (target ! 43 refl refl refl refl) (from ! (stop !)) (init ! 25 refl (tt, tt)) $
+        assigns ! (agg ! (and-then ! (at ! 25 refl) (and-then ! (part ! 43 refl refl refl) (no-more !)))) (from ! (stop !))
+        (init ! 23 refl (slice-fits (m .run) .0)) $ assigns ! (target ! 41 refl refl refl refl) (from ! (stop !)) (init ! 21 refl (tt, tt)) $
+        assigns ! (agg ! (and-then ! (at ! 21 refl) (and-then ! (part ! 41 refl refl refl) (no-more !)))) (from ! (stop !))
         (init ! 19 refl (slice-fits (m .rows) .0)) $
-        assigns ! (agg ! (and-then ! (at ! 39 refl) (no-more !))) (from ! (stop !))
+        assigns ! (agg ! (and-then ! (at ! 35 refl) (no-more !))) (from ! (stop !))
         (init ! 17 refl (worker-typed 𝓤 H A W (worker-of i) _ (worker-is i i-is) .0)) $
-        move ! (0 ∷ 4 ∷ 5 ∷ 6 ∷ 7 ∷ 8 ∷ 9 ∷ 10 ∷ 11 ∷ 12 ∷ 13 ∷ 14 ∷ 15 ∷ 16 ∷ []) $ joins ! (owned-of loans) $ move ! (60 ∷ 0 ∷ []) $
+        move ! (0 ∷ 4 ∷ 5 ∷ 6 ∷ 7 ∷ 8 ∷ 9 ∷ 10 ∷ 11 ∷ 12 ∷ 13 ∷ 14 ∷ 15 ∷ 16 ∷ []) $ joins ! (owned-of loans) $ move ! (56 ∷ 0 ∷ []) $
         use2 W (raw (fetch-triple 𝓤 H A mem run .pre (to lim v))) (asked lim v lim-is) $
-        calls-at ! fm (fetch-triple 𝓤 H A mem run) known-fetch (to lim v) (and-then ! (at ! 22 refl)
-        (and-then ! (at ! 56 refl) (and-then ! (at ! 54 refl) (and-then ! (at ! 52 refl)
-        (and-then ! (at ! 50 refl) (and-then ! (at ! 48 refl) (and-then ! (at ! 46 refl)
-        (and-then ! (at ! 44 refl) (and-then ! (at ! 18 refl) (and-then ! (at ! 14 refl)
-        (and-then ! (at ! 38 refl) (and-then ! (at ! 36 refl) (and-then ! (at ! 10 refl)
-        (and-then ! (at ! 6 refl) (and-then ! (at ! 30 refl) (and-then ! (at ! 28 refl) (and-then ! (at ! 4 refl) (no-more !)))))))))))))))))) (λ u.
+        calls-at ! fm (fetch-triple 𝓤 H A mem run) known-fetch (to lim v) (and-then ! (at ! 18 refl)
+        (and-then ! (at ! 52 refl) (and-then ! (at ! 50 refl) (and-then ! (at ! 48 refl)
+        (and-then ! (at ! 46 refl) (and-then ! (at ! 44 refl) (and-then ! (at ! 42 refl)
+        (and-then ! (at ! 40 refl) (and-then ! (at ! 14 refl) (and-then ! (at ! 36 refl)
+        (and-then ! (at ! 34 refl) (and-then ! (at ! 32 refl) (and-then ! (at ! 10 refl)
+        (and-then ! (at ! 6 refl) (and-then ! (at ! 26 refl) (and-then ! (at ! 24 refl) (and-then ! (at ! 4 refl) (no-more !)))))))))))))))))) (λ u.
         use1 W (later (some (λ (a : StepAnswer). (chain (all-tokens m) ⊛ ‵ (StepAnswerT .own a (u ∷ []))) ⊛ raw
         (ensured 𝓤 H A fetch.ended (fetch.clauses 𝓤 H A mem run) (lives m) (args lim) tt a)))) (id⊢ 𝓤 _) $ await ! tt $ pick ! (λ a. split ! $
         move ! (1 ∷ []) $
         use1 W (some (λ (zs : Lasts fetch.ended (lives m) (args lim)). ‵ (lasts fetch.ended (lives m) (args lim) zs) ⊛ raw
-        (fact 𝓤 (Said lim a (zs .1 .1 .1 .1 .1 .1 .1 .1 .0) (zs .1 .1 .1 .1 .1 .1 .1 .1 .1 .0) (zs .1 .1 .1 .1 .1 .1 .1 .1 .1 .1 .1 .1 .0)
+        (fact 𝓤 (Said lim a (zs .1 .1 .1 .1 .1 .1 .1 .1 .0) (zs .1 .1 .1 .1 .1 .1 .1 .1 .1 .1 .1 .1 .0)
         (zs .1 .1 .1 .1 .1 .1 .1 .1 .1 .1 .1 .1 .1 .0))))) (id⊢ 𝓤 _) $ pick ! (λ zs. split ! $ move ! (1 ∷ []) $
-        heard ! (Said lim a (zs .1 .1 .1 .1 .1 .1 .1 .1 .0) (zs .1 .1 .1 .1 .1 .1 .1 .1 .1 .0) (zs .1 .1 .1 .1 .1 .1 .1 .1 .1 .1 .1 .1 .0)
+        heard ! (Said lim a (zs .1 .1 .1 .1 .1 .1 .1 .1 .0) (zs .1 .1 .1 .1 .1 .1 .1 .1 .1 .1 .1 .1 .0)
         (zs .1 .1 .1 .1 .1 .1 .1 .1 .1 .1 .1 .1 .1 .0)) (λ steps. fsplit ! $ move ! (1 ∷ []) $ fsplit ! $ move ! (1 ∷ []) $ fsplit ! $
         move ! (1 ∷ []) $ fsplit ! $ move ! (1 ∷ []) $ fsplit ! $ move ! (1 ∷ []) $ fsplit ! $ move ! (1 ∷ []) $ fsplit ! $ move ! (1 ∷ []) $
-        fsplit ! $ move ! (1 ∷ []) $ fsplit ! $ fsplit ! $ move ! (1 ∷ []) $ feqL ! (λ l7. move ! (1 ∷ []) $ fsplit ! $ fsplit ! $ move ! (1 ∷ []) $
-        feqL ! (λ l8. move ! (1 ∷ []) $ fsplit ! $ move ! (1 ∷ []) $ fsplit ! $ move ! (1 ∷ []) $ fsplit ! $ fsplit ! $ move ! (1 ∷ []) $
-        feqL ! (λ l11. move ! (1 ∷ []) $ fsplit ! $ fsplit ! $ move ! (1 ∷ []) $ feqL ! (λ l12. move ! (15 ∷ []) $ split ! $ move ! (1 ∷ []) $
+        fsplit ! $ move ! (1 ∷ []) $ fsplit ! $ fsplit ! $ move ! (1 ∷ []) $ feqL ! (λ l7. move ! (1 ∷ []) $ fsplit ! $ move ! (1 ∷ []) $ fsplit ! $
+        move ! (1 ∷ []) $ fsplit ! $ move ! (1 ∷ []) $ fsplit ! $ fsplit ! $ move ! (1 ∷ []) $ feqL ! (λ l11. move ! (1 ∷ []) $ fsplit ! $ fsplit ! $
+        move ! (1 ∷ []) $ feqL ! (λ l12. move ! (15 ∷ []) $ split ! $ move ! (1 ∷ []) $
         peeks ! StepAnswerT (Is StepAnswerT) (shows 𝓤 H A StepAnswerT) a (u ∷ []) (λ a-is.
-        land ! (from ! (stop !)) (init ! 40 refl (step-answer-typed 𝓤 H A W a _ a-is .0)) $
+        land ! (from ! (stop !)) (init ! 36 refl (step-answer-typed 𝓤 H A W a _ a-is .0)) $
         -- the reply
-        step-replies mem run ! fm known-step-reply-of a u a-is (and-then ! (at ! 41 refl) (no-more !)) (λ x y replied y-is.
-        land ! (from ! (stop !)) (init ! 74 refl (step-reply-typed 𝓤 H A W y _ y-is .0)) $ returns ! (look ! 74 refl) $ turns ! $ free ! $ free ! $
+        step-replies mem run ! fm known-step-reply-of a u a-is (and-then ! (at ! 37 refl) (no-more !)) (λ x y replied y-is.
+        land ! (from ! (stop !)) (init ! 70 refl (step-reply-typed 𝓤 H A W y _ y-is .0)) $ returns ! (look ! 70 refl) $ turns ! $ free ! $ free ! $
         free ! $ free ! $ free ! $ free ! $ free ! $ free ! $ free ! $ free ! $ free ! $ free ! $ free ! $ free ! $ free ! $ free ! $ free ! $
-        free ! $ free ! $ free ! $ free ! $ free ! $ free ! $ free ! $ free ! $ free ! $ free ! $ free ! $ free0 ! $
-        keep ! (18 ∷ 11 ∷ 12 ∷ 15 ∷ 17 ∷ []) $
-        by ! (exits (zs .1 .1 .1 .1 .1 .1 .1 .1 .0) (zs .1 .1 .1 .1 .1 .1 .1 .1 .1 .0) (zs .1 .1 .1 .1 .1 .1 .1 .1 .1 .1 .1 .1 .0)
-        (zs .1 .1 .1 .1 .1 .1 .1 .1 .1 .1 .1 .1 .1 .0) l7 l8 l11 l12 lim e a steps x y replied y-is))))))))))))))))))))))))))))))))))))))))
+        free ! $ free ! $ free ! $ free ! $ free ! $ free ! $ free ! $ free ! $ free ! $ free0 ! $ keep ! (18 ∷ 11 ∷ 15 ∷ 17 ∷ []) $
+        by ! (exits (zs .1 .1 .1 .1 .1 .1 .1 .1 .0) (zs .1 .1 .1 .1 .1 .1 .1 .1 .1 .1 .1 .1 .0)
+        (zs .1 .1 .1 .1 .1 .1 .1 .1 .1 .1 .1 .1 .1 .0) l7 l11 l12 lim e a steps x y replied y-is)))))))))))))))))))))))))))))))))))))
 
 module _ {M : Type 1} (𝓤 : URA M) (H : Heap 𝓤) (A : Atoms 𝓤) (W : Given 𝓤 H A) (mem : Memory → SProp 𝓤) (run : Routine → Fun 𝓤) where
   walks : (C : Calls 𝓤 H) (Λ : Loops 𝓤 H) → FmC 𝓤 H (W .laws) C → Triple 𝓤 (C #task·Limits·engine) (limits-engine-triple 𝓤 H A mem run)
