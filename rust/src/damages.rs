@@ -17,8 +17,9 @@ struct Run {
     k: usize,
 }
 
-/// A task with more successors than its worker's rings hold, the diamond, and one worker with a ring of one task.
-const RUNS: [Run; 3] = [
+/// A task with more successors than its worker's rings hold, the diamond, one worker with a ring of one task, and a task without
+/// successors for each of two workers.
+const RUNS: [Run; 4] = [
     Run {
         lists: &[&[], &[0], &[0], &[0], &[1, 2]],
         p: 2,
@@ -32,6 +33,11 @@ const RUNS: [Run; 3] = [
     Run {
         lists: &[&[], &[0], &[0]],
         p: 1,
+        k: 2,
+    },
+    Run {
+        lists: &[&[], &[]],
+        p: 2,
         k: 2,
     },
 ];
@@ -48,7 +54,7 @@ impl Run {
     /// rings.
     fn states(&self) -> Vec<Memory> {
         let mut memory = self.memory();
-        engine::begin(&mut memory, self.p, self.k).expect("the graph is sound and has one root");
+        engine::begin(&mut memory, self.p, self.k).expect("the graph is sound and has few roots");
         let mut states = vec![memory.clone()];
         while self.moves(&mut memory) {
             states.push(memory.clone());

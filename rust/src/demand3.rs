@@ -133,7 +133,7 @@ struct Watch {
     edges: Edges,
     e: usize,
     accepted: usize,
-    /// What each worker's last accepted Fetch answered.
+    /// What each worker has in its hand: the task that its last accepted Fetch answered, until its Complete.
     fetched: Vec<Option<u32>>,
     /// The tasks that wait for each worker.
     waiting: Vec<Vec<u32>>,
@@ -205,9 +205,9 @@ impl Watch {
     /// What the lent words have to say after each call.
     ///
     /// "After every list of a run's calls the accepted word is the number of its accepted steps, the entries word that of
-    /// its accepted Completes. The record begins with one entry for each of these Completes, in their order". "the split
-    /// counters of a worker add up to the weight of the tasks waiting for that worker." "A counter always lies within
-    /// ±67,107,840 in an honest run."
+    /// its accepted Completes. The record begins with one entry for each of these Completes, in their order". "A worker's
+    /// counters then add up to the weight waiting for it plus that in its hand". "A counter always lies within ±67,107,840 in
+    /// an honest run."
     fn check_words(&self, memory: &Memory) -> Found<()> {
         let (entries, accepted) = (self.record.len(), self.accepted);
         let run_right = memory.run == [entries as u32, accepted as u32];
@@ -217,10 +217,11 @@ impl Watch {
         ensure(memory.executed.starts_with(&self.record.concat()), || {
             format!("the record isn't {:?}", self.record)
         })?;
-        for (worker, tasks) in self.waiting.iter().enumerate() {
+        for (worker, (waiting, hand)) in self.waiting.iter().zip(&self.fetched).enumerate() {
             let counters = &memory.counters[worker * self.p..(worker + 1) * self.p];
             let sum: i64 = counters.iter().map(|&counter| i64::from(counter)).sum();
-            let weight: i64 = tasks.iter().map(|&task| i64::from(self.weights[task as usize])).sum();
+            let tasks = waiting.iter().chain(hand);
+            let weight: i64 = tasks.map(|&task| i64::from(self.weights[task as usize])).sum();
             ensure(sum == weight, || {
                 format!("counters of worker {worker} add up to {sum}, not {weight}")
             })?;

@@ -1,5 +1,5 @@
-//! Begin and the four steps in the words of document 01. Each rule reads all its words first and writes only after the
-//! last of them, so that a refused call has written nothing.
+//! Begin and the four steps in the words of document 01, and of document 02 where it changes them. Each rule reads all its
+//! words first and writes only after the last of them, so that a refused call has written nothing.
 
 mod begin;
 
@@ -277,24 +277,19 @@ struct Call<'a> {
 }
 
 impl Call<'_> {
-    /// **Fetch** by i.
+    /// **Fetch** by i. The weight stays, so that neither weight nor counter is read.
     fn fetch(&mut self, next: u32) -> Result<Outcome, Refusal> {
         let Sizes { n, k, p, .. } = self.sizes;
         let Some((filler, head)) = self.first_waiting()? else {
             return refused(10, 0);
         };
         let ring = self.sizes.ring(self.worker, filler);
-        let own = self.sizes.ring(self.worker, self.worker);
         let task = below(&self.memory.rings, ring * k + head, n)?;
-        let weight = self.weight(task)?;
-        self.counter(own)?;
         let accepted = self.accepted()?;
 
         // "Take its head, which becomes the held task; the slot's word stays."
         set(&mut self.memory.ends, 2 * ring, word((head + 1) % k));
         self.set_row(HELD, word(task));
-        // "The weight leaves counter (i, i), which may go below zero."
-        add(&mut self.memory.counters, own, -i64::from(weight));
         // "The pointer becomes the ring after, modulo P."
         self.set_row(POINTER, word((filler + 1) % p));
         self.accept(next, accepted);
@@ -327,11 +322,14 @@ impl Call<'_> {
     }
 
     /// **Complete**: "(task, i) joins the record; the task joins i's completed buffer if it has successors; held becomes
-    /// NIL."
+    /// NIL." "From now on the weight leaves counter (i, i) at Complete."
     fn complete(&mut self, next: u32) -> Result<Outcome, Refusal> {
         let n = self.sizes.n;
         let entries = self.entries()?;
         let task = self.held()?;
+        let weight = self.weight(task)?;
+        let own = self.sizes.ring(self.worker, self.worker);
+        self.counter(own)?;
         let (first, end) = self.successor_range(task)?;
         let joins = if first < end { Some(self.write_place()?) } else { None };
         let accepted = self.accepted()?;
@@ -343,6 +341,8 @@ impl Call<'_> {
             set(&mut self.memory.buffers, self.worker * n + write, word(task));
             self.set_row(WRITE, word(write + 1));
         }
+        // from "counter (i, i), which may go below zero", whichever ring the task came from
+        add(&mut self.memory.counters, own, -i64::from(weight));
         self.set_row(HELD, NIL);
         self.accept(next, accepted);
         Ok(Outcome::Moved)

@@ -1,5 +1,5 @@
-//! The engine as one would write it in plain Rust: the same refusals in the same order and the same words written as document
-//! 01 says, over lent slices, without allocation in a step and with a begin that is linear in tasks and edges. The cost of
+//! The engine as one would write it in plain Rust: the same refusals in the same order and the same words written as documents
+//! 01 and 02 say, over lent slices, without allocation in a step and with a begin that is linear in tasks and edges. The cost of
 //! the proved engine is compared with its own.
 //!
 //! Each step reads all its words before it writes one, so that a refused call writes nothing. The calls are inlined where they are
@@ -168,8 +168,17 @@ impl<'a> Lent<'a> {
         }
     }
 
+    /// "counter beyond ±2^30" is damaged: counter (i, i).
+    #[inline(always)]
+    fn own_counter(&self, p: usize, i: usize) -> Result<i32, Refusal> {
+        match self.counters[i * p + i] {
+            counter if !COUNTERS.contains(&counter) => damaged(),
+            counter => Ok(counter),
+        }
+    }
+
     /// "successor range without start t ≤ start t+1 ≤ E" is damaged: the places of the task's successors.
-    #[inline]
+    #[inline(always)]
     fn successors(&self, task: usize) -> Result<Range<usize>, Refusal> {
         let (start, end) = (self.succ_starts[task] as usize, self.succ_starts[task + 1] as usize);
         if start > end || end > self.e() {
@@ -299,8 +308,7 @@ pub fn step(lent: &mut Lent, p: usize, k: usize, worker: u32, step: Step) -> Res
     }
 }
 
-/// "Take its head, which becomes the held task; the slot's word stays. The weight leaves counter (i, i) […]. The pointer
-/// becomes the ring after, modulo P."
+/// "Take its head, which becomes the held task; the slot's word stays. […] The pointer becomes the ring after, modulo P."
 #[inline(always)]
 pub fn fetch(lent: &mut Lent, p: usize, k: usize, worker: u32) -> Result<Outcome, Refusal> {
     let (i, row) = lent.judge_step(p, k, worker, IDLE)?;
@@ -313,16 +321,10 @@ pub fn fetch(lent: &mut Lent, p: usize, k: usize, worker: u32) -> Result<Outcome
     };
     let ring = i * p + filler;
     let task = lent.task(lent.rings[ring * k + head])?;
-    let weight = lent.weight(task)?;
-    let counter = lent.counters[i * p + i];
-    if !COUNTERS.contains(&counter) {
-        return damaged();
-    }
     let accepted = lent.next_accepted()?;
 
     let task = word(task);
     lent.ends[2 * ring] = word(after(head, k));
-    lent.counters[i * p + i] = counter - weight;
     let row = &mut lent.rows[i];
     row[PHASE] = FETCHED;
     row[HELD] = task;
@@ -342,7 +344,8 @@ pub fn start(lent: &mut Lent, p: usize, k: usize, worker: u32) -> Result<Outcome
     Ok(Outcome::Moved)
 }
 
-/// "(task, i) joins the record; the task joins i's completed buffer if it has successors; held becomes NIL."
+/// "(task, i) joins the record; the task joins i's completed buffer if it has successors; held becomes NIL." "the weight leaves
+/// counter (i, i) at Complete"
 #[inline(always)]
 pub fn complete(lent: &mut Lent, p: usize, k: usize, worker: u32) -> Result<Outcome, Refusal> {
     let (i, row) = lent.judge_step(p, k, worker, RUNNING)?;
@@ -355,6 +358,8 @@ pub fn complete(lent: &mut Lent, p: usize, k: usize, worker: u32) -> Result<Outc
         return refused(12, 0);
     }
     let task = lent.task(row[HELD])?;
+    let weight = lent.weight(task)?;
+    let counter = lent.own_counter(p, i)?;
     let joins = !lent.successors(task)?.is_empty();
     // the places are read only if the task joins the buffer
     let place = if joins { lent.places(row)?.1 } else { 0 };
@@ -366,6 +371,7 @@ pub fn complete(lent: &mut Lent, p: usize, k: usize, worker: u32) -> Result<Outc
     let task = word(task);
     lent.executed[2 * entries] = task;
     lent.executed[2 * entries + 1] = worker;
+    lent.counters[i * p + i] = counter - weight;
     let row = &mut lent.rows[i];
     row[PHASE] = IDLE;
     row[HELD] = NIL;

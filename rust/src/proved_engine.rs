@@ -20,7 +20,7 @@ declare! {
     ) -> Reply;
     yolluvek_fetch(
         succ_starts: const, succs: const, degrees: const, rings: const,
-        ends: mut, counters: mut, buffers: const, executed: const,
+        ends: mut, counters: const, buffers: const, executed: const,
         worker: u32,
     ) -> StepReply;
     yolluvek_start(
@@ -30,7 +30,7 @@ declare! {
     ) -> StepReply;
     yolluvek_complete(
         succ_starts: const, succs: const, degrees: const, rings: const,
-        ends: const, counters: const, buffers: mut, executed: mut,
+        ends: const, counters: mut, buffers: mut, executed: mut,
         worker: u32,
     ) -> StepReply;
     yolluvek_release(
@@ -95,7 +95,7 @@ pub mod preview {
         ) -> Reply;
         yolluvek_preview_fetch(
             succ_starts: const, succs: const, degrees: const, rings: const,
-            ends: mut, counters: mut, buffers: const, executed: const,
+            ends: mut, counters: const, buffers: const, executed: const,
             worker: u32,
         ) -> StepReply;
         yolluvek_preview_start(
@@ -105,7 +105,7 @@ pub mod preview {
         ) -> StepReply;
         yolluvek_preview_complete(
             succ_starts: const, succs: const, degrees: const, rings: const,
-            ends: const, counters: const, buffers: mut, executed: mut,
+            ends: const, counters: mut, buffers: mut, executed: mut,
             worker: u32,
         ) -> StepReply;
         yolluvek_preview_release(

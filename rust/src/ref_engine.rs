@@ -21,7 +21,7 @@ declare! {
     ) -> Reply;
     yolluvek_ref_fetch(
         succ_starts: const, succs: const, degrees: const, rings: const,
-        ends: mut, counters: mut, buffers: const, executed: const,
+        ends: mut, counters: const, buffers: const, executed: const,
         worker: u32,
     ) -> StepReply;
     yolluvek_ref_start(
@@ -31,7 +31,7 @@ declare! {
     ) -> StepReply;
     yolluvek_ref_complete(
         succ_starts: const, succs: const, degrees: const, rings: const,
-        ends: const, counters: const, buffers: mut, executed: mut,
+        ends: const, counters: mut, buffers: mut, executed: mut,
         worker: u32,
     ) -> StepReply;
     yolluvek_ref_release(

@@ -1,8 +1,8 @@
-//! The refused calls in short, for docs/REFUSALS.md: what each number means, and which calls can answer it; and the limits of
-//! number 2, the engine's and the preview's.
+//! The refused calls in short, for docs/REFUSALS.md: what each number means, and which calls can answer it; the limits of number
+//! 2, the engine's and the preview's; and the damaged words of number 8, with the steps that read them.
 
 use crate::engine::{Limits, MIN_SLOTS};
-use crate::memory::Step;
+use crate::memory::{List, Step, ACCEPTED, CURSOR, ENTRIES, HELD, PHASE, POINTER, READ, WRITE};
 use crate::model::MAX_WEIGHT;
 use crate::pages::{table, Block};
 
@@ -96,6 +96,87 @@ const fn row(number: u32, meaning: &'static str, detail: &'static str, callers: 
     }
 }
 
+/// Words of one range in the lent memory, and the steps that read them.
+pub struct Damage {
+    pub word: &'static str,
+    pub damaged: &'static str,
+    pub read_by: &'static [Caller],
+    /// The lists; of the rows and the run words, the places in a row or in the list.
+    pub places: &'static [(List, Option<usize>)],
+}
+
+/// "Damaged, for a word the rule reads". "From now on the weight leaves counter (i, i) at Complete": Fetch reads neither.
+pub const DAMAGES: [Damage; 14] = [
+    damage(
+        "head or tail of a ring",
+        "K or more",
+        &[Fetch, Release],
+        &[(List::Ends, None)],
+    ),
+    damage("task in a ring", "N or more", &[Fetch], &[(List::Rings, None)]),
+    damage("task in a hand", "N or more", &[Complete], &[(List::Rows, Some(HELD))]),
+    damage(
+        "task in a buffer; successor",
+        "N or more",
+        &[Release],
+        &[(List::Buffers, None), (List::Succs, None)],
+    ),
+    damage("phase", "over 2", STEPS, &[(List::Rows, Some(PHASE))]),
+    damage("ring pointer", "P or more", &[Fetch], &[(List::Rows, Some(POINTER))]),
+    damage(
+        "counter",
+        "beyond ±1,073,741,824 (2^30)",
+        &[Complete, Release],
+        &[(List::Counters, None)],
+    ),
+    damage(
+        "degree that is to be lowered",
+        "0, or over N",
+        &[Release],
+        &[(List::Degrees, None)],
+    ),
+    damage(
+        "read and write place of a buffer",
+        "not read ≤ write ≤ N; write place N where a task has to join",
+        &[Complete, Release],
+        &[(List::Rows, Some(READ)), (List::Rows, Some(WRITE))],
+    ),
+    damage(
+        "cursor",
+        "not below the number of successors",
+        &[Release],
+        &[(List::Rows, Some(CURSOR))],
+    ),
+    damage(
+        "successor starts of a task",
+        "falling, or beyond E",
+        &[Complete, Release],
+        &[(List::SuccStarts, None)],
+    ),
+    damage("weight", "over 65,535", &[Complete, Release], &[(List::Weights, None)]),
+    damage("entries recorded", "over N", &[Complete], &[(List::Run, Some(ENTRIES))]),
+    damage(
+        "steps accepted",
+        "3N + E or more",
+        STEPS,
+        &[(List::Run, Some(ACCEPTED))],
+    ),
+];
+
+const fn damage(
+    word: &'static str,
+    damaged: &'static str,
+    read_by: &'static [Caller],
+    places: &'static [(List, Option<usize>)],
+) -> Damage {
+    Damage {
+        word,
+        damaged,
+        read_by,
+        places,
+    }
+}
+
 /// What stands in docs/REFUSALS.md.
 pub fn blocks() -> Vec<Block> {
     let head = ["No.", "Meaning", "Detail", "Answered by"].map(String::from);
@@ -104,7 +185,18 @@ pub fn blocks() -> Vec<Block> {
         name: "numbers",
         text: table(&head, &rows),
     };
-    vec![numbers, limits()]
+    vec![numbers, limits(), damages()]
+}
+
+/// The damaged words, and which steps read them.
+fn damages() -> Block {
+    let head = ["word", "damaged if", "read by"].map(String::from);
+    let cells = |each: &Damage| vec![String::from(each.word), String::from(each.damaged), named(each.read_by)];
+    let rows: Vec<Vec<String>> = DAMAGES.iter().map(cells).collect();
+    Block {
+        name: "damaged",
+        text: table(&head, &rows),
+    }
 }
 
 /// What the engine takes, and what the preview takes.

@@ -3,16 +3,18 @@
 
 use crate::desk;
 use crate::engine::{begin, step};
-use crate::memory::{Memory, Outcome, Step};
+use crate::memory::{Memory, Outcome, Step, HELD, PHASE};
 use crate::model::{word, Refusal, Table};
 use crate::pages::{table, Block};
 use crate::texts::DIAMOND;
 
-/// What an operator sees before a Release: of each worker, by filler, the counters and what waits in the rings.
+/// What an operator sees before a Release: of each worker what it has in its hand and, by filler, the counters and what waits in
+/// the rings.
 #[derive(Clone, Debug)]
 pub struct View {
     /// The releasing worker.
     worker: usize,
+    hands: Vec<Option<u32>>,
     counters: Vec<Vec<i32>>,
     rings: Vec<Vec<Ring>>,
 }
@@ -27,6 +29,7 @@ struct Ring {
 impl View {
     /// The lists that a begin with this P and K was lent, and a worker below P.
     pub fn of(memory: &Memory, p: usize, k: usize, worker: u32) -> View {
+        let hands = memory.rows.iter().map(|row| (row[PHASE] > 0).then_some(row[HELD]));
         let counters = memory.counters.chunks(p).map(<[i32]>::to_vec);
         let ring = |ring: usize| Ring {
             tasks: waiting(memory, ring, k),
@@ -35,9 +38,15 @@ impl View {
         let rings = (0..p).map(|owner| (owner * p..(owner + 1) * p).map(ring).collect());
         View {
             worker: worker as usize,
+            hands: hands.collect(),
             counters: counters.collect(),
             rings: rings.collect(),
         }
+    }
+
+    /// The task that a worker has fetched or is running: "in its hand".
+    pub fn hand(&self, owner: u32) -> Option<u32> {
+        self.hands[owner as usize]
     }
 
     /// Of a worker's rings that aren't empty: the filler and the tasks, the next one to take first.
@@ -205,6 +214,16 @@ pub fn diamond() -> Example {
     example
 }
 
+/// Worker 0 has a long task in its hand, and no ring shows it: what worker 1 releases stays with worker 1. "Operators see new
+/// tiles sent to a machine that has just taken an hour's work."
+pub fn long_task() -> Example {
+    let mut example = Example::begin("long task", &[(60, &[]), (1, &[]), (1, &[1])], 2, 4);
+    example.step(0, Step::Fetch);
+    example.execute(1);
+    example.release(1, 1);
+    example
+}
+
 /// A light worker 0, whose ring is full after one task: the next tasks go to the owners behind it, first to worker 1, which has
 /// the largest load, until no ring has room.
 pub fn fallback() -> Example {
@@ -230,7 +249,7 @@ pub fn tie() -> Example {
     example
 }
 
-/// Worker 0 runs a long task, which doesn't count; the releasing worker 1 counts like any other.
+/// Worker 0 runs a long task, which counts; the releasing worker 1 counts like any other.
 pub fn running() -> Example {
     let after: &[u32] = &[1];
     let roots = [(60, &[][..]), (2, &[]), (5, &[])];
@@ -254,7 +273,8 @@ pub fn past_the_last() -> Example {
     example
 }
 
-/// A Fetch that makes no room, since it takes from a ring that another worker fills, and one that does.
+/// A Fetch that makes no room, since it takes from a ring that another worker fills, and one that does. Neither changes a load;
+/// the Complete between them does.
 pub fn room() -> Example {
     let after: &[u32] = &[1];
     let roots = [(6, &[][..]), (2, &[])];
@@ -273,7 +293,7 @@ pub fn room() -> Example {
 
 /// What stands in docs/RULE.md: the examples, then each exercise with its answer.
 pub fn blocks() -> Vec<Block> {
-    let examples = [diamond(), fallback(), tie()].map(|each| each.worked());
+    let examples = [diamond(), long_task(), fallback(), tie()].map(|each| each.worked());
     let exercises = [
         ("exercise 1", running()),
         ("exercise 2", past_the_last()),
@@ -355,18 +375,21 @@ impl Example {
         rings.map(|ring| word(ring / p)).collect()
     }
 
-    /// What waits in which ring before each Release.
+    /// What is in which hand and what waits in which ring before each Release.
     fn waits(&self) -> String {
         let owners = (0..self.p).map(|owner| format!("rings of {owner}"));
-        let head: Vec<String> = ["row", "fetched before"]
+        let head: Vec<String> = ["row", "fetched before", "in hand"]
             .map(String::from)
             .into_iter()
             .chain(owners)
             .collect();
         let rows: Vec<Vec<String>> = self.numbered(|each| {
-            let fetched = each.fetched.iter().map(|(task, by)| format!("{task} by {by}"));
+            let hands = (0..).zip(&each.view.hands);
+            let held: Vec<(u32, u32)> = hands.filter_map(|(by, hand)| hand.map(|task| (task, by))).collect();
             let rings = each.view.rings.iter().map(|rings| rings_cell(rings));
-            std::iter::once(joined(&fetched.collect::<Vec<_>>()))
+            [&each.fetched, &held]
+                .map(|tasks| by_workers(tasks))
+                .into_iter()
                 .chain(rings)
                 .collect()
         });
@@ -405,6 +428,12 @@ fn release_cells(each: &Placement) -> Vec<String> {
         .chain(loads)
         .chain(last)
         .collect()
+}
+
+/// Tasks, each with its worker: `2 by 1, 1 by 0`.
+fn by_workers(tasks: &[(u32, u32)]) -> String {
+    let cells: Vec<String> = tasks.iter().map(|(task, by)| format!("{task} by {by}")).collect();
+    joined(&cells)
 }
 
 /// A worker's rings that aren't empty, as the lesson board shows them: the filler, then the tasks, the next one to take first.

@@ -2,9 +2,10 @@
 
 use engine_model::demand3::{play, Edges, Finished};
 use engine_model::engine::{self, Engine, MODEL};
-use engine_model::memory::{Memory, Outcome, Step, ACCEPTED, ENTRIES, PHASE};
+use engine_model::engines;
+use engine_model::memory::{Memory, Outcome, Step, ACCEPTED, ENTRIES, HELD, PHASE};
 use engine_model::model::{Refusal, Table};
-use engine_model::runs::{runs_of_one_graph, Case};
+use engine_model::runs::{runs_of_one_graph, Call, Case};
 
 fn edges(lists: &[&[u32]]) -> Edges {
     let lists: Vec<Vec<u32>> = lists.iter().map(|list| list.to_vec()).collect();
@@ -84,6 +85,39 @@ fn two_records_of_a_larger_graph_are_joined() {
     }
 }
 
+/// "A counter always lies within ±67,107,840 in an honest run", and comes near both ends: worker 0 keeps a task waiting, so that
+/// all 1,021 successors of task 0, which it releases one after the other, go to worker 1. Their weights join counter (1, 0) and leave
+/// counter (1, 1), while the sum is what worker 1 has waiting and in its hand.
+#[test]
+fn counters_far_apart() {
+    const SUCCESSORS: usize = 1_021;
+    let (p, k, heavy) = (2, 4, 65_535);
+    let lists = [vec![vec![]; 3], vec![vec![0]; SUCCESSORS]].concat();
+    let table = Table::of(&lists);
+    let memory = Memory::sized(vec![heavy; lists.len()], table.starts, table.words, p, k, 0);
+    let call = |worker, step| Call::Step { p, k, worker, step };
+    let execute = |worker| [Step::Fetch, Step::Start, Step::Complete].map(|step| call(worker, step));
+    let handed_on = [&[call(0, Step::Release)][..], &execute(1)].concat();
+    let calls = [
+        vec![Call::Begin { p, k }],
+        execute(1).to_vec(),
+        execute(0).to_vec(),
+        handed_on.repeat(SUCCESSORS),
+        execute(0).to_vec(),
+    ]
+    .concat();
+    let case = Case { memory, p, k, calls };
+    for engine in engines::all() {
+        let finished = play(&engine, &case).unwrap_or_else(|wrong| panic!("{}: {wrong}", engine.name));
+        assert_eq!(finished.len(), 1);
+        let mut memory = case.memory.clone();
+        let accepted = |call: &Call| call.make(&engine, &mut memory).is_accepted();
+        assert!(case.calls.iter().all(accepted));
+        let far = SUCCESSORS as i32 * heavy as i32;
+        assert_eq!(memory.counters, [0, 0, far, -far]);
+    }
+}
+
 /// What the check finds wrong with this engine in some run.
 fn found(faulty: Engine) -> Option<String> {
     let cases = (0..100).flat_map(|seed| runs_of_one_graph(seed, 12, 2));
@@ -137,6 +171,49 @@ fn a_weight_on_another_worker_is_found() {
                 let next = (owner as usize + 1) % p;
                 memory.counters[owner as usize * p + worker as usize] -= weight;
                 memory.counters[next * p + worker as usize] += weight;
+            }
+            answer
+        }),
+        "counters of worker",
+    );
+}
+
+/// "From now on the weight leaves counter (i, i) at Complete", and no longer at Fetch.
+#[test]
+fn a_weight_that_leaves_at_fetch_is_found() {
+    assert_found(
+        with_step(|memory, p, k, worker, step| {
+            let i = worker as usize;
+            let held = memory.rows.get(i).map(|row| row[HELD]);
+            let answer = engine::step(memory, p, k, worker, step);
+            match (step, answer, held) {
+                (Step::Fetch, Ok(Outcome::Fetched { task }), _) => {
+                    memory.counters[i * p + i] -= memory.weights[task as usize] as i32;
+                }
+                (Step::Complete, Ok(_), Some(task)) => {
+                    memory.counters[i * p + i] += memory.weights[task as usize] as i32;
+                }
+                _ => {}
+            }
+            answer
+        }),
+        "counters of worker",
+    );
+}
+
+/// The weight of a task without successors leaves too.
+#[test]
+fn a_weight_that_stays_is_found() {
+    assert_found(
+        with_step(|memory, p, k, worker, step| {
+            let i = worker as usize;
+            let held = memory.rows.get(i).map(|row| row[HELD]);
+            let answer = engine::step(memory, p, k, worker, step);
+            if let (Step::Complete, Ok(_), Some(task)) = (step, answer, held) {
+                let task = task as usize;
+                if memory.succ_starts[task] == memory.succ_starts[task + 1] {
+                    memory.counters[i * p + i] += memory.weights[task] as i32;
+                }
             }
             answer
         }),

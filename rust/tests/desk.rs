@@ -29,7 +29,7 @@ fn the_diamond() {
     assert_prints(example("diamond.stg"), &lines);
 }
 
-/// At most one task waits, and none of the other worker: both sums are 0 at each Release, so worker 0 takes all. 6 tasks and
+/// One task waits or is in a hand, and none at a Release: both sums are 0 then, so worker 0 takes all. 6 tasks and
 /// 5 edges are 23 steps.
 #[test]
 fn a_chain() {
@@ -43,11 +43,11 @@ fn a_star() {
     assert_prints(example("star.stg"), &["refused 6 8"]);
 }
 
-/// The star's images behind task 0: 9 tasks and 14 edges are 41 steps. Worker 0 releases seven images, by turns to 0, 1, 1, 0, 1,
-/// 0, 1, while worker 1 has fetched 2 and then 3 from the ring that worker 0 fills; after that each takes its own.
+/// The star's images behind task 0: 9 tasks and 14 edges are 41 steps. Worker 0 releases seven images, to 0, 1, 0, 1, 1, 0, 1: when
+/// it releases 3, worker 1 has 2 in its hand, so that the sums are 3 and 3; when it releases 5, worker 1 has completed 2.
 #[test]
 fn a_star_behind_one_task() {
-    let lines = ["9 41", "0 0", "2 1", "3 1", "1 0", "5 1", "4 0", "7 1", "6 0", "8 0"];
+    let lines = ["9 41", "0 0", "2 1", "4 1", "1 0", "5 1", "3 0", "7 1", "6 0", "8 0"];
     assert_prints(example("star_behind_one.stg"), &lines);
 }
 
@@ -56,7 +56,7 @@ fn a_star_behind_one_task() {
 fn a_map_sheet() {
     let lines = [
         "16 72", "0 0", "2 1", "1 0", "3 1", "5 0", "4 1", "6 0", "9 1", "10 0", "8 1", "7 0", "11 0", "13 1", "12 0",
-        "14 1", "15 0",
+        "14 0", "15 0",
     ];
     assert_prints(example("tiles.stg"), &lines);
 }

@@ -1,9 +1,11 @@
 //! The drawn lists of calls on the model: a refused call leaves every word, an honest run keeps demand 3.
 
+use engine_model::damages;
 use engine_model::demand3;
 use engine_model::engine::MODEL;
-use engine_model::memory::Memory;
-use engine_model::runs::{next_case, Case, Reply};
+use engine_model::memory::{List, Memory, Step, HELD};
+use engine_model::runs::{next_case, Call, Case, Reply};
+use std::collections::BTreeSet;
 
 /// How often each number was answered, at 0 the accepted calls.
 type Counts = [usize; 13];
@@ -66,4 +68,45 @@ fn cases_come_from_their_seeds() {
         assert_eq!(one.calls, again.calls);
         assert!(one.memory != next.memory || one.calls != next.calls);
     }
+}
+
+/// A weight or counter (i, i) that is damaged, a worker, and whether the task at hand has successors.
+type Met = BTreeSet<(&'static str, u32, bool)>;
+
+/// Every step on damaged words: some Fetches are accepted with a heavy weight or a bad counter (i, i), and some Completes are
+/// refused for one of these words alone, by each worker, of tasks with successors and of others.
+#[test]
+fn damaged_words_meet_the_weight_that_leaves() {
+    let (mut fetched, mut completed) = (Met::new(), Met::new());
+    for Case { memory, p, k, calls } in damages::cases() {
+        let [Call::Step { worker, step, .. }] = calls[..] else {
+            panic!("{calls:?}");
+        };
+        let stepped = |mut words: Memory| ((MODEL.step)(&mut words, p, k, worker, step), words);
+        let i = worker as usize;
+        let (answer, after) = stepped(memory.clone());
+        // what is fetched here, or what a refused Complete finds
+        let task = after.rows[i][HELD] as usize;
+        if task >= memory.n() {
+            continue;
+        }
+        let inner = memory.succ_starts[task] < memory.succ_starts[task + 1];
+        let heavy = memory.weights[task] > 65_535;
+        let beyond = memory.counters[i * p + i].unsigned_abs() > 1 << 30;
+        for (name, damaged, list, place) in [
+            ("weight", heavy, List::Weights, task),
+            ("counter", beyond, List::Counters, i * p + i),
+        ] {
+            let mut repaired = memory.clone();
+            repaired.replace(list, place, 1);
+            match (step, answer.is_ok(), stepped(repaired).0.is_ok()) {
+                (Step::Fetch, true, true) if damaged => fetched.insert((name, worker, inner)),
+                (Step::Complete, false, true) if damaged => completed.insert((name, worker, inner)),
+                _ => continue,
+            };
+        }
+    }
+    let every = |name| [(0, false), (0, true), (1, false), (1, true)].map(|(worker, inner)| (name, worker, inner));
+    let all: Met = ["weight", "counter"].into_iter().flat_map(every).collect();
+    assert_eq!((&fetched, &completed), (&all, &all));
 }

@@ -165,8 +165,8 @@ fn what_is_counted() {
     let counts = [
         ("7,400 lines of code", 7_400, lines(&files("src", "rt"))),
         ("6,600 lines of definitions", 6_600, lines(&files("specs", "antt"))),
-        ("44,000 lines of proof", 44_000, lines(&files("proofs", "antt"))),
-        ("about 250 wrong programs", 250, files("must-fail", "edit").len()),
+        ("45,000 lines of proof", 45_000, lines(&files("proofs", "antt"))),
+        ("about 260 wrong programs", 260, files("must-fail", "edit").len()),
         ("about 69 crates", 69, entries(&file("crates")).len()),
     ];
     let page = text(FRONT);

@@ -356,21 +356,38 @@ fn assert_damaged(sound: &Memory, step: StepOf, damages: &[Damage]) {
 
 #[test]
 fn damage_met_by_fetch() {
-    let damages: [Damage; 12] = [
+    let damages: [Damage; 8] = [
         |memory| memory.rows[0][PHASE] = 3,
         |memory| memory.rows[0][POINTER] = 2,
         |memory| memory.ends[0] = 4,
         |memory| memory.ends[1] = u32::MAX,
         |memory| memory.rings[0] = 4,
         |memory| memory.rings[0] = NIL,
-        |memory| memory.weights[0] = 65_536,
-        |memory| memory.counters[0] = (1 << 30) + 1,
-        |memory| memory.counters[0] = -(1 << 30) - 1,
-        |memory| memory.counters[0] = i32::MIN,
         |memory| memory.run[ACCEPTED] = 16,
         |memory| memory.run[ACCEPTED] = u32::MAX,
     ];
     assert_damaged(&begun_diamond(), fetch, &damages);
+}
+
+/// A heavy weight and a bad counter (i, i) are accepted at Fetch and met at Complete.
+#[test]
+fn damage_met_after_fetch() {
+    let damages: [Damage; 4] = [
+        |memory| memory.weights[0] = 65_536,
+        |memory| memory.counters[0] = (1 << 30) + 1,
+        |memory| memory.counters[0] = -(1 << 30) - 1,
+        |memory| memory.counters[0] = i32::MIN,
+    ];
+    for damage in damages {
+        let mut memory = begun_diamond();
+        damage(&mut memory);
+        let counters = memory.counters.clone();
+        for step in [fetch, start] {
+            assert!(step(&mut Lent::of(&mut memory), 2, 4, 0).is_ok());
+        }
+        assert_eq!(memory.counters, counters);
+        assert_refused(&memory, 2, 4, 0, complete, 8, 0);
+    }
 }
 
 #[test]
@@ -379,10 +396,14 @@ fn damage_met_by_start_and_complete() {
     memory.rows[0] = [1, 2, 9, 9, 9, 9];
     assert_damaged(&memory, start, &[|memory| memory.run[ACCEPTED] = 16]);
     memory.rows[0] = [2, 2, 9, 3, 3, 9];
-    let damages: [Damage; 8] = [
+    let damages: [Damage; 12] = [
         |memory| memory.run[ENTRIES] = 5,
         |memory| memory.rows[0][HELD] = 4,
         |memory| memory.rows[0][HELD] = NIL,
+        |memory| memory.weights[2] = 65_536,
+        |memory| memory.counters[0] = (1 << 30) + 1,
+        |memory| memory.counters[0] = -(1 << 30) - 1,
+        |memory| memory.counters[0] = i32::MIN,
         |memory| memory.succ_starts[2] = 5,
         |memory| memory.succ_starts[3] = 5,
         |memory| memory.rows[0][READ] = 4,
@@ -390,10 +411,18 @@ fn damage_met_by_start_and_complete() {
         |memory| memory.run[ACCEPTED] = 16,
     ];
     assert_damaged(&memory, complete, &damages);
-    // task 3 has no successors, so the places aren't read
+    // task 3 has no successors, so the places aren't read; its weight leaves counter (0, 0) all the same
     memory.rows[0] = [2, 3, 9, 9, 8, 9];
+    let damages: [Damage; 2] = [
+        |memory| memory.weights[3] = 65_536,
+        |memory| memory.counters[0] = (1 << 30) + 1,
+    ];
+    assert_damaged(&memory, complete, &damages);
+    memory.weights[3] = 7;
+    memory.counters = vec![5, i32::MIN, i32::MIN, i32::MIN];
     assert!(complete(&mut Lent::of(&mut memory), 2, 4, 0).is_ok());
     assert_eq!(memory.rows[0], [0, NIL, 9, 9, 8, 9]);
+    assert_eq!(memory.counters, [-2, i32::MIN, i32::MIN, i32::MIN]);
 }
 
 #[test]
@@ -440,8 +469,9 @@ fn sound_at_the_limits() {
     memory = begun_diamond();
     memory.counters[0] = -(1 << 30);
     memory.weights[0] = 65_535;
-    let answer = fetch(&mut Lent::of(&mut memory), 2, 4, 0);
-    assert_eq!(answer, Ok(Outcome::Fetched { task: 0 }));
+    for step in [fetch, start, complete] {
+        assert!(step(&mut Lent::of(&mut memory), 2, 4, 0).is_ok());
+    }
     assert_eq!(memory.counters[0], -(1 << 30) - 65_535);
 }
 

@@ -226,7 +226,7 @@ fn another_p_or_k() {
     }
 }
 
-/// "Weights 0..65,535", by both; a heavy weight is 2 at begin and 8 at a Fetch.
+/// "Weights 0..65,535", by both; a heavy weight is 2 at begin, isn't read at a Fetch, and is 8 at the Complete.
 #[test]
 fn weights_stay() {
     let mut memory = lent(&roots(2), 4, 8);
@@ -238,7 +238,13 @@ fn weights_stay() {
     assert_eq!(answers(&begin(&memory, 4, 8)), [refused(2, 0); 2]);
     let mut words = begun[0].1.clone();
     words.weights[0] = 65_536;
-    assert_eq!(answers(&step(&words, 4, 8, 0, Step::Fetch)), [refused(8, 0); 2]);
+    for which in [Step::Fetch, Step::Start] {
+        let stepped = step(&words, 4, 8, 0, which);
+        assert!(answers(&stepped).iter().all(Result::is_ok));
+        assert_same(&stepped);
+        words = stepped[0].1.clone();
+    }
+    assert_eq!(answers(&step(&words, 4, 8, 0, Step::Complete)), [refused(8, 0); 2]);
 }
 
 /// The diamond by each preview, in the desk program's turns: every word is document 01's.

@@ -3,10 +3,11 @@
 use engine_model::engine::{Engine, Limits, MODEL, PREVIEW};
 use engine_model::exports::MAX_WRITTEN;
 use engine_model::frames;
-use engine_model::model::{check, link, Answer, Lent};
+use engine_model::memory::{List, Memory, ROW_WORDS};
+use engine_model::model::{check, link, Answer, Lent, Refusal};
 use engine_model::pages;
 use engine_model::reader;
-use engine_model::refusals::{Caller, ROWS};
+use engine_model::refusals::{Caller, DAMAGES, ROWS};
 use engine_model::runs::{next_case, next_case_within, Call, Case, Reply};
 use engine_model::text::{GraphTrial, LookupTrial, Trial};
 use engine_model::{saves, texts, trials, writer};
@@ -124,6 +125,69 @@ fn the_preview_answers_what_begin_and_the_steps_do() {
     ];
     let named = named.filter(|(_, caller)| of_a_run.contains(caller));
     assert_eq!(answered, named.collect());
+}
+
+/// Each word of the page is read by the steps that are named for it, and by no other: in drawn honest runs, the words of each
+/// state are damaged one after the other, and every step that would be accepted is tried.
+#[test]
+fn damaged_words_are_met_by_the_steps_named_for_them() {
+    let mut met = BTreeSet::new();
+    for case in (20_000..20_100).map(next_case).filter(Case::is_honest) {
+        let (p, k, mut memory) = (case.p, case.k, case.memory);
+        if memory.n() > 12 || p > 3 || (MODEL.begin)(&mut memory, p, k).is_err() {
+            continue;
+        }
+        for call in case.calls {
+            let Call::Step { worker, step, .. } = call else {
+                continue;
+            };
+            let before = memory.clone();
+            if !call.make(&MODEL, &mut memory).is_accepted() {
+                continue;
+            }
+            for (word, damaged) in every_word_damaged(&before) {
+                let answer = (MODEL.step)(&mut damaged.clone(), p, k, worker, step);
+                if answer.is_err() {
+                    assert_eq!(answer, Err(Refusal { number: 8, detail: 0 }), "{word}");
+                    met.insert((word, Caller::from(step)));
+                }
+            }
+        }
+    }
+    let named = DAMAGES
+        .iter()
+        .flat_map(|each| each.read_by.iter().map(|&step| (each.word, step)));
+    assert_eq!(met, named.collect());
+}
+
+/// The memory with each word that the page names damaged in turn, and the page's name for it.
+fn every_word_damaged(memory: &Memory) -> Vec<(&'static str, Memory)> {
+    let mut all = Vec::new();
+    for each in &DAMAGES {
+        for &(list, field) in each.places {
+            let words = match list {
+                List::Rows => memory.rows.len() * ROW_WORDS,
+                _ => memory.length(list),
+            };
+            let places = match (list, field) {
+                (List::Rows, Some(field)) => (field..words).step_by(ROW_WORDS),
+                (_, Some(place)) => (place..place + 1).step_by(1),
+                (_, None) => (0..words).step_by(1),
+            };
+            for place in places {
+                let mut damaged = memory.clone();
+                // no word of these lists may be so large, and no counter so far below zero
+                let word = if list == List::Counters {
+                    i32::MIN as u32
+                } else {
+                    u32::MAX
+                };
+                damaged.replace(list, place, word);
+                all.push((each.word, damaged));
+            }
+        }
+    }
+    all
 }
 
 /// Of the steps of memory that only the engine has written since an accepted begin, none is refused with 8 or 12.

@@ -3,10 +3,10 @@
 use engine_model::draw::Draw;
 use engine_model::engine::Engine;
 use engine_model::engines;
-use engine_model::memory::{Memory, Outcome, Step};
+use engine_model::memory::{Memory, Outcome, Step, HELD};
 use engine_model::model::{Refusal, Table};
 use engine_model::pages;
-use engine_model::rule::{diamond, fallback, past_the_last, room, running, tie, Example, View};
+use engine_model::rule::{diamond, fallback, long_task, past_the_last, room, running, tie, Example, View};
 use engine_model::runs::{next_case, Call, Case, Reply};
 
 #[test]
@@ -27,7 +27,7 @@ fn assert_places(example: &Example, expected: &[Expected]) {
     }
 }
 
-/// Task 1 weighs 5, task 2 weighs 3; both are fetched, by workers 0 and 1, before worker 0 releases 3.
+/// Task 1 weighs 5, task 2 weighs 3; both are completed, by workers 0 and 1, before worker 0 releases 3.
 #[test]
 fn the_diamond_s_placements() {
     let expected: [Expected; 3] = [
@@ -38,8 +38,21 @@ fn the_diamond_s_placements() {
     assert_places(&diamond(), &expected);
 }
 
-/// Root 0 of weight 4 is fetched, the others of weights 12 and 9 wait. A ring holds one task, so 3 fills that of the target, 4
-/// that of worker 1 and 5 that of worker 2; there is no room for 6 until worker 2 has taken 5.
+/// Worker 0 has its root of weight 60 in its hand, and worker 1 has completed its own.
+#[test]
+fn the_placement_beside_a_long_task() {
+    let expected: [Expected; 1] = [(&[60, 0], 1, 2, Some(1))];
+    let example = long_task();
+    assert_places(&example, &expected);
+    let before = &example.placements[0];
+    assert_eq!(before.fetched, [(0, 0), (1, 1)]);
+    assert_eq!([0, 1].map(|worker| before.view.hand(worker)), [Some(0), None]);
+    assert_told("so the load of worker 0 is 60, and task 2 goes to worker 1.");
+    assert_eq!(example.after(1).loads(), [60, 1]);
+}
+
+/// Root 0 of weight 4 is completed, the others of weights 12 and 9 wait. A ring holds one task, so 3 fills that of the target, 4
+/// that of worker 1 and 5 that of worker 2; there is no room for 6 until worker 2 has taken 5, which then counts in its hand.
 #[test]
 fn the_placements_past_full_rings() {
     let expected: [Expected; 5] = [
@@ -47,12 +60,12 @@ fn the_placements_past_full_rings() {
         (&[1, 12, 9], 0, 4, Some(1)),
         (&[1, 13, 9], 0, 5, Some(2)),
         (&[1, 13, 10], 0, 6, None),
-        (&[1, 13, 9], 0, 6, Some(2)),
+        (&[1, 13, 10], 0, 6, Some(2)),
     ];
     assert_places(&fallback(), &expected);
 }
 
-/// Roots 0 and 3, of weights 2 and 7, go to worker 0, which fetches 0; 1 and 2, of weight 4, to workers 1 and 2.
+/// Roots 0 and 3, of weights 2 and 7, go to worker 0, which completes 0; 1 and 2, of weight 4, to workers 1 and 2.
 #[test]
 fn the_placements_with_ties() {
     let expected: [Expected; 4] = [
@@ -67,19 +80,21 @@ fn the_placements_with_ties() {
     assert_eq!(least, [vec![1, 2], vec![2], vec![1], vec![0, 1, 2]]);
 }
 
-/// Worker 0 has fetched its root of weight 60, and worker 1 has completed the one that it releases from; the root of weight 5
-/// waits for worker 2.
+/// Worker 0 runs its root of weight 60, and worker 1 has completed the one that it releases from; the root of weight 5 waits for
+/// worker 2.
 #[test]
 fn exercise_1() {
     let expected: [Expected; 3] = [
-        (&[0, 0, 5], 0, 3, Some(0)),
-        (&[4, 0, 5], 1, 4, Some(1)),
-        (&[4, 4, 5], 0, 5, Some(0)),
+        (&[60, 0, 5], 1, 3, Some(1)),
+        (&[60, 4, 5], 1, 4, Some(1)),
+        (&[60, 8, 5], 2, 5, Some(2)),
     ];
     let example = running();
     assert_places(&example, &expected);
-    assert_told("Tasks 3, 4 and 5 go to workers 0, 1 and 0.");
-    assert_eq!(example.after(1).waiting(0), [(1, &[3, 5][..])]);
+    assert_told("Tasks 3, 4 and 5 go to workers 1, 1 and 2.");
+    assert_eq!(example.after(1).waiting(0), []);
+    assert_eq!(example.after(1).waiting(1), [(1, &[3, 4][..])]);
+    assert_eq!(example.after(1).waiting(2), [(1, &[5][..]), (2, &[2])]);
 }
 
 /// Each ring holds one task. Worker 2 has the least load, and keeps it: the weight 4 joins worker 3.
@@ -97,15 +112,16 @@ fn exercise_2() {
     assert_told("After that the loads are 9, 5, 2 and 10.");
 }
 
-/// Each ring holds one task, and those that worker 1 fills have tasks 2 and 3. Worker 0 looks at filler 0 first.
+/// Each ring holds one task, and those that worker 1 fills have tasks 2 and 3. Worker 0 looks at filler 0 first. Its load is the
+/// same before and after each Fetch; at its Complete the 6 of task 0 leaves.
 #[test]
 fn exercise_3() {
     let expected: [Expected; 5] = [
         (&[6, 0], 1, 2, Some(1)),
         (&[6, 3], 1, 3, Some(0)),
         (&[7, 3], 1, 4, None),
-        (&[1, 3], 0, 4, None),
-        (&[0, 3], 0, 4, Some(0)),
+        (&[7, 3], 1, 4, None),
+        (&[1, 3], 0, 4, Some(0)),
     ];
     let example = room();
     assert_places(&example, &expected);
@@ -166,16 +182,26 @@ impl Tried {
     }
 }
 
-/// Where the weights go: to the owner at a Release that places, from the worker at a Fetch, else nowhere.
-fn assert_loads(before: &[i64], after: &[i64], memory: &Memory, worker: u32, answer: Result<Outcome, Refusal>) {
-    let mut expected = before.to_vec();
-    let weight = |task: u32| i64::from(memory.weights[task as usize]);
-    match answer {
-        Ok(Outcome::Placed { task, owner }) => expected[owner as usize] += weight(task),
-        Ok(Outcome::Fetched { task }) => expected[worker as usize] -= weight(task),
+/// Where the weights go: to the owner at a Release that places, from the worker at a Complete, else nowhere.
+fn assert_loads(found: &Memory, views: [&View; 2], worker: u32, step: Step, answer: Result<Outcome, Refusal>) {
+    let [mut expected, after] = views.map(View::loads);
+    let weight = |task: u32| i64::from(found.weights[task as usize]);
+    match (step, answer) {
+        (Step::Release, Ok(Outcome::Placed { task, owner })) => expected[owner as usize] += weight(task),
+        (Step::Complete, Ok(_)) => expected[worker as usize] -= weight(found.rows[worker as usize][HELD]),
         _ => {}
     }
-    assert_eq!(after, expected, "{answer:?} by {worker}");
+    assert_eq!(after, expected, "{step:?} by {worker}: {answer:?}");
+}
+
+/// A worker's load is the weight of what waits in its rings and of what it has in its hand.
+fn assert_waiting_and_held(memory: &Memory, view: &View) {
+    let weight = |task: &u32| i64::from(memory.weights[*task as usize]);
+    for (owner, load) in (0..).zip(view.loads()) {
+        let waiting = view.waiting(owner).into_iter().flat_map(|(_, tasks)| tasks);
+        let hand = view.hand(owner);
+        assert_eq!(load, waiting.chain(&hand).map(weight).sum(), "of worker {owner}");
+    }
 }
 
 /// A root for each worker and many successors, few slots, weights that differ much, calls in any order: rings are full while
@@ -211,7 +237,8 @@ fn watch(engine: &Engine, case: &Case, tried: &mut Tried) {
             continue;
         }
         let (view, next) = (View::of(&before, p, k, worker), View::of(&memory, p, k, worker));
-        assert_loads(&view.loads(), &next.loads(), &memory, worker, answer);
+        assert_loads(&before, [&view, &next], worker, step, answer);
+        assert_waiting_and_held(&memory, &next);
         if step == Step::Release {
             tried.release(&view, answer);
         }

@@ -166,14 +166,23 @@ fn place_in(draw: &mut Draw, list: List, length: usize, memory: &Memory, k: usiz
             .get(worker)
             .map(|row| worker * memory.n() + row[READ] as usize),
         List::Succs => next_successor(memory, worker),
+        // of the task that is released next or, of the weights, of the one that is completed next
+        List::Weights if draw.below(2) == 0 => held(memory, worker),
         List::Degrees | List::Weights => {
             let task = next_successor(memory, worker).and_then(|at| memory.succs.get(at));
             task.map(|&task| task as usize)
         }
-        List::SuccStarts => memory.rows.get(worker).map(|row| row[HELD] as usize),
+        // counter (i, i), which a Complete reads; a Release may read them all
+        List::Counters if draw.below(2) == 0 => Some(worker * memory.rows.len() + worker),
+        List::SuccStarts => held(memory, worker),
         _ => None,
     };
     read_next.filter(|&place| place < length).unwrap_or(any)
+}
+
+/// The task in the worker's hand.
+fn held(memory: &Memory, worker: usize) -> Option<usize> {
+    memory.rows.get(worker).map(|row| row[HELD] as usize)
 }
 
 /// The head's slot of some ring, mostly of one that isn't empty.

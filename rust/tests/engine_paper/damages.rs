@@ -1,6 +1,6 @@
 //! Damaged words, row by row, each with the word beside it that is fine.
 
-use crate::board::{degree_left, fetched, fork, fork_to_release, placed, refused, HUGE, LIMIT, MOVED};
+use crate::board::{degree_left, fetched, fork, fork_to_release, placed, refused, Board, HUGE, LIMIT, MOVED};
 use engine_model::memory::{List, Step, ACCEPTED, CURSOR, ENTRIES, HELD, NIL, PHASE, POINTER, READ, WRITE};
 
 /// "head or tail ≥ K"
@@ -62,18 +62,31 @@ fn damaged_pointer() {
     assert_eq!(fork(2, 4).with_row(0, POINTER, 1).fetch(0), fetched(0));
 }
 
-/// "counter beyond ±2^30"
+/// Worker 0 runs task 0, which has successors, and task 1, which has none.
+fn boards_to_complete() -> [Board; 2] {
+    [0, 1].map(|task| fork(2, 4).with_row(0, PHASE, 2).with_row(0, HELD, task))
+}
+
+/// "counter beyond ±2^30": a bad counter (i, i) is accepted at Fetch and met at Complete.
 #[test]
 fn damaged_counter() {
     for value in [LIMIT + 1, -LIMIT - 1, i32::MAX, i32::MIN] {
-        assert_eq!(fork(2, 4).with_counter(0, 0, value).fetch(0), refused(8, 0));
+        let mut board = fork(2, 4).with_counter(0, 0, value);
+        assert_eq!(board.fetch(0), fetched(0));
+        assert_eq!(board.start(0), MOVED);
+        assert_eq!(board.complete(0), refused(8, 0));
+        for board in boards_to_complete() {
+            assert_eq!(board.with_counter(0, 0, value).complete(0), refused(8, 0));
+        }
         for (owner, filler) in [(0, 0), (0, 1), (1, 0), (1, 1)] {
             let mut board = fork_to_release(2, 4).with_counter(owner, filler, value);
             assert_eq!(board.release(0), refused(8, 0));
         }
     }
     for value in [LIMIT, -LIMIT] {
-        assert_eq!(fork(2, 4).with_counter(0, 0, value).fetch(0), fetched(0));
+        for board in boards_to_complete() {
+            assert_eq!(board.with_counter(0, 0, value).complete(0), MOVED);
+        }
         let owner = if value < 0 { 0 } else { 1 };
         assert_eq!(
             fork_to_release(2, 4).with_counter(0, 1, value).release(0),
@@ -171,17 +184,25 @@ fn damaged_successor_range() {
     );
 }
 
-/// "weight over 65,535"
+/// "weight over 65,535": a heavy weight is accepted at Fetch and met at Complete.
 #[test]
 fn damaged_weight() {
     for word in [65_536, HUGE] {
-        assert_eq!(fork(2, 4).with(List::Weights, 0, word).fetch(0), refused(8, 0));
+        let mut board = fork(2, 4).with(List::Weights, 0, word);
+        assert_eq!(board.fetch(0), fetched(0));
+        assert_eq!(board.start(0), MOVED);
+        assert_eq!(board.complete(0), refused(8, 0));
+        for (task, board) in boards_to_complete().into_iter().enumerate() {
+            assert_eq!(board.with(List::Weights, task, word).complete(0), refused(8, 0));
+        }
         assert_eq!(
             fork_to_release(2, 4).with(List::Weights, 1, word).release(0),
             refused(8, 0)
         );
     }
-    assert_eq!(fork(2, 4).with(List::Weights, 0, 65_535).fetch(0), fetched(0));
+    for (task, board) in boards_to_complete().into_iter().enumerate() {
+        assert_eq!(board.with(List::Weights, task, 65_535).complete(0), MOVED);
+    }
     assert_eq!(
         fork_to_release(2, 4).with(List::Weights, 1, 65_535).release(0),
         placed(1, 0)

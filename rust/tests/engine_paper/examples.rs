@@ -179,6 +179,28 @@ fn the_diamond_in_whole() {
     assert_eq!(board.memory, diamond::finished());
 }
 
+/// Document 02, No. 3: "Operators see new tiles sent to a machine that has just taken an hour's work."
+///
+/// Worker 0 fetches its root of weight 60, and worker 1 completes its own and releases task 2. The sums are 60 and 0, so task 2
+/// goes to worker 1; with the weight gone at Fetch they would both be 0, and it would go to 0.
+#[test]
+fn a_lane_with_a_long_tile_is_not_empty() {
+    let mut board = Board::begun(&[60, 1, 1], &[&[], &[], &[1]], 2, 4);
+    assert_eq!(board.fetch(0), fetched(0));
+    board.execute(1, 1);
+    assert_eq!(board.memory.counters, [60, 0, 0, 0]);
+    assert_eq!(board.with(List::Counters, 0, 0).release(1), placed(2, 0));
+    assert_eq!(board.release(1), placed(2, 1));
+    assert_eq!(board.memory.counters, [60, 0, 0, 1]);
+    assert_eq!(board.start(0), MOVED);
+    assert_eq!(board.memory.counters, [60, 0, 0, 1]);
+    assert_eq!(board.complete(0), MOVED);
+    assert_eq!(board.memory.counters, [0, 0, 0, 1]);
+    board.execute(1, 2);
+    assert_eq!(board.memory.counters, [0; 4]);
+    assert_eq!(board.memory.executed, [1, 1, 0, 0, 2, 1]);
+}
+
 /// "Release 0→0, Fetch 0→1, Start 1→2, Complete 2→0; the other eight pairs are refused."
 #[test]
 fn phase_against_step() {
@@ -222,7 +244,7 @@ fn story_board() -> Board {
 /// "A refused placement once left its weight on the lane. The board showed twelve as loaded and every later tile passed over
 /// an empty machine."
 ///
-/// Each ring holds K−1 = 1 task. After worker 3 has fetched its root, its own sum is 0 and all others are 10. So worker 3
+/// Each ring holds K−1 = 1 task. After worker 3 has completed its root, its own sum is 0 and all others are 10. So worker 3
 /// is the target of every Release: 16 goes to it, and with its ring full and its sum 1, which stays the least, the others go
 /// to the owners behind it: 17 to 4, … 28 to 15, 29 to 0, 30 to 1, 31 to 2. Each of them then has the sum 11. The
 /// owners expected here and below follow docs/RULE.md.
@@ -247,8 +269,8 @@ fn a_refused_release_leaves_every_word() {
     }
 }
 
-/// Worker 12 passes its empty rings 0 to 2 and takes 25 from the ring that worker 3 fills; its sum is 10, so the target is
-/// still 3 with the sum 1, and the rings of 3 to 11 are full.
+/// Worker 12 passes its empty rings 0 to 2 and takes 25 from the ring that worker 3 fills; its sum stays 11, and the target is
+/// still 3 with the sum 1, and the rings of 3 to 11 are full. At Complete the weight of 25 leaves counter (12, 12).
 fn room_at_twelve(mut board: Board) {
     assert_eq!(board.fetch(12), fetched(25));
     let mut expected = board.memory.clone();
@@ -257,14 +279,17 @@ fn room_at_twelve(mut board: Board) {
     // 25 was in slot 0; the tail goes from 1 to 0
     expected.rings[2 * ring + 1] = 32;
     expected.ends[2 * ring + 1] = 0;
-    // 1 of task 25, which left counter (12, 12), and 5 of task 32
+    // 1 of task 25, which worker 12 has in its hand, and 5 of task 32
     expected.counters[ring] = 1 + 5;
     expected.degrees[32] = 0;
     expected.run[ACCEPTED] += 1;
     // all 17 are released: the cursor is 0 again, and the read place 1
     expected.rows[3] = [0, NIL, 4, 1, 1, 0];
     assert_eq!(board.memory, expected);
-    assert_eq!(board.memory.counters[12 * 16 + 12], 10 - 1);
+    assert_eq!(board.start(12), MOVED);
+    assert_eq!(board.complete(12), MOVED);
+    let counters = &board.memory.counters;
+    assert_eq!((counters[ring], counters[12 * 16 + 12]), (1 + 5, 10 - 1));
 }
 
 /// Worker 3 takes 16 from its own ring, and is the target with the sum 0.
@@ -274,7 +299,7 @@ fn room_at_three(mut board: Board) {
 }
 
 /// Worker 2 takes its root, not the task from worker 3: its sum is 1 and it is the target before 3, but no ring that worker
-/// 3 fills has room. Once it has taken 31 too, its sum is 0, and its ring has room.
+/// 3 fills has room. Once it has taken 31 too, which counts in its hand, its ring has room.
 fn no_room_at_two(mut board: Board) {
     board.execute(2, 2);
     assert_eq!(board.release(3), refused(11, 32));

@@ -5,8 +5,8 @@ use crate::board::{
 };
 use engine_model::memory::{List, Step, ACCEPTED, CURSOR, ENTRIES, HELD, NIL, PHASE, POINTER, READ, WRITE};
 
-/// "Take its head, which becomes the held task; the slot's word stays. The weight leaves counter (i, i) […]. The pointer
-/// becomes the ring after, modulo P."
+/// "Take its head, which becomes the held task; the slot's word stays. […] The pointer becomes the ring after, modulo P." The
+/// weight stays in its counter.
 #[test]
 fn what_fetch_writes() {
     let mut board = fork_to_release(2, 4).with_counter(0, 0, 9);
@@ -16,20 +16,17 @@ fn what_fetch_writes() {
     assert_eq!(board.fetch(1), fetched(1));
     let mut expected = before;
     expected.ends[4] = 1;
-    expected.counters[3] = -5;
     expected.run[ACCEPTED] += 1;
     expected.rows[1] = [1, 1, 1, 0, 0, 0];
     assert_eq!(board.memory, expected);
 }
 
-/// Pointer ≥ P with all rings empty is 8; a bad accepted word with all rings empty is 10, and so are bad words that the
-/// taken task would have had.
+/// Pointer ≥ P with all rings empty is 8; a bad accepted word with all rings empty is 10, and so is a bad slot.
 #[test]
 fn fetch_with_all_rings_empty() {
     let board = fork(2, 4);
     assert_eq!(board.with_row(1, POINTER, 2).fetch(1), refused(8, 0));
     assert_eq!(board.with(List::Run, ACCEPTED, HUGE).fetch(1), refused(10, 0));
-    assert_eq!(board.with_counter(1, 1, i32::MIN).fetch(1), refused(10, 0));
     assert_eq!(board.with(List::Rings, 8, HUGE).fetch(1), refused(10, 0));
     // a bad end of a ring that is scanned
     assert_eq!(board.with(List::Ends, 7, 4).fetch(1), refused(8, 0));
@@ -81,6 +78,20 @@ fn fetch_goes_round_the_rings() {
     }
 }
 
+/// "From now on the weight leaves counter (i, i) at Complete": Fetch reads neither weight nor counter.
+#[test]
+fn fetch_reads_no_weight_and_no_counter() {
+    let mut board = fork(2, 4);
+    board.memory.weights.fill(HUGE);
+    board.memory.counters.fill(i32::MIN);
+    let mut expected = board.memory.clone();
+    assert_eq!(board.fetch(0), fetched(0));
+    expected.ends[0] = 1;
+    expected.run[ACCEPTED] = 1;
+    expected.rows[0] = [1, 0, 1, 0, 0, 0];
+    assert_eq!(board.memory, expected);
+}
+
 /// The old held word isn't read by Fetch.
 #[test]
 fn fetch_does_not_read_the_held_word() {
@@ -95,7 +106,7 @@ fn fetch_does_not_read_the_held_word() {
 #[test]
 fn the_new_counter_is_not_judged() {
     let mut board = fork(2, 4).with_counter(0, 0, -LIMIT).with(List::Weights, 0, 65_535);
-    assert_eq!(board.fetch(0), fetched(0));
+    board.execute(0, 0);
     assert_eq!(board.memory.counters[0], -LIMIT - 65_535);
     let counters = fork_to_release(1, 4).with_counter(0, 0, LIMIT);
     let mut board = counters.with(List::Weights, 1, 65_535);
@@ -126,6 +137,9 @@ fn complete_meets_12_first() {
     assert_eq!(full.with_row(0, HELD, HUGE).complete(0), refused(12, 0));
     assert_eq!(full.with(List::Run, ACCEPTED, HUGE).complete(0), refused(12, 0));
     assert_eq!(full.with(List::SuccStarts, 0, HUGE).complete(0), refused(12, 0));
+    assert_eq!(full.with_counter(0, 0, i32::MIN).complete(0), refused(12, 0));
+    let heavy = full.with_row(0, HELD, 0).with(List::Weights, 0, HUGE);
+    assert_eq!(heavy.clone().complete(0), refused(12, 0));
     assert_eq!(full.with_row(0, READ, HUGE).complete(0), refused(12, 0));
     assert_eq!(
         full.with(List::Run, ENTRIES, 4).with_row(0, HELD, HUGE).complete(0),
@@ -133,19 +147,54 @@ fn complete_meets_12_first() {
     );
 }
 
-/// "(task, i) joins the record; the task joins i's completed buffer if it has successors; held becomes NIL."
+/// "(task, i) joins the record; the task joins i's completed buffer if it has successors; held becomes NIL." "the weight leaves
+/// counter (i, i)", here number 1·2 + 1 with the 5 of task 1 from begin.
 #[test]
 fn what_complete_writes() {
     let mut board = Board::begun(&[4, 5, 6, 7], &[&[], &[], &[], &[1]], 2, 4);
     assert_eq!(board.fetch(1), fetched(1));
     assert_eq!(board.start(1), MOVED);
     let mut expected = board.memory.clone();
+    assert_eq!(expected.counters, [4 + 6, 0, 0, 5]);
     assert_eq!(board.complete(1), MOVED);
+    expected.counters[3] = 0;
     expected.executed[..2].copy_from_slice(&[1, 1]);
     expected.buffers[4] = 1;
     expected.run = vec![1, 3];
     expected.rows[1] = [0, NIL, 0, 0, 1, 0];
     assert_eq!(board.memory, expected);
+}
+
+/// The weight leaves for a task without successors too, and from counter (i, i), "which may go below zero", though it joined
+/// another one.
+#[test]
+fn the_weight_leaves_the_own_counter() {
+    let mut board = fork_to_release(2, 4).with_counter(0, 0, 9);
+    // sums 9 and 0: task 1 goes to owner 1, into its ring that worker 0 fills
+    assert_eq!(board.release(0), placed(1, 1));
+    assert_eq!(board.memory.counters, [9, 0, 5, 0]);
+    assert_eq!(board.fetch(1), fetched(1));
+    assert_eq!(board.start(1), MOVED);
+    let mut expected = board.memory.clone();
+    assert_eq!(expected.counters, [9, 0, 5, 0]);
+    assert_eq!(board.complete(1), MOVED);
+    expected.counters[3] = -5;
+    expected.executed[2..4].copy_from_slice(&[1, 1]);
+    expected.run = vec![2, 7];
+    expected.rows[1] = [0, NIL, 1, 0, 0, 0];
+    assert_eq!(board.memory, expected);
+}
+
+/// Complete reads counter (i, i) and the weight of the held task, and no other counter and no other weight.
+#[test]
+fn complete_reads_one_weight_and_one_counter() {
+    let mut board = fork(2, 4).with_row(0, PHASE, 2).with_row(0, HELD, 0);
+    board.memory.weights = vec![4, HUGE, HUGE];
+    board.memory.counters = vec![LIMIT, i32::MAX, i32::MIN, i32::MAX];
+    assert_eq!(board.with_counter(0, 0, LIMIT + 1).complete(0), refused(8, 0));
+    assert_eq!(board.with(List::Weights, 0, 65_536).complete(0), refused(8, 0));
+    assert_eq!(board.complete(0), MOVED);
+    assert_eq!(board.memory.counters, [LIMIT - 4, i32::MAX, i32::MIN, i32::MAX]);
 }
 
 /// The buffer places are read only if the task has successors, and successor words not at all.
