@@ -274,7 +274,8 @@ yolluvek_part yolluvek_lookup(
  *   degrees      N          how many predecessors each task still waits for
  *   rings        P * P * K  the slots of the ring of owner i, filled by worker j, begin at (i * P + j) * K
  *   ends         2 * P * P  at 2 * (i * P + j) that ring's head, the next slot to take, and its tail, the next free one
- *   counters     P * P      at i * P + j that ring's counter; the load of worker i is the sum of its P counters
+ *   counters     P * P      at i * P + j that ring's counter; the load of worker i is the sum of its P counters: the
+ *                           weight of the tasks that wait in its rings and of the one in its hand
  *   buffers      P * N      the completed tasks of worker i with successors to release begin at i * N
  *   executed     2 * N      the record: task and worker of each completed task, in order
  *   run          2          how many entries the record has, how many steps were accepted
@@ -308,7 +309,10 @@ yolluvek_reply yolluvek_begin(
  * first.
  */
 
-/* Fetch: an idle worker takes a task that waits in its rings. Answers the task. */
+/*
+ * Fetch: an idle worker takes a task that waits in its rings. Answers the task, whose weight stays in the worker's load
+ * until it is completed.
+ */
 yolluvek_step_reply yolluvek_fetch(
     const uint32_t *weights, size_t weights_len,
     const uint32_t *pred_starts, size_t pred_starts_len,
@@ -318,7 +322,7 @@ yolluvek_step_reply yolluvek_fetch(
     const uint32_t *degrees, size_t degrees_len,
     const uint32_t *rings, size_t rings_len,
     uint32_t *ends, size_t ends_len,
-    int32_t *counters, size_t counters_len,
+    const int32_t *counters, size_t counters_len,
     const uint32_t *buffers, size_t buffers_len,
     const uint32_t *executed, size_t executed_len,
     uint32_t *run, size_t run_len,
@@ -342,7 +346,10 @@ yolluvek_step_reply yolluvek_start(
     yolluvek_row *rows, size_t rows_len,
     size_t p, size_t k, uint32_t worker);
 
-/* Complete: the task that a worker is running joins the record, and the worker's buffer if it has successors. */
+/*
+ * Complete: the task that a worker is running joins the record, and the worker's buffer if it has successors. Its
+ * weight leaves the worker's load.
+ */
 yolluvek_step_reply yolluvek_complete(
     const uint32_t *weights, size_t weights_len,
     const uint32_t *pred_starts, size_t pred_starts_len,
@@ -352,7 +359,7 @@ yolluvek_step_reply yolluvek_complete(
     const uint32_t *degrees, size_t degrees_len,
     const uint32_t *rings, size_t rings_len,
     const uint32_t *ends, size_t ends_len,
-    const int32_t *counters, size_t counters_len,
+    int32_t *counters, size_t counters_len,
     uint32_t *buffers, size_t buffers_len,
     uint32_t *executed, size_t executed_len,
     uint32_t *run, size_t run_len,
@@ -418,7 +425,7 @@ yolluvek_step_reply yolluvek_preview_fetch(
     const uint32_t *degrees, size_t degrees_len,
     const uint32_t *rings, size_t rings_len,
     uint32_t *ends, size_t ends_len,
-    int32_t *counters, size_t counters_len,
+    const int32_t *counters, size_t counters_len,
     const uint32_t *buffers, size_t buffers_len,
     const uint32_t *executed, size_t executed_len,
     uint32_t *run, size_t run_len,
@@ -450,7 +457,7 @@ yolluvek_step_reply yolluvek_preview_complete(
     const uint32_t *degrees, size_t degrees_len,
     const uint32_t *rings, size_t rings_len,
     const uint32_t *ends, size_t ends_len,
-    const int32_t *counters, size_t counters_len,
+    int32_t *counters, size_t counters_len,
     uint32_t *buffers, size_t buffers_len,
     uint32_t *executed, size_t executed_len,
     uint32_t *run, size_t run_len,

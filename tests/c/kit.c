@@ -420,6 +420,34 @@ static void lane_twelve(void)
     free(job.block);
 }
 
+/*
+ * docs/RULE.md's lane with a long tile: P 2, weights 60, 1, 1, edge 1 -> 2. Worker 0 has the 60 in its hand, so task 2
+ * goes to worker 1. A heavy weight and a bad counter are met when the task is completed, and not when it is fetched.
+ */
+static void long_tile(void)
+{
+    static const uint32_t starts[] = {0, 0, 0, 1}, preds[] = {1};
+    yolluvek_job job = made(3, 1, 2, 4, starts, preds);
+    job.weights[0] = 60;
+    begins(&job);
+    job.weights[0] = 65536;
+    job.counters[0] = INT32_MIN;
+    accepted(&job, yolluvek_job_fetch, 0, YOLLUVEK_FETCHED, 0, 0);
+    accepted(&job, yolluvek_job_start, 0, YOLLUVEK_MOVED, 0, 0);
+    refused(&job, yolluvek_job_complete, 0, YOLLUVEK_DAMAGED_WORD, 0);
+    job.weights[0] = 60;
+    refused(&job, yolluvek_job_complete, 0, YOLLUVEK_DAMAGED_WORD, 0);
+    job.counters[0] = 60;
+    runs(&job, 1, 1);
+    CHECK(job.counters[0] == 60 && job.counters[3] == 0);
+    accepted(&job, yolluvek_job_release, 1, YOLLUVEK_PLACED, 2, 1);
+    accepted(&job, yolluvek_job_complete, 0, YOLLUVEK_MOVED, 0, 0);
+    CHECK(job.counters[0] == 0 && job.counters[3] == 1);
+    finish(&job, 0);
+    came_out(&job);
+    free(job.block);
+}
+
 static void text_refused(const char *text, size_t length, uint32_t number, uint32_t detail)
 {
     static yolluvek_tables before;
@@ -863,6 +891,7 @@ int main(void)
     steps_refused();
     no_room();
     lane_twelve();
+    long_tile();
     texts_refused();
     empty_jobs();
     drawn_runs();

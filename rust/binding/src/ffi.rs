@@ -321,7 +321,7 @@ run_calls! {
     /// Fetch, with P, K and the worker.
     fetch = yolluvek_fetch(
         succ_starts: const, succs: const, degrees: const, rings: const,
-        ends: mut, counters: mut, buffers: const, executed: const,
+        ends: mut, counters: const, buffers: const, executed: const,
         worker: WorkerId,
     ) -> StepReply;
 
@@ -335,7 +335,7 @@ run_calls! {
     /// Complete, with P, K and the worker.
     complete = yolluvek_complete(
         succ_starts: const, succs: const, degrees: const, rings: const,
-        ends: const, counters: const, buffers: mut, executed: mut,
+        ends: const, counters: mut, buffers: mut, executed: mut,
         worker: WorkerId,
     ) -> StepReply;
 
@@ -358,7 +358,7 @@ run_calls! {
     /// Fetch by the preview, with P, K and the worker.
     preview_fetch = yolluvek_preview_fetch(
         succ_starts: const, succs: const, degrees: const, rings: const,
-        ends: mut, counters: mut, buffers: const, executed: const,
+        ends: mut, counters: const, buffers: const, executed: const,
         worker: WorkerId,
     ) -> StepReply;
 
@@ -372,7 +372,7 @@ run_calls! {
     /// Complete by the preview, with P, K and the worker.
     preview_complete = yolluvek_preview_complete(
         succ_starts: const, succs: const, degrees: const, rings: const,
-        ends: const, counters: const, buffers: mut, executed: mut,
+        ends: const, counters: mut, buffers: mut, executed: mut,
         worker: WorkerId,
     ) -> StepReply;
 

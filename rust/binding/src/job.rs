@@ -280,7 +280,7 @@ impl<C: Caller> JobOf<C> {
         }
     }
 
-    /// Fetch: the worker takes a task that waits in its rings, and is answered which.
+    /// Fetch: the worker takes a task that waits in its rings, and is answered which. Its load stays.
     ///
     /// # Errors
     ///
@@ -320,7 +320,8 @@ impl<C: Caller> JobOf<C> {
         self.taken(Step::Start, worker)?.moved()
     }
 
-    /// Complete: the task that the worker is running joins the record, and the worker's buffer if it has successors.
+    /// Complete: the task that the worker is running joins the record, and the worker's buffer if it has successors. Its
+    /// weight leaves the worker's load.
     ///
     /// # Errors
     ///

@@ -108,8 +108,8 @@ impl<C: Caller> JobOf<C> {
         self.memory.executed.get(..entries).unwrap_or(&[])
     }
 
-    /// The load of a worker: the sum of its counters, which is the weight of the tasks that wait in its rings. None if
-    /// there is no such worker or no accepted begin.
+    /// The load of a worker: the sum of its counters, which is the weight of the tasks that wait in its rings and of the
+    /// one in its hand. None if there is no such worker or no accepted begin.
     ///
     /// ```
     /// use yolluvek::{Job, Refusal, Tables, WorkerId};
@@ -123,7 +123,11 @@ impl<C: Caller> JobOf<C> {
     /// assert_eq!(job.load(WorkerId::new(1)), None);
     /// job.begin()?;
     /// assert_eq!(job.load(WorkerId::new(1)), Some(6));
+    /// // a worker with a long task isn't empty: the weight leaves when the task is completed
     /// job.fetch(WorkerId::new(1))?;
+    /// job.start(WorkerId::new(1))?;
+    /// assert_eq!(job.load(WorkerId::new(1)), Some(6));
+    /// job.complete(WorkerId::new(1))?;
     /// assert_eq!(job.load(WorkerId::new(1)), Some(0));
     /// # Ok::<(), Refusal>(())
     /// ```
@@ -195,7 +199,7 @@ impl<C: Caller> JobOf<C> {
         Some(slots.iter().copied().cycle().skip(head).take(count))
     }
 
-    /// The counter of the ring that one worker owns and another, or the same one, fills. It may be below 0: a fetched
+    /// The counter of the ring that one worker owns and another, or the same one, fills. It may be below 0: a completed
     /// task's weight leaves the counter that its worker both owns and fills. The sum is right: see [`load`](JobOf::load).
     /// None if there is no such worker or no accepted begin.
     ///

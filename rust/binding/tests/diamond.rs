@@ -86,8 +86,13 @@ fn views_on_the_way() {
     assert_eq!(job.release(zero), Ok(placed(2, one)));
     assert_eq!(loads(&job), [Some(5), Some(3)]);
     assert_eq!(job.fetch(one), Ok(TaskId::new(2)));
+    assert_eq!(job.start(one), Ok(()));
+    assert_eq!(loads(&job), [Some(5), Some(3)]);
+    assert_eq!((job.counter(one, zero), job.counter(one, one)), (Some(3), Some(0)));
+    assert_eq!(job.complete(one), Ok(()));
     assert_eq!(loads(&job), [Some(5), Some(0)]);
-    assert_eq!(job.accepted(), 6);
+    assert_eq!((job.counter(one, zero), job.counter(one, one)), (Some(3), Some(-3)));
+    assert_eq!(job.accepted(), 8);
     assert!(!job.is_finished());
 }
 

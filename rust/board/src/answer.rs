@@ -63,7 +63,7 @@ impl Answer {
 fn done(before: &Job, after: &Job, lane: WorkerId, outcome: Outcome) -> Vec<String> {
     match outcome {
         Outcome::Fetched(task) => vec![format!(
-            "Lane {lane} has fetched task {}. Its weight has left the lane's load.",
+            "Lane {lane} has fetched task {}. Its weight stays in the lane's load.",
             weighed(after, task)
         )],
         Outcome::Started => vec![format!("Lane {lane} runs {}.", held(after, lane))],
@@ -95,7 +95,8 @@ fn completed(before: &Job, after: &Job, lane: WorkerId) -> Vec<String> {
         1 => "It has 1 successor to release.".to_owned(),
         _ => format!("It has {successors} successors to release."),
     };
-    vec![format!("{} is recorded. {release}", capital(&held(before, lane)))]
+    let recorded = format!("{} is recorded. {release}", capital(&held(before, lane)));
+    vec![recorded, "Its weight has left the lane's load.".to_owned()]
 }
 
 fn capital(words: &str) -> String {

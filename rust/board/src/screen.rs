@@ -229,6 +229,7 @@ fn foresee(board: &Board, task: TaskId, guess: Number) -> Vec<String> {
         "",
         "The lane with the least load, the lowest number of a tie; if its ring that",
         "this lane fills is full, the next lane whose ring isn't.",
+        "What waits for a lane counts in its load, and what is in its hand.",
         "",
         "arrows or digits choose, Enter answers and assigns, Escape leaves",
     ])

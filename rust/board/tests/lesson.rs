@@ -57,16 +57,39 @@ fn the_targets_ring_is_full() {
     assert_eq!(board.score().asked, 3);
     // "Its pointer is at 0, so it takes task 5 from the ring filled by 0, and not task 2"
     press(&mut board, "2 F2");
-    assert!(panel(&board).contains("Lane 2 has fetched task 5 (weight 1)."));
+    assert!(panel(&board).contains("Lane 2 has fetched task 5 (weight 1). Its weight stays in the lane's load."));
     press(&mut board, "F4 0 Enter 2 Enter");
     assert!(panel(&board).contains("Task 6 (weight 2) waits for lane 2 now.\n"));
     assert_eq!(board.score(), Score { right: 3, asked: 4 });
     let lanes = [
         "    0  idle        -        1    1  0: 3 full",
         "    1  idle        -       13    0  0: 4 full | 1: 1 full",
-        ">   2  fetched     5       11    1  0: 6 full | 2: 2 full",
+        ">   2  fetched     5       12    1  0: 6 full | 2: 2 full",
     ];
     press(&mut board, "Escape");
+    assert_eq!(shown(&board), lanes);
+}
+
+/// "A lane with a long tile isn't empty": the task in its hand counts until it is completed.
+#[test]
+fn a_long_task() {
+    let mut board = board(&[60, 1, 1], &[(1, 2)], 2, 4);
+    press(&mut board, "F2 1 F2 F3 F5");
+    assert!(panel(&board).contains("Its weight has left the lane's load.\n"));
+    press(&mut board, "F4 1 Enter 1 Enter");
+    assert!(panel(&board).contains("Task 2 (weight 1) waits for lane 1 now.\n The least load was 0, of lane 1.\n"));
+    assert_eq!(board.score(), Score { right: 1, asked: 1 });
+    press(&mut board, "Escape");
+    let lanes = [
+        "    0  fetched     0       60    1",
+        ">   1  idle        -        1    0  1: 2",
+    ];
+    assert_eq!(shown(&board), lanes);
+    press(&mut board, "0 F3 F5 Escape");
+    let lanes = [
+        ">   0  idle        -        0    1",
+        "    1  idle        -        1    0  1: 2",
+    ];
     assert_eq!(shown(&board), lanes);
 }
 
