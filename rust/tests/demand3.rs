@@ -178,22 +178,32 @@ fn a_weight_on_another_worker_is_found() {
     );
 }
 
+/// The model's step, and the task that it has completed, if any.
+fn completing(
+    memory: &mut Memory,
+    p: usize,
+    k: usize,
+    worker: u32,
+    step: Step,
+) -> (Result<Outcome, Refusal>, Option<usize>) {
+    let held = memory.rows.get(worker as usize).map(|row| row[HELD] as usize);
+    let answer = engine::step(memory, p, k, worker, step);
+    let done = matches!(step, Step::Complete) && answer.is_ok();
+    (answer, held.filter(|_| done))
+}
+
 /// "From now on the weight leaves counter (i, i) at Complete", and no longer at Fetch.
 #[test]
 fn a_weight_that_leaves_at_fetch_is_found() {
     assert_found(
         with_step(|memory, p, k, worker, step| {
-            let i = worker as usize;
-            let held = memory.rows.get(i).map(|row| row[HELD]);
-            let answer = engine::step(memory, p, k, worker, step);
-            match (step, answer, held) {
-                (Step::Fetch, Ok(Outcome::Fetched { task }), _) => {
-                    memory.counters[i * p + i] -= memory.weights[task as usize] as i32;
-                }
-                (Step::Complete, Ok(_), Some(task)) => {
-                    memory.counters[i * p + i] += memory.weights[task as usize] as i32;
-                }
-                _ => {}
+            let (answer, completed) = completing(memory, p, k, worker, step);
+            let own = worker as usize * p + worker as usize;
+            if let Some(task) = completed {
+                memory.counters[own] += memory.weights[task] as i32;
+            }
+            if let Ok(Outcome::Fetched { task }) = answer {
+                memory.counters[own] -= memory.weights[task as usize] as i32;
             }
             answer
         }),
@@ -206,14 +216,12 @@ fn a_weight_that_leaves_at_fetch_is_found() {
 fn a_weight_that_stays_is_found() {
     assert_found(
         with_step(|memory, p, k, worker, step| {
-            let i = worker as usize;
-            let held = memory.rows.get(i).map(|row| row[HELD]);
-            let answer = engine::step(memory, p, k, worker, step);
-            if let (Step::Complete, Ok(_), Some(task)) = (step, answer, held) {
-                let task = task as usize;
-                if memory.succ_starts[task] == memory.succ_starts[task + 1] {
-                    memory.counters[i * p + i] += memory.weights[task] as i32;
+            let (answer, completed) = completing(memory, p, k, worker, step);
+            match completed {
+                Some(task) if memory.succ_starts[task] == memory.succ_starts[task + 1] => {
+                    memory.counters[worker as usize * p + worker as usize] += memory.weights[task] as i32;
                 }
+                _ => {}
             }
             answer
         }),
