@@ -72,6 +72,10 @@ brokenLayout = 13
 abbrev pub noDummies : ℕ
 noDummies = 14
 
+-- "m zero or above the entries recorded"
+abbrev pub badWindow : ℕ
+badWindow = 15
+
 -- what an answer says: a refusal's number and detail, or acceptance with the numbers that the call answers; what they are, the kind tells
 pub data Said : Type 0 where
   refused : (number detail : ℕ) → Said

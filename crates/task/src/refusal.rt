@@ -26,3 +26,5 @@ pub const RECORD_FULL: u32 = 12;
 pub const BROKEN_LAYOUT: u32 = 13;
 
 pub const NO_DUMMIES: u32 = 14;
+
+pub const BAD_WINDOW: u32 = 15;

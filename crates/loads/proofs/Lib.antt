@@ -1,0 +1,4 @@
+pub mod Examples
+pub mod Sums
+pub mod Spread
+pub mod Windows
