@@ -3,11 +3,12 @@
 use std::env;
 use std::path::Path;
 
-const ARCHIVES: [&str; 5] = [
+const ARCHIVES: [&str; 6] = [
     "graph_export",
     "stg_export",
     "engine_export",
     "preview_export",
+    "windows_export",
     "ref_export",
 ];
 

@@ -1,5 +1,5 @@
 //! The interface of the engine's exports: the lent lists in document 01's order, each as pointer and length, then P, K and, for a
-//! step, the worker; that of the writer's export; and their replies.
+//! step, the worker; those of the writer's export and of load windows; and their replies.
 
 use crate::memory::Outcome;
 use crate::model::{Refusal, MAX_EDGES, MAX_TASKS};
@@ -30,7 +30,7 @@ pub struct WriteReply {
 /// time and count, each with the mark behind it; and 5 for a predecessor.
 pub const MAX_WRITTEN: usize = 5 + 16 * MAX_TASKS + 5 * MAX_EDGES;
 
-/// The answer of begin, of a call on a graph or of the judging call, as the model gives it.
+/// The answer of begin, of a call on a graph, of the judging call or of load windows, as the model gives it.
 impl From<Reply> for Result<(), Refusal> {
     #[inline]
     fn from(reply: Reply) -> Self {
@@ -195,7 +195,31 @@ macro_rules! call_writer {
     }};
 }
 
+/// Calls an export of load windows on weights, record, run words and results, P and m.
+macro_rules! call_windows {
+    ($export:ident, $weights:expr, $executed:expr, $run:expr, $results:expr, $p:expr, $m:expr) => {{
+        let (weights, executed, run): (&[u32], &[u32], &[u32]) = ($weights, $executed, $run);
+        let results: &mut [u32] = $results;
+        // each pointer and length is that of a list that lives through the call; the results are lent alone
+        unsafe {
+            $export(
+                weights.as_ptr(),
+                weights.len(),
+                executed.as_ptr(),
+                executed.len(),
+                run.as_ptr(),
+                run.len(),
+                results.as_mut_ptr(),
+                results.len(),
+                $p,
+                $m,
+            )
+        }
+    }};
+}
+
 pub(crate) use call;
+pub(crate) use call_windows;
 pub(crate) use call_writer;
 #[cfg(feature = "linked")]
 pub(crate) use declare;

@@ -1,17 +1,18 @@
 //! A model of the engine, written from documents 01 and 02 and not from the proved code: its graph layer, its reader and
-//! writer of texts, begin and the four steps, and the desk program; and the generators of the trials.
+//! writer of texts, begin and the four steps, load windows, and the desk program; and the generators of the trials.
 //!
 //! `trials` lists the graphs from fixed seeds, `text` spells them as lines, and `model` says what each must answer.
 //! `texts` lists the task texts, `frames` frames them, and `reader` says what each must answer; `plain` is a reader as one
 //! would write it without proofs, to compare costs with. `writer` says what saving a graph as a text must answer,
 //! `saves` draws the graphs and compares, and `plain_writer` is the plain one.
+//! `windows` says what load windows must answer, `loads` draws the lists and compares, and `plain_windows` are the plain ones.
 //! `scripts` lists whole runs, `script` spells them as lines, and says by `engine` what each must answer.
 //! `runs` draws lists of calls over a lent `memory`, `damages` lists damaged words, `engine` says what each must answer, and
 //! `demand3` checks whole runs; `mixed` shares lists of calls out between the engine and the preview.
 //! `plain_engine` is begin and the steps without proofs, `plain_preview` the same with the preview's limits; `measured` has the
 //! runs that costs are compared on, and `beside` makes the calls of an engine beside the model's. `proved`, `proved_engine` and
-//! `ref_engine` call the proved code; `exports` is the interface of the exports, and `plain_export` puts the plain engine and
-//! writer behind it.
+//! `ref_engine` call the proved code; `exports` is the interface of the exports, and `plain_export` puts the plain engine,
+//! writer and load windows behind it.
 //! `rule` and `refusals` make the tables that stand in the pages of `docs`, and `pages` puts them there.
 
 pub mod beside;
@@ -23,6 +24,7 @@ pub mod engine;
 pub mod engines;
 pub mod exports;
 pub mod frames;
+pub mod loads;
 pub mod measured;
 pub mod memory;
 pub mod mixed;
@@ -32,6 +34,7 @@ pub mod plain;
 pub mod plain_engine;
 pub mod plain_export;
 pub mod plain_preview;
+pub mod plain_windows;
 pub mod plain_writer;
 #[cfg(feature = "linked")]
 pub mod proved;
@@ -49,4 +52,5 @@ pub mod scripts;
 pub mod text;
 pub mod texts;
 pub mod trials;
+pub mod windows;
 pub mod writer;

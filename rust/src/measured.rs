@@ -1,9 +1,11 @@
 //! The runs that the engines are measured on: a random graph in layers, from a fixed seed, and the accepted steps of one run;
-//! the run that the preview is measured on, at its limits; and the graphs that the writers are measured on.
+//! the run that the preview is measured on, at its limits; the graphs that the writers are measured on, and the finished records
+//! that load windows are.
 
 use crate::draw::Draw;
 use crate::engine::Limits;
 use crate::frames::LENT;
+use crate::loads;
 use crate::memory::{Memory, Step};
 use crate::model::{word, Graph, Table};
 use crate::plain;
@@ -113,6 +115,21 @@ pub fn accepted_steps(mut memory: Memory, workers: usize, slots: usize) -> Vec<(
         steps.extend(taken.map(|step| (worker, step)));
     }
     steps
+}
+
+/// The sizes of the windows that are measured.
+pub const WINDOWS: [usize; 3] = [1, 32, 512];
+
+/// What load windows are lent of the run with that many tasks and workers, finished.
+pub fn record(tasks: usize, workers: usize) -> loads::Lent {
+    let mut memory = memory(tasks, workers);
+    let steps = accepted_steps(memory.clone(), workers, SLOTS);
+    let mut lent = Lent::of(&mut memory);
+    plain_engine::begin(&mut lent, workers, SLOTS).expect("the graph is sound and has few roots");
+    for (worker, step) in steps {
+        plain_engine::step(&mut lent, workers, SLOTS, worker, step).expect("the step was accepted");
+    }
+    loads::Lent::of(&memory, workers)
 }
 
 /// The run as a list of calls: begin and the accepted steps.

@@ -1,9 +1,10 @@
-//! The plain engine and writer behind the interface of the proved ones' exports, so that costs are compared alike.
+//! The plain engine, writer and load windows behind the interface of the proved ones' exports, so that costs are compared alike.
 
-use crate::exports::{call, call_writer, Reply, StepReply, WriteReply};
+use crate::exports::{call, call_windows, call_writer, Reply, StepReply, WriteReply};
 use crate::memory::{Outcome, Step, ROW_WORDS};
 use crate::model::Refusal;
 use crate::plain_engine::{self, Lent};
+use crate::plain_windows;
 use crate::plain_writer;
 use std::slice::{from_raw_parts, from_raw_parts_mut};
 
@@ -157,4 +158,43 @@ pub unsafe extern "C" fn plain_write_text(
 
 pub fn write(weights: &[u32], starts: &[u32], preds: &[u32], text: &mut [u8]) -> Result<u32, Refusal> {
     call_writer!(plain_write_text, weights, starts, preds, text).into()
+}
+
+/// # Safety
+///
+/// Each pointer and length are those of a list that lives through the call; the results are lent alone.
+#[inline(never)]
+#[allow(clippy::too_many_arguments)]
+pub unsafe extern "C" fn plain_windows(
+    weights: *const u32,
+    weights_len: usize,
+    executed: *const u32,
+    executed_len: usize,
+    run: *const u32,
+    run_len: usize,
+    results: *mut u32,
+    results_len: usize,
+    p: usize,
+    m: usize,
+) -> Reply {
+    let answer = plain_windows::windows(
+        from_raw_parts(weights, weights_len),
+        from_raw_parts(executed, executed_len),
+        from_raw_parts(run, run_len),
+        from_raw_parts_mut(results, results_len),
+        p,
+        m,
+    );
+    answer.into()
+}
+
+pub fn windows(
+    weights: &[u32],
+    executed: &[u32],
+    run: &[u32],
+    results: &mut [u32],
+    p: usize,
+    m: usize,
+) -> Result<(), Refusal> {
+    call_windows!(plain_windows, weights, executed, run, results, p, m).into()
 }

@@ -1,6 +1,6 @@
-//! The proved reader and writer, called through their exports.
+//! The proved reader, writer and load windows, called through their exports.
 
-use crate::exports::{call_writer, WriteReply};
+use crate::exports::{call_windows, call_writer, Reply, WriteReply};
 use crate::model::Refusal;
 
 #[repr(C)]
@@ -33,6 +33,19 @@ extern "C" {
         text: *mut u8,
         text_len: usize,
     ) -> WriteReply;
+
+    fn yolluvek_windows(
+        weights: *const u32,
+        weights_len: usize,
+        executed: *const u32,
+        executed_len: usize,
+        run: *const u32,
+        run_len: usize,
+        results: *mut u32,
+        results_len: usize,
+        p: usize,
+        m: usize,
+    ) -> Reply;
 }
 
 // Each is inlined, so that a program that calls other exports alone needs no archive of these.
@@ -69,4 +82,16 @@ pub fn read(text: &[u8], weights: &mut [u32], starts: &mut [u32], preds: &mut [u
 #[inline]
 pub fn write(weights: &[u32], starts: &[u32], preds: &[u32], text: &mut [u8]) -> Result<u32, Refusal> {
     call_writer!(yolluvek_write_text, weights, starts, preds, text).into()
+}
+
+#[inline]
+pub fn windows(
+    weights: &[u32],
+    executed: &[u32],
+    run: &[u32],
+    results: &mut [u32],
+    p: usize,
+    m: usize,
+) -> Result<(), Refusal> {
+    call_windows!(yolluvek_windows, weights, executed, run, results, p, m).into()
 }

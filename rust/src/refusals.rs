@@ -1,5 +1,5 @@
 //! The refused calls in short, for docs/REFUSALS.md: what each number means, and which calls can answer it; the limits of number
-//! 2, the engine's and the preview's; and the damaged words of number 8, with the steps that read them.
+//! 2, the engine's and the preview's; and the damaged words of number 8, with the calls that read them.
 
 use crate::engine::{Limits, MIN_SLOTS};
 use crate::memory::{List, Step, ACCEPTED, CURSOR, ENTRIES, HELD, PHASE, POINTER, READ, WRITE};
@@ -21,9 +21,10 @@ pub enum Caller {
     Start,
     Complete,
     Release,
+    Windows,
 }
 
-use Caller::{Begin, Check, Complete, Fetch, Lookup, Reader, Release, Start, Writer};
+use Caller::{Begin, Check, Complete, Fetch, Lookup, Reader, Release, Start, Windows, Writer};
 
 impl From<Step> for Caller {
     fn from(step: Step) -> Caller {
@@ -45,12 +46,16 @@ pub struct Row {
 }
 
 const STEPS: &[Caller] = &[Fetch, Start, Complete, Release];
-const ALL: &[Caller] = &[Reader, Writer, Check, Lookup, Begin, Fetch, Start, Complete, Release];
+const STEPS_AND_WINDOWS: &[Caller] = &[Fetch, Start, Complete, Release, Windows];
+const ALL: &[Caller] = &[
+    Reader, Writer, Check, Lookup, Begin, Fetch, Start, Complete, Release, Windows,
+];
 
 /// "Order in begin: 2, 1, 3, 4, 5, 6. In a step: 2, 1, 7, phase word (8), 9; […] 8, 10, 11, 12 […]. In lookup: 2, 1, 3. In the
 /// reader: 1, text length, then line by line 13, or after it in that line 2". The writer "checks as begin does up to cycles
-/// first. Refused: 14, after 5, […]; a buffer too small is 1, last of all."
-pub const ROWS: [Row; 14] = [
+/// first. Refused: 14, after 5, […]; a buffer too small is 1, last of all." Load windows: "15 […], after 2 and every length
+/// check but that of the result words, which it precedes; last, […] 8, and entries over N are 8 before 15".
+pub const ROWS: [Row; 15] = [
     row(
         1,
         "a lent list has the wrong length, or the writer's buffer is too small",
@@ -78,13 +83,19 @@ pub const ROWS: [Row; 14] = [
     ),
     row(6, "too many roots for the rings", "the number of roots", &[Begin]),
     row(7, "no such worker", "the number handed in", STEPS),
-    row(8, "a damaged word in the lent memory", "0", STEPS),
+    row(8, "a damaged word in the lent memory", "0", STEPS_AND_WINDOWS),
     row(9, "the step doesn't suit the worker's phase", "the phase", STEPS),
     row(10, "nothing there to fetch or to release", "0", &[Fetch, Release]),
     row(11, "no room for the released task", "the task", &[Release]),
     row(12, "the record is full", "0", &[Complete]),
     row(13, "the text breaks the layout", "the line, from 1", &[Reader]),
     row(14, "the tables lack a text's dummies", "0", &[Writer]),
+    row(
+        15,
+        "a load window has no entries, or more than are recorded",
+        "0",
+        &[Windows],
+    ),
 ];
 
 const fn row(number: u32, meaning: &'static str, detail: &'static str, callers: &'static [Caller]) -> Row {
@@ -96,17 +107,17 @@ const fn row(number: u32, meaning: &'static str, detail: &'static str, callers: 
     }
 }
 
-/// Words of one range in the lent memory, and the steps that read them.
+/// Words of one range in the lent memory, and the calls that read them.
 pub struct Damage {
     pub word: &'static str,
     pub damaged: &'static str,
     pub read_by: &'static [Caller],
-    /// The lists; of the rows and the run words, the places in a row or in the list.
+    /// The lists; of the rows and the run words, the places in a row or in the list; of the record, those in an entry.
     pub places: &'static [(List, Option<usize>)],
 }
 
 /// "Damaged, for a word the rule reads". "From now on the weight leaves counter (i, i) at Complete": Fetch reads neither.
-pub const DAMAGES: [Damage; 14] = [
+pub const DAMAGES: [Damage; 16] = [
     damage(
         "head or tail of a ring",
         "K or more",
@@ -153,8 +164,20 @@ pub const DAMAGES: [Damage; 14] = [
         &[Complete, Release],
         &[(List::SuccStarts, None)],
     ),
-    damage("weight", "over 65,535", &[Complete, Release], &[(List::Weights, None)]),
-    damage("entries recorded", "over N", &[Complete], &[(List::Run, Some(ENTRIES))]),
+    damage(
+        "weight",
+        "over 65,535",
+        &[Complete, Release, Windows],
+        &[(List::Weights, None)],
+    ),
+    damage(
+        "entries recorded",
+        "over N",
+        &[Complete, Windows],
+        &[(List::Run, Some(ENTRIES))],
+    ),
+    damage("recorded task", "N or more", &[Windows], &[(List::Executed, Some(0))]),
+    damage("recorded worker", "P or more", &[Windows], &[(List::Executed, Some(1))]),
     damage(
         "steps accepted",
         "3N + E or more",
@@ -188,7 +211,7 @@ pub fn blocks() -> Vec<Block> {
     vec![numbers, limits(), damages()]
 }
 
-/// The damaged words, and which steps read them.
+/// The damaged words, and which calls read them.
 fn damages() -> Block {
     let head = ["word", "damaged if", "read by"].map(String::from);
     let cells = |each: &Damage| vec![String::from(each.word), String::from(each.damaged), named(each.read_by)];
@@ -241,6 +264,7 @@ fn named(callers: &[Caller]) -> String {
     match callers {
         ALL => String::from("every call"),
         STEPS => String::from("every step"),
+        STEPS_AND_WINDOWS => String::from("every step, load windows"),
         _ => callers
             .iter()
             .map(|caller| caller.name())
@@ -261,6 +285,7 @@ impl Caller {
             Start => "Start",
             Complete => "Complete",
             Release => "Release",
+            Windows => "load windows",
         }
     }
 }

@@ -163,11 +163,11 @@ fn lines(files: &[PathBuf]) -> usize {
 #[test]
 fn what_is_counted() {
     let counts = [
-        ("7,400 lines of code", 7_400, lines(&files("src", "rt"))),
-        ("6,600 lines of definitions", 6_600, lines(&files("specs", "antt"))),
-        ("45,000 lines of proof", 45_000, lines(&files("proofs", "antt"))),
-        ("about 260 wrong programs", 260, files("must-fail", "edit").len()),
-        ("about 69 crates", 69, entries(&file("crates")).len()),
+        ("7,600 lines of code", 7_600, lines(&files("src", "rt"))),
+        ("6,800 lines of definitions", 6_800, lines(&files("specs", "antt"))),
+        ("47,000 lines of proof", 47_000, lines(&files("proofs", "antt"))),
+        ("about 280 wrong programs", 280, files("must-fail", "edit").len()),
+        ("about 73 crates", 73, entries(&file("crates")).len()),
     ];
     let page = text(FRONT);
     for (told, about, counted) in counts {

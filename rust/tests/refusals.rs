@@ -3,14 +3,14 @@
 use engine_model::engine::{Engine, Limits, MODEL, PREVIEW};
 use engine_model::exports::MAX_WRITTEN;
 use engine_model::frames;
-use engine_model::memory::{List, Memory, ROW_WORDS};
+use engine_model::memory::{List, Memory, ENTRIES, ROW_WORDS};
 use engine_model::model::{check, link, Answer, Lent, Refusal};
 use engine_model::pages;
 use engine_model::reader;
 use engine_model::refusals::{Caller, DAMAGES, ROWS};
 use engine_model::runs::{next_case, next_case_within, Call, Case, Reply};
 use engine_model::text::{GraphTrial, LookupTrial, Trial};
-use engine_model::{saves, texts, trials, writer};
+use engine_model::{loads, saves, texts, trials, windows, writer};
 use std::collections::BTreeSet;
 
 type Answered = BTreeSet<(u32, Caller)>;
@@ -33,6 +33,18 @@ fn save_graphs(answered: &mut Answered) {
             let (starts, preds) = (&graph.preds.starts, &graph.preds.words);
             let answer = writer::write(&graph.weights, starts, preds, &mut vec![0; length]);
             note(answered, Caller::Writer, answer.map(|_| ()));
+        }
+    }
+}
+
+fn sum_windows(answered: &mut Answered) {
+    for lent in (0..400).map(loads::drawn) {
+        for m in 0..4 {
+            for length in [0, lent.words(m)] {
+                let (weights, executed, run) = (&lent.weights, &lent.executed, &lent.run);
+                let answer = windows::windows(weights, executed, run, &mut vec![0; length], lent.p, m);
+                note(answered, Caller::Windows, answer);
+            }
         }
     }
 }
@@ -90,15 +102,17 @@ fn every_number_is_explained() {
 #[test]
 fn the_rows_are_numbered() {
     let numbers: Vec<u32> = ROWS.iter().map(|row| row.number).collect();
-    assert_eq!(numbers, (1..=14).collect::<Vec<u32>>());
+    assert_eq!(numbers, (1..=15).collect::<Vec<u32>>());
 }
 
-/// Each number by each call that is named for it, and by no other, in the stored texts and graphs, in drawn saves and runs.
+/// Each number by each call that is named for it, and by no other, in the stored texts and graphs, in drawn saves, windows and
+/// runs.
 #[test]
 fn the_calls_named_for_a_number_are_those_that_answer_it() {
     let mut answered = Answered::new();
     read_texts(&mut answered);
     save_graphs(&mut answered);
+    sum_windows(&mut answered);
     check_graphs_and_look_up(&mut answered);
     run(&MODEL, &mut answered, (0..1_600).map(next_case));
     let named = ROWS
@@ -127,10 +141,10 @@ fn the_preview_answers_what_begin_and_the_steps_do() {
     assert_eq!(answered, named.collect());
 }
 
-/// Each word of the page is read by the steps that are named for it, and by no other: in drawn honest runs, the words of each
-/// state are damaged one after the other, and every step that would be accepted is tried.
+/// Each word of the page is read by the calls that are named for it, and by no other: in drawn honest runs, the words of each
+/// state are damaged one after the other, and every step that would be accepted is tried, and load windows of one entry.
 #[test]
-fn damaged_words_are_met_by_the_steps_named_for_them() {
+fn damaged_words_are_met_by_the_calls_named_for_them() {
     let mut met = BTreeSet::new();
     for case in (20_000..20_100).map(next_case).filter(Case::is_honest) {
         let (p, k, mut memory) = (case.p, case.k, case.memory);
@@ -150,6 +164,16 @@ fn damaged_words_are_met_by_the_steps_named_for_them() {
                 if answer.is_err() {
                     assert_eq!(answer, Err(Refusal { number: 8, detail: 0 }), "{word}");
                     met.insert((word, Caller::from(step)));
+                }
+                let mut results = vec![0; before.run[ENTRIES] as usize * (p + 1)];
+                let Memory {
+                    weights, executed, run, ..
+                } = &damaged;
+                let answer = windows::windows(weights, executed, run, &mut results, p, 1);
+                // nothing is recorded yet
+                if answer.is_err() && answer != (Err(Refusal { number: 15, detail: 0 })) {
+                    assert_eq!(answer, Err(Refusal { number: 8, detail: 0 }), "{word}");
+                    met.insert((word, Caller::Windows));
                 }
             }
         }
@@ -171,6 +195,7 @@ fn every_word_damaged(memory: &Memory) -> Vec<(&'static str, Memory)> {
             };
             let places = match (list, field) {
                 (List::Rows, Some(field)) => (field..words).step_by(ROW_WORDS),
+                (List::Executed, Some(field)) => (field..words).step_by(2),
                 (_, Some(place)) => (place..place + 1).step_by(1),
                 (_, None) => (0..words).step_by(1),
             };
