@@ -7,7 +7,8 @@
  * A run: fill the weights and the predecessor table, by yolluvek_read_text or otherwise; call yolluvek_begin; let each
  * worker take steps, by yolluvek_fetch, _start, _complete and _release, until run[0] is the number of tasks. Then
  * `executed` is the record: task and worker, in the order of completion. examples/diamond.c is a whole program. At any
- * time yolluvek_write_text saves the graph as a text.
+ * time yolluvek_write_text saves the graph as a text, and yolluvek_windows says which weight each worker finished in
+ * every run of neighbouring entries.
  * docs/RULE.md says which worker a released task goes to, docs/REFUSALS.md what to do about each refusal.
  * yolluvek_job.h has the same calls on a job in one block of memory, with a few arguments instead of all the lists.
  *
@@ -15,9 +16,9 @@
  * smaller limits.
  *
  * Link libyolluvek.a, which `make install` installs (x86-64 Linux), or the archives that it is merged from:
- * libgraph_export.a, libstg_export.a, libengine_export.a and libpreview_export.a, which `rt staticlib` writes to
- * target/staticlib. Of these the last has the preview's calls, the third begin and the steps, the second the reader and
- * the writer, the first the other calls.
+ * libgraph_export.a, libstg_export.a, libengine_export.a, libpreview_export.a and libwindows_export.a, which
+ * `rt staticlib` writes to target/staticlib. Of these the last has the load windows, the fourth the preview's calls, the
+ * third begin and the steps, the second the reader and the writer, the first the other calls.
  *
  * What is assumed of the pointers:
  *   - each is aligned and good for as many elements as the length after it says; an empty list may have any pointer
@@ -58,6 +59,9 @@ extern "C" {
 /* Bytes of a buffer that always suffice for the writer's text: no text that it writes is longer. */
 #define YOLLUVEK_MAX_WRITTEN 57349
 
+/* Words of results that suffice for any load windows: a window for each of 1,024 entries, and 17 words for each. */
+#define YOLLUVEK_MAX_RESULTS 17408
+
 /* The held task of a worker whose hand is empty. */
 #define YOLLUVEK_NIL 65535
 
@@ -90,7 +94,8 @@ enum {
     /* the worker is P or more; detail: the number handed in */
     YOLLUVEK_NO_SUCH_WORKER = 7,
 
-    /* a word that the step reads is outside its range: something else has written it, or there was no accepted begin */
+    /* a word that the step or the load windows read is outside its range: something else has written it, or there was
+       no accepted begin */
     YOLLUVEK_DAMAGED_WORD = 8,
 
     /* the step doesn't suit the worker's phase; detail: the phase */
@@ -109,10 +114,13 @@ enum {
     YOLLUVEK_BAD_LAYOUT = 13,
 
     /* the tables lack a text's dummies: N is under 2, task 0 has weight or predecessors, or the last task has weight */
-    YOLLUVEK_NO_DUMMIES = 14
+    YOLLUVEK_NO_DUMMIES = 14,
+
+    /* a load window has no entries, or more than are recorded */
+    YOLLUVEK_BAD_WINDOW = 15
 };
 
-/* What the check, begin and the judging call answer. */
+/* What the check, begin, the judging call and the load windows answer. */
 typedef struct {
     uint32_t number;
     uint32_t detail;
@@ -386,6 +394,23 @@ yolluvek_step_reply yolluvek_release(
     uint32_t *run, size_t run_len,
     yolluvek_row *rows, size_t rows_len,
     size_t p, size_t k, uint32_t worker);
+
+/*
+ * Load windows: for every run of `m` neighbouring entries of the record, in order, the weight that each worker finished,
+ * and the spread from the smallest to the largest of these. Window w is the entries w to w + m - 1, and its words begin
+ * at w * (P + 1) of `results`: P sums, then the spread. A worker without an entry in the window has the sum 0. The three
+ * other lists are only read, so a run may go on with them; the cost of a window doesn't depend on m.
+ *
+ * Lengths: weights N, executed 2 * N, run 2, results (run[0] - m + 1) * (P + 1), at most YOLLUVEK_MAX_RESULTS.
+ * Refused: 2, 1 for record and run words, 8 where run[0] is over N, 15, 1 for the results, and last 8 for a recorded
+ * task, worker or weight, the first in this order. Entries from run[0] on and other tasks' weights aren't looked at.
+ */
+yolluvek_reply yolluvek_windows(
+    const uint32_t *weights, size_t weights_len,
+    const uint32_t *executed, size_t executed_len,
+    const uint32_t *run, size_t run_len,
+    uint32_t *results, size_t results_len,
+    size_t p, size_t m);
 
 /*
  * The preview: begin and the four steps with smaller limits, for a planning window that lends less memory. It takes N

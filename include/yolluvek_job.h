@@ -299,6 +299,24 @@ static inline yolluvek_write_reply yolluvek_job_to_text(const yolluvek_job *job,
         length == 0 ? &none : (uint8_t *)text, length);
 }
 
+/* The words of the results of windows of m entries, as the record stands: P + 1 for each; 0 where 15 is answered. */
+static inline size_t yolluvek_job_windows_words(const yolluvek_job *job, size_t m)
+{
+    size_t entries = job->run[0];
+    return m == 0 || m > entries || entries > job->n ? 0 : (entries - m + 1) * (job->p + 1);
+}
+
+/*
+ * The load windows of m entries into `length` words, which have to be yolluvek_job_windows_words(job, m); refused as by
+ * yolluvek_windows, it leaves every one. Results of no words may be NULL.
+ */
+static inline yolluvek_reply yolluvek_job_windows(const yolluvek_job *job, uint32_t *results, size_t length, size_t m)
+{
+    uint32_t none;
+    return yolluvek_windows(
+        job->weights, job->n, job->executed, 2 * job->n, job->run, 2, length == 0 ? &none : results, length, job->p, m);
+}
+
 /* 1 where the job is begun and every task is recorded, else 0. */
 static inline int yolluvek_job_finished(const yolluvek_job *job)
 {
@@ -324,6 +342,7 @@ static inline const char *yolluvek_means(uint32_t number)
     case YOLLUVEK_RECORD_FULL: return "the record is full";
     case YOLLUVEK_BAD_LAYOUT: return "the text breaks the layout";
     case YOLLUVEK_NO_DUMMIES: return "the tables lack a text's dummies";
+    case YOLLUVEK_BAD_WINDOW: return "a load window has no entries, or more than are recorded";
     default: return "a number that this header doesn't know";
     }
 }
@@ -361,6 +380,9 @@ static inline const char *yolluvek_advice(uint32_t number)
                "a predecessor at task 0, or a line after the last task.";
     case YOLLUVEK_NO_DUMMIES:
         return "put a task without weight and predecessors first, and one without weight last.";
+    case YOLLUVEK_BAD_WINDOW:
+        return "choose a window of at least one entry and of no more than are recorded; complete a task first if none "
+               "is.";
     /* 1, 8 and 12 are faults of the host, as are numbers that the page doesn't have */
     default:
         return "report it.";

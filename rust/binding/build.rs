@@ -4,7 +4,13 @@
 use std::env;
 use std::path::{Path, PathBuf};
 
-const ARCHIVES: [&str; 4] = ["graph_export", "stg_export", "engine_export", "preview_export"];
+const ARCHIVES: [&str; 5] = [
+    "graph_export",
+    "stg_export",
+    "engine_export",
+    "preview_export",
+    "windows_export",
+];
 
 fn main() {
     println!("cargo::rerun-if-env-changed=YOLLUVEK_LIB");

@@ -1,6 +1,6 @@
 /*
  * include/yolluvek_job.h tried: sizes and places, document 01's examples of refusals with the whole block compared
- * before and after, jobs without tasks or edges, whole runs, saving and going on, jobs saved as texts.
+ * before and after, jobs without tasks or edges, whole runs, saving and going on, jobs saved as texts, load windows.
  */
 #include "check.h"
 #include "yolluvek.h"
@@ -25,8 +25,18 @@ static yolluvek_write_reply write_text_checked(
     return yolluvek_write_text(weights, weights_len, starts, starts_len, preds, preds_len, text, text_len);
 }
 
+/* Load windows likewise: also where the host's results have no words. */
+static yolluvek_reply windows_checked(
+    const uint32_t *weights, size_t weights_len, const uint32_t *executed, size_t executed_len,
+    const uint32_t *run, size_t run_len, uint32_t *results, size_t results_len, size_t p, size_t m)
+{
+    CHECK(weights != NULL && executed != NULL && run != NULL && results != NULL);
+    return yolluvek_windows(weights, weights_len, executed, executed_len, run, run_len, results, results_len, p, m);
+}
+
 #define yolluvek_read_text read_text_checked
 #define yolluvek_write_text write_text_checked
+#define yolluvek_windows windows_checked
 #include "yolluvek_job.h"
 
 typedef yolluvek_step_reply (*step_call)(yolluvek_job *, uint32_t);
@@ -880,6 +890,81 @@ static void version(void)
     CHECK(strcmp(joined, YOLLUVEK_VERSION) == 0);
 }
 
+/* Room for some results, and a word beyond. */
+static uint32_t loads[32];
+
+/* Refused with results of this length: every word of them and of the block stays. */
+static void windows_refused(const yolluvek_job *job, size_t length, size_t m, uint32_t number)
+{
+    uint32_t *before = copied(job);
+    yolluvek_reply reply;
+    size_t place;
+    memset(loads, 0x5A, sizeof loads);
+    reply = yolluvek_job_windows(job, length == 0 ? NULL : loads, length, m);
+    CHECK(reply.number == number && reply.detail == 0);
+    for (place = 0; place < 32; place++) {
+        CHECK(loads[place] == 0x5A5A5A5Au);
+    }
+    CHECK(unchanged(job, before));
+    free(before);
+}
+
+/* These are the results; the words beyond stay, and the block does. One word more or less is 1. */
+static void has_windows(const yolluvek_job *job, size_t m, const uint32_t *words, size_t length)
+{
+    uint32_t *before = copied(job);
+    yolluvek_reply reply;
+    CHECK(yolluvek_job_windows_words(job, m) == length);
+    memset(loads, 0x5A, sizeof loads);
+    reply = yolluvek_job_windows(job, loads, length, m);
+    CHECK(reply.number == YOLLUVEK_ACCEPTED && reply.detail == 0);
+    CHECK(memcmp(loads, words, length * sizeof *words) == 0);
+    CHECK(loads[length] == 0x5A5A5A5Au);
+    CHECK(unchanged(job, before));
+    free(before);
+    windows_refused(job, length + 1, m, YOLLUVEK_WRONG_LENGTH);
+    windows_refused(job, length - 1, m, YOLLUVEK_WRONG_LENGTH);
+    windows_refused(job, 0, m, YOLLUVEK_WRONG_LENGTH);
+}
+
+/* The diamond's record (0, 0) (2, 1) (1, 0) (3, 0), its weights 0 5 3 0. */
+static void the_diamond_windows(void)
+{
+    static const uint32_t ones[] = {0, 0, 0, 0, 3, 3, 5, 0, 5, 0, 0, 0}, twos[] = {0, 3, 3, 5, 3, 2, 5, 0, 5};
+    static const uint32_t all[] = {5, 3, 2}, heavy[] = {65535, 3, 65532};
+    yolluvek_job job = read_job(diamond, 2, 4);
+    size_t length;
+    CHECK(yolluvek_job_windows_words(&job, 1) == 0);
+    windows_refused(&job, 0, 1, YOLLUVEK_DAMAGED_WORD); /* no accepted begin yet */
+    begins(&job);
+    for (length = 0; length < 13; length += 3) {
+        windows_refused(&job, length, 1, YOLLUVEK_BAD_WINDOW);
+    }
+    finish(&job, 0);
+    has_windows(&job, 1, ones, 12);
+    has_windows(&job, 2, twos, 9);
+    has_windows(&job, 4, all, 3);
+    CHECK(yolluvek_job_windows_words(&job, 0) == 0 && yolluvek_job_windows_words(&job, 5) == 0);
+    for (length = 0; length < 13; length += 3) {
+        windows_refused(&job, length, 0, YOLLUVEK_BAD_WINDOW);
+        windows_refused(&job, length, 5, YOLLUVEK_BAD_WINDOW);
+        windows_refused(&job, length, SIZE_MAX, YOLLUVEK_BAD_WINDOW);
+    }
+    job.weights[1] = 65535;
+    has_windows(&job, 4, heavy, 3);
+    job.weights[1] = 65536;
+    windows_refused(&job, 10, 2, YOLLUVEK_WRONG_LENGTH);
+    windows_refused(&job, 9, 2, YOLLUVEK_DAMAGED_WORD);
+    job.weights[1] = 5;
+    job.executed[6] = 4; /* behind three entries it isn't read */
+    windows_refused(&job, 9, 2, YOLLUVEK_DAMAGED_WORD);
+    job.run[0] = 3;
+    has_windows(&job, 2, twos, 6);
+    job.run[0] = 5;
+    windows_refused(&job, 9, 0, YOLLUVEK_DAMAGED_WORD);
+    free(job.block);
+}
+
 int main(void)
 {
     sizes();
@@ -901,6 +986,7 @@ int main(void)
     the_diamond_saved();
     saves_refused();
     saved_texts();
+    the_diamond_windows();
     version();
     return failures == 0 ? EXIT_SUCCESS : EXIT_FAILURE;
 }

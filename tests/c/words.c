@@ -7,7 +7,7 @@
 
 #include <stdlib.h>
 
-enum { NUMBERS = 14, ROOM = 1 << 16 };
+enum { NUMBERS = 15, ROOM = 1 << 16 };
 
 static char page[ROOM];
 

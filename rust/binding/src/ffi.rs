@@ -15,7 +15,7 @@
 use crate::ids::{TaskId, WorkerId};
 use crate::memory::{Entry, Memory, Row, Run};
 
-/// What begin, the check and the judging call answer.
+/// What begin, the check, the judging call and the load windows answer.
 #[derive(Clone, Copy, Debug, PartialEq, Eq)]
 #[repr(C)]
 pub(crate) struct Reply {
@@ -95,6 +95,19 @@ extern "C" {
         preds: *const TaskId,
         preds_len: usize,
     ) -> Reply;
+
+    fn yolluvek_windows(
+        weights: *const u32,
+        weights_len: usize,
+        executed: *const Entry,
+        executed_len: usize,
+        run: *const Run,
+        run_len: usize,
+        results: *mut u32,
+        results_len: usize,
+        p: usize,
+        m: usize,
+    ) -> Reply;
 }
 
 /// Reads a text into lists of 1,024, 1,025 and 8,192 words, else it is refused with 1.
@@ -150,6 +163,26 @@ pub(crate) fn check_graph(
             starts.len(),
             preds.as_ptr(),
             preds.len(),
+        )
+    }
+}
+
+/// The load windows of a `Memory` for P workers and m entries, into exactly P + 1 words for each, else it is refused with 1.
+pub(crate) fn windows(memory: &Memory, results: &mut [u32], p: usize, m: usize) -> Reply {
+    // SAFETY: good: two vectors, a slice, and a Run, which is its two words; an Entry is two words, so their count is
+    // twice the vector's length, which is at most 1,024. Apart, alone: the one that is written is borrowed mutably
+    unsafe {
+        yolluvek_windows(
+            memory.tables.weights.as_ptr(),
+            memory.tables.weights.len(),
+            memory.executed.as_ptr(),
+            2 * memory.executed.len(),
+            &memory.run,
+            2,
+            results.as_mut_ptr(),
+            results.len(),
+            p,
+            m,
         )
     }
 }

@@ -27,7 +27,8 @@ pub enum Side {
 /// 3. Drive it until it [`is_finished`](Job::is_finished), each call being one step of one worker:
 ///    [`fetch`](Job::fetch) gives it a task, [`start`](Job::start) says that the task runs, [`complete`](Job::complete)
 ///    that it is done, and each [`release`](Job::release) lets one successor of a completed task wait for one task less.
-/// 4. Read the [`record`](Job::record): which worker completed which task, in order.
+/// 4. Read the [`record`](Job::record): which worker completed which task, in order; and [`windows`](Job::windows), the
+///    weight that each worker finished in every run of neighbouring entries.
 ///
 /// On the way a job shows all that the rule speaks of: what [is waiting](Job::waiting) in which ring, the
 /// [load](Job::load) of a worker, its [phase](Job::phase), its [hand](Job::held), its [buffer](Job::buffer), what its
@@ -67,6 +68,7 @@ pub enum Side {
 /// | [`NotBegun`](Refusal::NotBegun), [`NoSuccessorsYet`](Refusal::NoSuccessorsYet) | a step, a lookup | there was no accepted begin |
 /// | [`NoSuchTask`](Refusal::NoSuchTask), [`BadPart`](Refusal::BadPart) | a lookup | there is no such task, or its part of the table is bad |
 /// | [`NoDummies`](Refusal::NoDummies) | [`to_text`](Tables::to_text) of its [tables](Job::tables) | a text's first and last task are dummies, which this job lacks |
+/// | [`BadWindow`](Refusal::BadWindow) | [`windows`](Job::windows) | a load window has from 1 to as many entries as are recorded |
 /// | [`DamagedWord`](Refusal::DamagedWord), [`RecordFull`](Refusal::RecordFull), [`UnexpectedReply`](Refusal::UnexpectedReply), [`Unknown`](Refusal::Unknown) | no call | a job doesn't answer them |
 ///
 /// Where begin is refused with `BeyondLimit` or `WrongLength`, a step or a lookup may be too.
@@ -81,8 +83,8 @@ pub type Job = JobOf<Engine>;
 /// [4](crate::limits::PREVIEW_MAX_WORKERS) workers and [8](crate::limits::PREVIEW_MAX_SLOTS) slots, and no memory for
 /// more than these.
 ///
-/// It has all calls and views that a [`Job`] has ([`JobOf`] lists them) but the neighbour lookup. Within its limits every
-/// call is the job's own: the same answer, and the same words written. Beyond them begin and every step are refused with
+/// It has all calls and views that a [`Job`] has ([`JobOf`] lists them) but the neighbour lookup and the load windows.
+/// Within its limits every call is the job's own: the same answer, and the same words written. Beyond them begin and every step are refused with
 /// 2 before anything else, and the [`Limit`](crate::limits::Limit) names the preview's. Weights to 65,535, workers from 1
 /// and slots from 2 stay, as does the stack that a call uses, which is sized by the engine's limits.
 ///

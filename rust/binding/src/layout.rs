@@ -247,6 +247,38 @@ fn read_reply(words: [u32; 4]) -> ReadReply {
     }
 }
 
+/// The words of the record and of the run where load windows read them; 15, a bad task, worker or count of entries, and all words
+/// of the results.
+#[test]
+fn words_of_load_windows() {
+    let mut memory = begun(ffi::ENGINE);
+    let accepted = Reply { number: 0, detail: 0 };
+    let [damaged, bad_window] = [8, 15].map(|number| Reply { number, detail: 0 });
+    assert_eq!(ffi::windows(&memory, &mut [], P, 1), bad_window);
+    memory.run.entries = 3;
+    for (place, (task, worker)) in [(0, 0), (2, 1), (1, 0)].into_iter().enumerate() {
+        memory.executed[place] = Entry {
+            task: TaskId::new(task),
+            worker: WorkerId::new(worker),
+        };
+    }
+    let before = memory.clone();
+    let mut results = [7; 6];
+    assert_eq!(ffi::windows(&memory, &mut results, P, 2), accepted);
+    assert_eq!(results, [0, 3, 3, 5, 3, 2]);
+    assert_eq!(memory, before);
+    // three tasks, but two workers
+    memory.executed[1].worker = WorkerId::new(2);
+    assert_eq!(ffi::windows(&memory, &mut results, P, 2), damaged);
+    assert_eq!(ffi::windows(&memory, &mut [7; 8], P + 1, 2), accepted);
+    memory.executed[1].worker = WorkerId::new(1);
+    memory.executed[1].task = TaskId::new(4);
+    assert_eq!(ffi::windows(&memory, &mut results, P, 2), damaged);
+    memory.run.entries = 5;
+    assert_eq!(ffi::windows(&memory, &mut results, P, 0), damaged);
+    assert_eq!(results, [0, 3, 3, 5, 3, 2]);
+}
+
 #[test]
 fn replies_of_the_other_calls() {
     let [weights, starts] = [[0; 3].as_slice(), &[0, 0, 1, 2]];

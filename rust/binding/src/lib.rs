@@ -4,7 +4,8 @@
 //! ([`Job::from_text`]) or made from tables ([`Job::from_tables`]), for a number of workers and of slots in each ring.
 //! [`Job::begin`] begins a run, and each call of [`Job::fetch`], [`Job::start`], [`Job::complete`] and [`Job::release`]
 //! is one step of one worker. `docs/RULE.md` says which worker a released task goes to, in words and with examples. For
-//! another scheduler the graph is saved as such a text again ([`Tables::to_text`]).
+//! another scheduler the graph is saved as such a text again ([`Tables::to_text`]). [`Job::windows`] says which weight each
+//! worker finished in every run of neighbouring entries of the record.
 //!
 //! A [`Preview`] is a job with smaller limits, for a planning window that has less memory.
 //!
@@ -66,8 +67,8 @@
 //!
 //! # Linking
 //!
-//! The build script links the archives `libgraph_export.a`, `libstg_export.a`, `libengine_export.a` and
-//! `libpreview_export.a` (x86-64 Linux), which `rt staticlib` writes to `target/staticlib` of the repository; the
+//! The build script links the archives `libgraph_export.a`, `libstg_export.a`, `libengine_export.a`, `libpreview_export.a`
+//! and `libwindows_export.a` (x86-64 Linux), which `rt staticlib` writes to `target/staticlib` of the repository; the
 //! environment variable `YOLLUVEK_LIB` names another folder. A relative name counts from the folder that cargo is called
 //! in, or else from the nearest folder around this package that has it. A call allocates nothing and uses at most about
 //! 41 KB of stack.
@@ -89,6 +90,7 @@ mod reply;
 mod step;
 mod tables;
 mod views;
+mod windows;
 
 pub use callers::{Caller, Engine, Planner};
 pub use dummies::Lack;
@@ -98,6 +100,7 @@ pub use memory::Entry;
 pub use refusal::Refusal;
 pub use step::{Call, NextRelease, Outcome, Phase, Released, Step};
 pub use tables::Tables;
+pub use windows::{Window, Windows, WindowsIter};
 
 /// The program of the front page, compiled and run as it stands there.
 #[cfg(doctest)]

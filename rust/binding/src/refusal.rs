@@ -4,7 +4,7 @@ use crate::callers::Whose;
 use crate::dummies::Lack;
 use crate::ids::{TaskId, WorkerId};
 use crate::job::Side;
-use crate::limits::Limit;
+use crate::limits::{Limit, MAX_TASKS, MIN_SLOTS};
 use crate::step::{Phase, Step};
 use crate::tables::Tables;
 use std::error::Error;
@@ -30,6 +30,7 @@ use std::fmt;
 /// | 12 | [`RecordFull`](Refusal::RecordFull) | none |
 /// | 13 | [`BadLayout`](Refusal::BadLayout), [`TextEnds`](Refusal::TextEnds) | reading |
 /// | 14 | [`NoDummies`](Refusal::NoDummies) | saving |
+/// | 15 | [`BadWindow`](Refusal::BadWindow) | load windows |
 ///
 /// In a run, from an accepted begin on, 1, 2, 8 and 12 aren't answered: they would say that something else has written
 /// the job's memory. [`UnexpectedReply`](Refusal::UnexpectedReply) and [`Unknown`](Refusal::Unknown) aren't answered at
@@ -145,6 +146,12 @@ pub enum Refusal {
         /// Why.
         lack: Lack,
     },
+    /// 15: a load window has no entries, or more than are recorded. Choose a size from 1 to that number; with nothing
+    /// recorded there is none.
+    BadWindow {
+        /// How many entries the record has.
+        entries: usize,
+    },
     /// No refusal: the library accepts the call, with a reply that this crate knows no meaning of, as another version of
     /// the library might. The number is 0, and the job may have changed.
     UnexpectedReply {
@@ -191,6 +198,11 @@ pub(crate) enum Asked<'a> {
         slots: usize,
         begun: bool,
     },
+    Windows {
+        tables: &'a Tables,
+        workers: usize,
+        entries: usize,
+    },
 }
 
 impl Asked<'_> {
@@ -226,6 +238,9 @@ impl Asked<'_> {
                     step, workers, begun, ..
                 },
             ) => step_refused(step, workers, begun, number, detail)?,
+            (8, Asked::Windows { .. }) => Refusal::DamagedWord,
+            (15, Asked::Windows { entries, .. }) => Refusal::BadWindow { entries },
+            (_, Asked::Windows { .. }) => return None,
         };
         // what has no detail of its own is known with detail 0 alone
         (refusal.detail() == detail).then_some(refusal)
@@ -254,6 +269,11 @@ impl Asked<'_> {
                 slots,
                 ..
             } => Limit::of_sizes(tables, whose).or_else(|| Limit::of_numbers(workers, slots, whose)),
+            // neither E nor K is judged here
+            Asked::Windows { tables, workers, .. } => match tables.weights.len() {
+                tasks if tasks > MAX_TASKS => Some(Limit::Tasks { tasks }),
+                _ => Limit::of_numbers(workers, MIN_SLOTS, Whose::Engine),
+            },
         };
         found.unwrap_or(Limit::Unknown)
     }
@@ -341,6 +361,7 @@ impl Refusal {
             Refusal::RecordFull => 12,
             Refusal::BadLayout { .. } | Refusal::TextEnds { .. } => 13,
             Refusal::NoDummies { .. } => 14,
+            Refusal::BadWindow { .. } => 15,
             Refusal::Unknown { number, .. } => number,
         }
     }
@@ -356,7 +377,8 @@ impl Refusal {
             | Refusal::NothingToFetch
             | Refusal::NothingToRelease
             | Refusal::RecordFull
-            | Refusal::NoDummies { .. } => 0,
+            | Refusal::NoDummies { .. }
+            | Refusal::BadWindow { .. } => 0,
             Refusal::BadPart { task }
             | Refusal::NoSuchTask { task, .. }
             | Refusal::NoSuccessorsYet { task }
@@ -417,6 +439,7 @@ const fn advice_on(number: u32) -> &'static str {
              predecessor at task 0, or a line after the last task."
         }
         14 => "put a task without weight and predecessors first, and one without weight last.",
+        15 => "choose a window of at least one entry and of no more than are recorded; complete a task first if none is.",
         // 1, 8 and 12 are faults of the host, as are numbers that the page doesn't have
         _ => "report it.",
     }
@@ -490,6 +513,13 @@ impl fmt::Display for Refusal {
             Refusal::BadLayout { line } => write!(to, "the text breaks the layout in line {line}"),
             Refusal::TextEnds { line } => write!(to, "the text ends before line {line}"),
             Refusal::NoDummies { lack } => lack.fmt(to),
+            Refusal::BadWindow { entries: 0 } => to.write_str("there is no load window: no task is recorded"),
+            Refusal::BadWindow { entries } => {
+                write!(
+                    to,
+                    "a load window has from 1 to {entries} entries: so many are recorded"
+                )
+            }
             Refusal::UnexpectedReply { words } => {
                 write!(
                     to,
@@ -552,6 +582,11 @@ mod tests {
             Asked::Text { text },
             Asked::Check { tables },
             Asked::Save { tables },
+            Asked::Windows {
+                tables,
+                workers,
+                entries: 3,
+            },
             by_preview,
         ];
         steps.chain(lookups).chain(begins).chain(others).collect()

@@ -55,6 +55,7 @@ fn refusals() -> Vec<Refusal> {
         Refusal::NoDummies {
             lack: Lack::Tasks { tasks: 1 },
         },
+        Refusal::BadWindow { entries: 4 },
     ]
 }
 
@@ -68,8 +69,8 @@ fn the_page_s_words() {
         numbers.push(number);
     }
     numbers.dedup();
-    assert_eq!(numbers, (1..=14).collect::<Vec<u32>>());
-    assert_eq!(lines.len(), 14);
+    assert_eq!(numbers, (1..=15).collect::<Vec<u32>>());
+    assert_eq!(lines.len(), 15);
 }
 
 /// Before begin there is something better to do than to report it.

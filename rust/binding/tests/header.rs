@@ -5,7 +5,13 @@ use std::collections::BTreeMap;
 use std::fs;
 use std::path::Path;
 
-const EXPORTS: [&str; 4] = ["graph_export", "stg_export", "engine_export", "preview_export"];
+const EXPORTS: [&str; 5] = [
+    "graph_export",
+    "stg_export",
+    "engine_export",
+    "preview_export",
+    "windows_export",
+];
 
 /// Begin and the steps, by the engine and by the preview.
 const RUN_CALLS: [&str; 5] = ["begin", "fetch", "start", "complete", "release"];
@@ -139,7 +145,7 @@ fn declared() -> Functions {
 #[test]
 fn the_functions_are_the_exports() {
     let (exported, declared) = (exported(), declared());
-    assert_eq!(exported.len(), 16);
+    assert_eq!(exported.len(), 17);
     let names = |functions: &Functions| functions.keys().cloned().collect::<Vec<_>>();
     assert_eq!(names(&declared), names(&exported));
     for (name, function) in &exported {
@@ -243,4 +249,6 @@ fn the_limits_are_the_binding_s() {
     assert_eq!(defined("YOLLUVEK_PREVIEW_MAX_SLOTS"), limits::PREVIEW_MAX_SLOTS);
     assert_eq!(defined("YOLLUVEK_MAX_TEXT"), limits::MAX_TEXT);
     assert_eq!(defined("YOLLUVEK_MAX_WRITTEN"), limits::MAX_WRITTEN);
+    let most_results = limits::MAX_TASKS * (limits::MAX_WORKERS + 1);
+    assert_eq!(defined("YOLLUVEK_MAX_RESULTS"), most_results);
 }

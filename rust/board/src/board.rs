@@ -55,7 +55,11 @@ pub struct Board {
     typing: bool,
     open: Open,
     score: Score,
+    window: usize,
 }
+
+/// The entries of the load window that a lesson begins with.
+const WINDOW: usize = 2;
 
 /// Views.
 impl Board {
@@ -79,6 +83,11 @@ impl Board {
         self.score
     }
 
+    /// How many entries the load window has.
+    pub fn window(&self) -> usize {
+        self.window
+    }
+
     /// The lane that is marked: the board's own, or the one that is chosen in a dialog or that an answer is about.
     pub fn marked(&self) -> Option<u32> {
         match &self.open {
@@ -92,6 +101,11 @@ impl Board {
     fn lanes(&self) -> u32 {
         u32::try_from(self.job.workers()).unwrap_or(u32::MAX)
     }
+
+    /// Up to one entry for each task.
+    fn longest_window(&self) -> usize {
+        self.job.tasks().max(1)
+    }
 }
 
 impl Board {
@@ -103,6 +117,7 @@ impl Board {
     pub fn begin(name: &str, mut job: Job) -> Result<Board, Refusal> {
         job.keep_log();
         job.begin()?;
+        let window = WINDOW.min(job.tasks().max(1));
         Ok(Board {
             name: name.to_owned(),
             job,
@@ -110,6 +125,7 @@ impl Board {
             typing: false,
             open: Open::Nothing,
             score: Score::default(),
+            window,
         })
     }
 
@@ -138,6 +154,8 @@ impl Board {
             Key::Function(3) => self.call(Step::Start, lane, None),
             Key::Function(5) => self.call(Step::Complete, lane, None),
             Key::Function(4) => self.open = Open::Assign(Number::proposed(self.lane)),
+            Key::Function(6) => self.window = (self.window - 1).max(1),
+            Key::Function(7) => self.window = (self.window + 1).min(self.longest_window()),
             Key::Function(8) => self.step_back(),
             _ => {}
         }

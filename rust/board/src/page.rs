@@ -37,9 +37,9 @@ pub fn page(board: &Board) -> Result<String, TooMany> {
     let moves = list(states.iter().map(|state| taken(&mut texts, &mut answers, state)));
     let [title, _] = screen::counted(board.name(), board.job());
     let data = format!(
-        "{{\"title\":{},\"head\":{},\"lanes\":{},\n\"texts\":{},\n\"answers\":{},\n\"states\":{shown},\n\"moves\":{moves}}}",
+        "{{\"title\":{},\"heads\":{},\"lanes\":{},\n\"texts\":{},\n\"answers\":{},\n\"states\":{shown},\n\"moves\":{moves}}}",
         quoted(&title),
-        quoted(screen::HEAD),
+        list(sizes(board.job()).map(|window| quoted(&screen::head(window)))),
         board.job().workers(),
         list(texts.texts.iter().map(|text| quoted(text))),
         list(answers.texts),
@@ -50,23 +50,26 @@ pub fn page(board: &Board) -> Result<String, TooMany> {
         .replace("@NAME@", &escaped(board.name())))
 }
 
-/// A state as the places of its texts: the counts, each lane's lines, the record.
+/// The sizes of a load window, which has up to one entry for each task.
+fn sizes(job: &Job) -> impl Iterator<Item = usize> {
+    1..=job.tasks().max(1)
+}
+
+/// A state as the places of its texts: the counts, for each size of a load window its spread and each lane's lines, the record.
 fn shown(texts: &mut Texts, name: &str, job: &Job) -> String {
     let [_, counts] = screen::counted(name, job);
     let counts = texts.place(counts);
-    let lanes: Vec<String> = job
-        .worker_ids()
-        .map(|lane| {
-            let lines = screen::lane_lines(job, lane);
-            list(
-                lines
-                    .iter()
-                    .map(|line| texts.place(line.trim_end().to_owned()).to_string()),
-            )
-        })
-        .collect();
+    let windows = list(sizes(job).map(|window| {
+        let spread = texts.place(screen::spread(job, window));
+        let lanes = list(job.worker_ids().map(|lane| {
+            let lines = screen::lane_lines(job, lane, window);
+            let places = lines.iter().map(|line| texts.place(line.trim_end().to_owned()));
+            list(places.map(|place| place.to_string()))
+        }));
+        format!("[{spread},{lanes}]")
+    }));
     let record = texts.place(screen::record(job));
-    format!("[{counts},{},{record}]", list(lanes))
+    format!("[{counts},{windows},{record}]")
 }
 
 /// A state's moves: the place of each answer, and of the state after it.

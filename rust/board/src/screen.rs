@@ -5,7 +5,7 @@ use crate::board::{Board, Open};
 use crate::number::Number;
 use crate::wrap::wrapped;
 use std::iter;
-use yolluvek::{Job, Step, TaskId, WorkerId};
+use yolluvek::{Job, Step, TaskId, Windows, WorkerId};
 
 /// The frame's width.
 pub const COLUMNS: usize = 80;
@@ -14,14 +14,11 @@ pub const MIN_ROWS: usize = 24;
 /// The lines under the last rule: keys, dialog or panel. As many as the longest answer has, so that nothing moves.
 const PANEL: usize = 8;
 /// Where the list of rings begins in a lane's line.
-const RINGS: usize = 36;
+const RINGS: usize = 46;
 /// Where the completed tasks begin in their line.
 const COMPLETED: usize = 7;
 /// How many tasks of a ring or a buffer are named; of the others there is the number.
 const NAMED: usize = 12;
-/// The heads of the lanes' columns.
-pub const HEAD: &str = " lane  phase    hand     load  ptr  filler: tasks that wait, oldest first";
-
 /// The frame in at most this many rows, which are at least [`MIN_ROWS`]; lanes that don't fit are left out and said so.
 pub fn frame(board: &Board, rows: usize) -> String {
     let mut panel = panel(board);
@@ -44,7 +41,31 @@ fn top(board: &Board) -> Vec<String> {
     let score = board.score();
     let foreseen = format!("   foreseen {} of {}", score.right, score.asked);
     let [title, counts] = counted(board.name(), board.job());
-    vec![title, counts + &foreseen, String::new(), HEAD.to_owned()]
+    let window = board.window();
+    vec![title, counts + &foreseen, spread(board.job(), window), head(window)]
+}
+
+/// The heads of the lanes' columns, with a load window of so many entries.
+pub fn head(window: usize) -> String {
+    let last = format!("last {window}");
+    format!(" lane  phase    hand     load{last:>10}  ptr  filler: waiting, oldest first")
+}
+
+/// What the library says of the last load window as a whole: the spread of its loads, or why there is none.
+pub fn spread(job: &Job, window: usize) -> String {
+    match job.windows(window).as_ref().map(Windows::last) {
+        Ok(last) => {
+            let spread = last.map_or(0, |last| last.spread);
+            format!("load window: last {window} of the record, spread {spread}")
+        }
+        Err(refusal) => refusal.to_string(),
+    }
+}
+
+/// The weight that a lane finished in the last load window.
+fn finished(job: &Job, lane: WorkerId, window: usize) -> Option<u32> {
+    let windows = job.windows(window).ok()?;
+    windows.last()?.sums.get(lane.number() as usize).copied()
 }
 
 /// The job and how far it is.
@@ -84,7 +105,7 @@ fn lanes(board: &Board, room: usize) -> Vec<String> {
         .flat_map(|lane| {
             let mark = if marked == Some(lane.number()) { ">" } else { " " };
             let marks = [mark].into_iter().chain(iter::repeat(" "));
-            let lines = marks.zip(lane_lines(board.job(), lane));
+            let lines = marks.zip(lane_lines(board.job(), lane, board.window()));
             lines.map(move |(mark, line)| (lane.number(), format!("{mark}{line}")))
         })
         .collect();
@@ -100,15 +121,20 @@ fn lanes(board: &Board, room: usize) -> Vec<String> {
     shown.into_iter().map(|(_, line)| line.clone()).chain([note]).collect()
 }
 
-/// A lane: its row and rings, and under it its completed tasks if there are any; without the mark's column.
-pub fn lane_lines(job: &Job, lane: WorkerId) -> Vec<String> {
+/// A lane: its row and rings, and under it its completed tasks if there are any; without the mark's column. Its row has what it
+/// finished in the last load window of so many entries.
+pub fn lane_lines(job: &Job, lane: WorkerId, window: usize) -> Vec<String> {
     let phase = job.phase(lane).map_or(String::new(), |phase| phase.to_string());
     let hand = job.held(lane).map_or("-".to_owned(), |task| task.to_string());
     let load = job.load(lane).unwrap_or(0);
+    let last = finished(job, lane, window).map_or("-".to_owned(), |weight| weight.to_string());
     let pointer = job.pointer(lane).map_or(String::new(), |filler| filler.to_string());
-    let row = format!("{:>4}  {phase:<8}{hand:>5}{load:>9}{pointer:>5}", lane.number());
+    let row = format!(
+        "{:>4}  {phase:<8}{hand:>5}{load:>9}{last:>10}{pointer:>5}",
+        lane.number()
+    );
     let indent = " ".repeat(RINGS - 1);
-    let mut lines = wrapped(&rings(job, lane), &format!("{row:<35}"), &indent, COLUMNS - 1);
+    let mut lines = wrapped(&rings(job, lane), &format!("{row:<45}"), &indent, COLUMNS - 1);
     if let Some(words) = completed(job, lane) {
         let indent = " ".repeat(COMPLETED - 1);
         lines.extend(wrapped(&words, &indent, &format!("{indent}  "), COLUMNS - 1));
@@ -195,6 +221,7 @@ fn keys() -> Vec<String> {
         "F3 Start           the lane runs the task in its hand",
         "F5 Complete        the task joins the record",
         "F4 Assign          a lane releases the next successor of a completed task",
+        "F6, F7             a load window with an entry less, with one more",
         "F8                 step back",
         "F10 or q           quit",
     ])

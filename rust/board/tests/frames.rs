@@ -98,7 +98,8 @@ fn after_a_refusal_and_escape_the_board_looks_as_before() {
 #[test]
 fn any_keys() {
     let mut random = Random(2);
-    let keys: Vec<Key> = named("Up Down 0 1 2 9 F2 F3 F5 F4 F4 F8 F9 Enter Enter Escape Backspace").expect("names");
+    let keys: Vec<Key> =
+        named("Up Down 0 1 2 9 F2 F3 F5 F4 F4 F6 F7 F8 F9 Enter Enter Escape Backspace").expect("names");
     for (workers, slots, many) in [(1, 3, 4), (2, 64, 120), (16, 2, 12), (16, 64, 200)] {
         let mut board = board(layered(&mut random, many), workers, slots);
         for turn in 0..3_000 {

@@ -62,9 +62,9 @@ fn the_targets_ring_is_full() {
     assert!(panel(&board).contains("Task 6 (weight 2) waits for lane 2 now.\n"));
     assert_eq!(board.score(), Score { right: 3, asked: 4 });
     let lanes = [
-        "    0  idle        -        1    1  0: 3 full",
-        "    1  idle        -       13    0  0: 4 full | 1: 1 full",
-        ">   2  fetched     5       12    1  0: 6 full | 2: 2 full",
+        "    0  idle        -        1         -    1  0: 3 full",
+        "    1  idle        -       13         -    0  0: 4 full | 1: 1 full",
+        ">   2  fetched     5       12         -    1  0: 6 full | 2: 2 full",
     ];
     press(&mut board, "Escape");
     assert_eq!(shown(&board), lanes);
@@ -81,14 +81,14 @@ fn a_long_task() {
     assert_eq!(board.score(), Score { right: 1, asked: 1 });
     press(&mut board, "Escape");
     let lanes = [
-        "    0  fetched     0       60    1",
-        ">   1  idle        -        1    0  1: 2",
+        "    0  fetched     0       60         -    1",
+        ">   1  idle        -        1         -    0  1: 2",
     ];
     assert_eq!(shown(&board), lanes);
     press(&mut board, "0 F3 F5 Escape");
     let lanes = [
-        ">   0  idle        -        0    1",
-        "    1  idle        -        1    0  1: 2",
+        ">   0  idle        -        0        60    1",
+        "    1  idle        -        1         1    0  1: 2",
     ];
     assert_eq!(shown(&board), lanes);
 }
@@ -118,9 +118,9 @@ fn the_diamond() {
     press(&mut board, "F2 F3 F5");
     assert!(panel(&board).contains("Task 0 is recorded. It has 2 successors to release."));
     let lanes = [
-        ">   0  idle        -        0    1",
+        ">   0  idle        -        0         -    1",
         "       completed 0 | next successor: 1, weight 5, waits for 1 task",
-        "    1  idle        -        0    0",
+        "    1  idle        -        0         -    0",
     ];
     assert_eq!(shown(&board), lanes);
     press(
@@ -138,6 +138,49 @@ fn the_diamond() {
     assert!(
         frame.contains("\nrecord   0 by 0   2 by 1   1 by 0   3 by 0\n"),
         "{frame}"
+    );
+}
+
+/// The diamond's record is 0 by 0, 2 by 1, 1 by 0, 3 by 0: the last window of each size, which F6 and F7 change; at 1 and at N
+/// it stays.
+#[test]
+fn load_windows() {
+    let mut board = board(&[0, 5, 3, 0], &[(0, 1), (0, 2), (1, 3), (2, 3)], 2, 4);
+    let line = |board: &Board, line: usize| frame(board, usize::MAX).lines().nth(line).expect("a line").to_owned();
+    assert_eq!(line(&board, 2), "there is no load window: no task is recorded");
+    press(&mut board, "F2 F3 F5 Escape");
+    assert_eq!(
+        line(&board, 2),
+        "a load window has from 1 to 1 entries: so many are recorded"
+    );
+    press(
+        &mut board,
+        "F4 Enter 0 Enter F4 Enter 1 Enter 1 F2 F3 F5 0 F2 F3 F5 F4 1 Enter F4 0 Enter 0 Enter F2 F3 F5 Escape",
+    );
+    let windows = [
+        ("F6 F6", 1, [0, 0], 0),
+        ("F7", 2, [5, 0], 5),
+        ("F7", 3, [5, 3], 2),
+        ("F7 F7", 4, [5, 3], 2),
+    ];
+    for (keys, window, loads, spread) in windows {
+        press(&mut board, keys);
+        assert_eq!(board.window(), window);
+        let told = format!("load window: last {window} of the record, spread {spread}");
+        assert_eq!(line(&board, 2), told);
+        let head = format!(" lane  phase    hand     load    last {window}  ptr  filler: waiting, oldest first");
+        assert_eq!(line(&board, 3), head);
+        let lanes = [
+            format!(">   0  idle        -        0{:>10}    1", loads[0]),
+            format!("    1  idle        -        0{:>10}    1", loads[1]),
+        ];
+        assert_eq!(shown(&board), lanes);
+    }
+    // a step back takes the last entry back, and the window's size stays
+    press(&mut board, "F8 Escape");
+    assert_eq!(
+        line(&board, 2),
+        "a load window has from 1 to 3 entries: so many are recorded"
     );
 }
 
@@ -169,9 +212,9 @@ fn long_rings() {
         press(&mut board, "F4 Enter 0 Enter Escape");
     }
     let lanes = [
-        ">   0  idle        -        0    1  0: 1 2 3 4 5 6 7 8 9 10 11 12 and 51 more",
-        "                                    full",
-        "    1  idle        -        0    0  0: 64 65 66 67 68 69 70",
+        ">   0  idle        -        0         -    1  0: 1 2 3 4 5 6 7 8 9 10 11 12",
+        "                                              and 51 more full",
+        "    1  idle        -        0         -    0  0: 64 65 66 67 68 69 70",
     ];
     assert_eq!(shown(&board), lanes);
     assert_eq!(board.score(), Score { right: 63, asked: 70 });
