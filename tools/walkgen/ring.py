@@ -6,13 +6,19 @@ OWN = {
     "Rattle.task.specs.declared.Ends": "Ends",
     "Rattle.task.proofs.Ends.Laws": "as T′",
     "Rattle.task.specs.Types": "engine",
-    "Rattle.ring.specs.Ring": "endWords endsAt storeEnds Sound headOn tailOn",
+    "Rattle.ring.specs.Ring": "endWords endsAt storeEnds Sound Empty headOn tailOn",
     "Rattle.ring.proofs.Records": "EndsT ends-val ends-vals ends-tells head-fits tail-fits ends-makes ends-typed",
     "Rattle.ring.proofs.Local": "lends-local local-back",
     "Rattle.ring.proofs.EndWords": "store-ends-triple to-store-ends store-ends-asks",
 }
 
 ENDS = Plain("EndsT", "ends-vals", "ends-tells")
+
+
+def asks(ends, more):
+    """What is asked of the ends: that they are sound, and what a take asks beside it."""
+    few = "(k ≤ engine .slots)"
+    return f"Sound k {ends} × " + (f"({few} × {more} {ends}))" if more else few)
 
 
 def typed(value, is_):
@@ -94,7 +100,7 @@ def advance_call(callee, args, on):
     ]
 
 
-def advance(name, callee, end, field, on):
+def advance(name, callee, end, field, on, asked=""):
     """`append`, `take`: the record behind the reference is read, and stored as the callee advances it; the end that it had is the answer."""
     f = Function("ring", name, [mut_ref(0, "EndsT"), USIZE], [callee])
     args, slot, fits = "(h, (k, tt))", f"(vint w32 (h .{end}))", f"{end}-fits h _ was"
@@ -103,7 +109,10 @@ def advance(name, callee, end, field, on):
     parts = [
         f.triples(),
         f.stayed(),
-        f.module("(κ : Lft) (q : Share) (b o : ℕ) (γ : GName) (h : Ends) (k : ℕ) (k-fits : k < 2 ^ 64) (ok : Sound k h × (k ≤ engine .slots))")
+        f.module(
+            "(κ : Lft) (q : Share) (b o : ℕ) (γ : GName) (h : Ends) (k : ℕ) (k-fits : k < 2 ^ 64) "
+            f"(ok : {asks('h', asked)})"
+        )
         + "  -- the ends h at (b, o), a ring of k slots",
         *arguments(["RefT Ends", "ℕ"], ["record { ptr = (b, o); name = γ; now = h }", "k"], ["vptr b o ∷ []", "vint w64 k ∷ []"]),
         *advance_call(callee, args, on),
@@ -206,11 +215,11 @@ def advance_at_call(callee, end, on):
     ]
 
 
-def advance_at(name, callee, end, on):
+def advance_at(name, callee, end, on, asked=""):
     """`append_at`, `take_at`: a local copy of the ends is lent to the callee, which advances it, and stored among the words of all ends."""
     f = Function("ring", name, [given_slice(0, "u32"), USIZE, USIZE, ENDS], [callee, "store_ends"])
     left = "‵ (flft κ q) ∷ ‵ (finally u32 γ ws) ∷ ‵ (u32 .own x (u ∷ [])) ∷ []"
-    ring = "(p * endWords + endWords ≤ length xs) × ((h ≡ endsAt xs p) × (Sound k h × (k ≤ engine .slots)))"
+    ring = f"(p * endWords + endWords ≤ length xs) × ((h ≡ endsAt xs p) × ({asks('h', asked)}))"
     parts = [
         f.triples(["store-ends"]),
         f.stayed(),
@@ -248,6 +257,6 @@ def advance_at(name, callee, end, on):
 
 def write():
     advance("append", "tail_on", "tail", 1, "tailOn")
-    advance("take", "head_on", "head", 0, "headOn")
+    advance("take", "head_on", "head", 0, "headOn", "¬ (Empty")
     advance_at("append_at", "append", "tail", "tailOn")
-    advance_at("take_at", "take", "head", "headOn")
+    advance_at("take_at", "take", "head", "headOn", "¬ (Empty")

@@ -1,59 +1,114 @@
--- Laws of a ring's ends: how they are stored, what the tests on them tell, and how many items stand between them.
+-- Laws of a ring's ends: how they are stored, what the tests on them tell, how a take and an append move them, and which slots are used.
 use Prim.Native.Nat.{ℕ, suc, _+_, _-_, _*_, _%_, _≤_, _<_}
-use mathlib.Core.Path.{_≡_, refl, ap, _∙_}
-use mathlib.Core.Bool.{true, false}
+use mathlib.Core.Path.{_≡_, refl, sym, ap, _∙_}
+use mathlib.Core.Bool.{true, false, _&&_}
 use mathlib.Core.List.{List}
 use native.Mathlib.Omega.{arith}
-use native.Mathlib.Decide.{ℕ-discrete, decLe, decLt}
-use native.Mathlib.Nat.{mod-lt, mod-eq-of-lt, add-mod-right}
-use borrow.Author.Tests.{ltb-true, lt-ltb}
-use lib.Dec.{ltb}
+use native.Mathlib.Decide.{ℕ-discrete, decLt}
+use native.Mathlib.Nat.{mod-lt, mod-eq-of-lt, mod-add-mod}
+use borrow.Author.Tests.{ltb-true, lt-ltb, leb-true, le-leb, eqb-true, eq-eqb}
+use lib.Dec.{ltb, leb, eqb}
 use lib.ListN.{length, getD, set, length-set}
-use lib.Seq.{getD-set-same, getD-set-other, lt-length-set}
+use lib.Seq.{getD-set-same, getD-set-other, lt-length-set, set-set, set-comm, set-getD}
 use Rattle.lists.specs.Circles.{after}
 use Rattle.lists.proofs.Told.{Told, told, same-told, told-true, told-false, and-true}
 use Rattle.lists.proofs.Apart.{true-and-false}
-use Rattle.lists.proofs.Decided.{stable}
-use Rattle.lists.proofs.Circles.{after-lt, after-up, after-wrap, mod-far}
+use Rattle.lists.proofs.Circles.{after-lt, mod-far, mod-after}
 use Rattle.task.specs.declared.Ends.{Ends}
-use Rattle.ring.specs.Ring.{capacity, endWords, endsAt, storeEnds, Sound, Empty, Full, sound, empty, full, headOn, tailOn, count}
+use Rattle.ring.specs.Ring.{capacity, endWords, endsAt, storeEnds, Sound, Empty, Full, sound, empty, full, headOn, tailOn, filledEnds, queued}
 
--- "So a ring holds K−1."
-pub capacity-is : (k : ℕ) → capacity k ≡ k - 1
+-- "holds K tasks"
+pub capacity-is : (k : ℕ) → capacity k ≡ k
 unfolding capacity
 capacity-is k = refl
 
-pub capacity-suc : (k : ℕ) → 1 ≤ k → suc (capacity k) ≡ k
-unfolding capacity
-capacity-suc k h = omega arith
+pub ends-same : (e f : Ends) → e .head ≡ f .head → e .tail ≡ f .tail → e .count ≡ f .count → e ≡ f
+ends-same e f a b c =
+    ap (λ (h : ℕ). record { head = h; tail = e .tail; count = e .count }) a
+    ∙ ap (λ (t : ℕ). record { head = f .head; tail = t; count = e .count }) b
+    ∙ ap (λ (n : ℕ). record { head = f .head; tail = f .tail; count = n }) c
 
 -- The words of the ends.
 module _ (words : List ℕ) (q : ℕ) where
+  -- the words with the first of the three stored, with the first two
+  abbrev pub one : Ends → List ℕ
+  one e = set words (q * 3) (e .head)
+
+  abbrev pub two : Ends → List ℕ
+  two e = set (one e) (q * 3 + 1) (e .tail)
+
   pub length-stored : (e : Ends) → length (storeEnds words q e) ≡ length words
   unfolding storeEnds
-  length-stored e = length-set (set words (q * 2) (e .head)) (q * 2 + 1) (e .tail) ∙ length-set words (q * 2) (e .head)
+  length-stored e =
+      length-set (two e) (q * 3 + 2) (e .count) ∙ length-set (one e) (q * 3 + 1) (e .tail) ∙ length-set words (q * 3) (e .head)
+
+  -- the words stored behind the first one lie within the list
+  pub second-inside : (e : Ends) → q * endWords + endWords ≤ length words → q * 3 + 1 < length (one e)
+  second-inside e h = lt-length-set words (q * 3) (e .head) (omega arith)
+
+  pub third-inside : (e : Ends) → q * endWords + endWords ≤ length words → q * 3 + 2 < length (two e)
+  third-inside e h = lt-length-set (one e) (q * 3 + 1) (e .tail) (lt-length-set words (q * 3) (e .head) (omega arith))
+
+  -- a word that isn't one of the three
+  stored-elsewhere : (e : Ends) (i : ℕ) → ¬ (i ≡ q * 3) → ¬ (i ≡ q * 3 + 1) → ¬ (i ≡ q * 3 + 2)
+      → getD (storeEnds words q e) i 0 ≡ getD words i 0
+  unfolding storeEnds
+  stored-elsewhere e i a b c =
+      getD-set-other (two e) (q * 3 + 2) i (e .count) 0 c
+      ∙ getD-set-other (one e) (q * 3 + 1) i (e .tail) 0 b
+      ∙ getD-set-other words (q * 3) i (e .head) 0 a
 
   pub ends-stored : (e : Ends) → q * endWords + endWords ≤ length words → endsAt (storeEnds words q e) q ≡ e
   unfolding endsAt storeEnds
   ends-stored e h =
       rw (
-        getD-set-other (set words (q * 2) (e .head)) (q * 2 + 1) (q * 2) (e .tail) 0 (λ n. omega arith),
-        getD-set-same words (q * 2) (e .head) 0 (omega arith),
-        getD-set-same (set words (q * 2) (e .head)) (q * 2 + 1) (e .tail) 0 (lt-length-set words (q * 2) (e .head) (omega arith)),
+        getD-set-other (two e) (q * 3 + 2) (q * 3) (e .count) 0 (λ n. omega arith),
+        getD-set-other (one e) (q * 3 + 1) (q * 3) (e .tail) 0 (λ n. omega arith),
+        getD-set-same words (q * 3) (e .head) 0 (omega arith),
+        getD-set-other (two e) (q * 3 + 2) (q * 3 + 1) (e .count) 0 (λ n. omega arith),
+        getD-set-same (one e) (q * 3 + 1) (e .tail) 0 (second-inside e h),
+        getD-set-same (two e) (q * 3 + 2) (e .count) 0 (third-inside e h),
       )
 
   pub ends-other : (r : ℕ) (e : Ends) → ¬ (r ≡ q) → endsAt (storeEnds words q e) r ≡ endsAt words r
-  unfolding endsAt storeEnds
-  ends-other r e n = rw (other (r * 2) (λ m. n (omega arith)) (λ m. omega arith), other (r * 2 + 1) (λ m. omega arith) (λ m. n (omega arith)))
-    where
-      other : (i : ℕ) → ¬ (i ≡ q * 2) → ¬ (i ≡ q * 2 + 1) → getD (set (set words (q * 2) (e .head)) (q * 2 + 1) (e .tail)) i 0 ≡ getD words i 0
-      other i a b = getD-set-other (set words (q * 2) (e .head)) (q * 2 + 1) i (e .tail) 0 b ∙ getD-set-other words (q * 2) i (e .head) 0 a
-
-  pub ends-cleared : getD words (q * endWords) 0 ≡ 0 → getD words (q * endWords + 1) 0 ≡ 0 → endsAt words q ≡ record { head = 0; tail = 0 }
   unfolding endsAt
-  ends-cleared a b = rw (a, b)
+  ends-other r e n =
+      rw (
+        stored-elsewhere e (r * 3) (λ m. n (omega arith)) (λ m. omega arith) (λ m. omega arith),
+        stored-elsewhere e (r * 3 + 1) (λ m. omega arith) (λ m. n (omega arith)) (λ m. omega arith),
+        stored-elsewhere e (r * 3 + 2) (λ m. omega arith) (λ m. omega arith) (λ m. n (omega arith)),
+      )
 
--- slots stored as a ring's ends: the ends of all n rings are slots as before
+  -- the ends before put back
+  pub ends-back : (e : Ends) → storeEnds (storeEnds words q e) q (endsAt words q) ≡ words
+  unfolding storeEnds endsAt
+  ends-back e =
+      ap (λ (l : List ℕ). set (set l (q * 3 + 1) t) (q * 3 + 2) c)
+      (set-comm (two e) (q * 3 + 2) (q * 3) (e .count) h (λ n. omega arith)
+      ∙ ap (λ (l : List ℕ). set l (q * 3 + 2) (e .count))
+      (set-comm (one e) (q * 3 + 1) (q * 3) (e .tail) h (λ n. omega arith)
+      ∙ ap (λ (l : List ℕ). set l (q * 3 + 1) (e .tail)) (set-set words (q * 3) (e .head) h ∙ set-getD words (q * 3) 0)))
+      ∙ ap (λ (l : List ℕ). set l (q * 3 + 2) c)
+      (set-comm (set words (q * 3 + 1) (e .tail)) (q * 3 + 2) (q * 3 + 1) (e .count) t (λ n. omega arith)
+      ∙ ap (λ (l : List ℕ). set l (q * 3 + 2) (e .count)) (set-set words (q * 3 + 1) (e .tail) t ∙ set-getD words (q * 3 + 1) 0))
+      ∙ set-set words (q * 3 + 2) (e .count) c
+      ∙ set-getD words (q * 3 + 2) 0
+    where
+      h : ℕ
+      h = getD words (q * 3) 0
+
+      t : ℕ
+      t = getD words (q * 3 + 1) 0
+
+      c : ℕ
+      c = getD words (q * 3 + 2) 0
+
+  -- words that are all 0 are the ends of a ring that nothing was put into
+  pub ends-cleared : (k : ℕ) → 0 < k → ((x : ℕ) → _≡_ {A = ℕ} (getD words x 0) 0) → endsAt words q ≡ filledEnds k 0
+  unfolding endsAt
+  ends-cleared k h z = rw (z (q * 3), z (q * 3 + 1), z (q * 3 + 2), mod-eq-of-lt {n = 0} {m = k} h)
+
+-- ends stored that are sound: those of all n rings are as before
 pub stored-sound : (k n : ℕ) (words : List ℕ) (q : ℕ) (e : Ends) → length words ≡ n * endWords → ((r : ℕ) → r < n → Sound k (endsAt words r)) → Sound k e
     → (r : ℕ) → r < n → Sound k (endsAt (storeEnds words q e) r)
 stored-sound k n words q e size before s r h = go (ℕ-discrete r q)
@@ -67,156 +122,125 @@ pub sound-told : (k : ℕ) (e : Ends) → Told (sound k e) (Sound k e) (¬ (Soun
 unfolding sound
 sound-told k e = told (sound k e) yes-sound no-sound
   where
+    is-true : Sound k e → sound k e ≡ true
+    is-true s =
+        rw (lt-ltb (e .head) k (s .head), lt-ltb (e .tail) k (s .tail), le-leb (e .count) k (s .count))
+        (eq-eqb ((e .head + e .count) % k) (e .tail) (s .leads))
+
     yes-sound : sound k e ≡ true → Sound k e
-    yes-sound t = go (and-true (ltb (e .head) k) (ltb (e .tail) k) t)
-      where
-        go : (ltb (e .head) k ≡ true) × (ltb (e .tail) k ≡ true) → Sound k e
-        go (a, b) = (ltb-true (e .head) k a, ltb-true (e .tail) k b)
+    yes-sound t =
+        let (r, d) = and-true (ltb (e .head) k && ltb (e .tail) k && leb (e .count) k) (eqb ((e .head + e .count) % k) (e .tail)) t in
+        let (s, c) = and-true (ltb (e .head) k && ltb (e .tail) k) (leb (e .count) k) r in
+        let (a, b) = and-true (ltb (e .head) k) (ltb (e .tail) k) s in
+        record {
+          head = ltb-true (e .head) k a;
+          tail = ltb-true (e .tail) k b;
+          count = leb-true (e .count) k c;
+          leads = eqb-true ((e .head + e .count) % k) (e .tail) d;
+        }
 
     no-sound : sound k e ≡ false → ¬ (Sound k e)
-    no-sound f s = true-and-false (rw (lt-ltb (e .head) k (s .0), lt-ltb (e .tail) k (s .1))) f
+    no-sound f s = true-and-false (is-true s) f
 
 pub empty-told : (e : Ends) → Told (empty e) (Empty e) (¬ (Empty e))
 unfolding empty
-empty-told e = same-told (e .head) (e .tail)
+empty-told e = same-told (e .count) 0
 
 pub full-told : (k : ℕ) (e : Ends) → Told (full k e) (Full k e) (¬ (Full k e))
 unfolding full
-full-told k e = same-told (after k (e .tail)) (e .head)
+full-told k e = same-told (e .count) k
 
--- Ends, and how many items stand between them.
+-- Ends moved on.
 module _ (k : ℕ) (e : Ends) where
-  pub sound-append : Sound k e → Sound k (tailOn k e)
-  unfolding tailOn
-  sound-append s = (s .0, after-lt k (e .tail) (omega (arith, s .0)))
+  pub sound-append : Sound k e → ¬ (Full k e) → Sound k (tailOn k e)
+  unfolding tailOn after
+  sound-append s n =
+      record {
+        head = s .head;
+        tail = mod-lt (e .tail + 1) (omega (arith, s .head));
+        count = omega (arith, s .count, n);
+        leads = sym (ap (λ (t : ℕ). (t + 1) % k) (sym (s .leads)) ∙ mod-add-mod (e .head + e .count) k 1 ∙ ap (λ (x : ℕ). x % k) (omega arith));
+      }
 
-  pub sound-take : Sound k e → Sound k (headOn k e)
+  pub sound-take : Sound k e → ¬ (Empty e) → Sound k (headOn k e)
   unfolding headOn
-  sound-take s = (after-lt k (e .head) (omega (arith, s .0)), s .1)
+  sound-take s n =
+      record {
+        head = after-lt k (e .head) (omega (arith, s .head));
+        tail = s .tail;
+        count = omega (arith, s .count);
+        leads = mod-after k (e .head) (e .count - 1) ∙ ap (λ (c : ℕ). (e .head + c) % k) (omega (arith, n)) ∙ s .leads;
+      }
 
-  pub count-damaged : ¬ (Sound k e) → count k e ≡ 0
-  unfolding count
-  count-damaged n = go (sound-told k e)
+  pub queued-damaged : ¬ (Sound k e) → queued k e ≡ 0
+  unfolding queued
+  queued-damaged n = go (sound-told k e)
     where
-      go : Told (sound k e) (Sound k e) (¬ (Sound k e)) → count k e ≡ 0
+      go : Told (sound k e) (Sound k e) (¬ (Sound k e)) → queued k e ≡ 0
       go (told-true t s) = absurd (n s)
       go (told-false f m) = rw f
 
-  -- ends whose head is 0 and whose tail is the number of items between them are slots: were they not, the number would be 0
-  pub filled-sound : 0 < k → _≡_ {A = ℕ} (e .head) 0 → e .tail ≡ count k e → Sound k e
-  filled-sound h head tail = go (sound-told k e)
+  pub queued-count : Sound k e → queued k e ≡ e .count
+  unfolding queued
+  queued-count s = go (sound-told k e)
     where
-      go : Told (sound k e) (Sound k e) (¬ (Sound k e)) → Sound k e
-      go (told-true t s) = s
-      go (told-false f n) = (omega (arith, h, head), omega (arith, h, tail, count-damaged n))
-
-  count-sound : Sound k e → count k e ≡ (e .tail + k - e .head) % k
-  unfolding count
-  count-sound s = go (sound-told k e)
-    where
-      go : Told (sound k e) (Sound k e) (¬ (Sound k e)) → count k e ≡ (e .tail + k - e .head) % k
+      go : Told (sound k e) (Sound k e) (¬ (Sound k e)) → queued k e ≡ e .count
       go (told-true t m) = rw t
       go (told-false f n) = absurd (n s)
 
-  count-up : Sound k e → e .head ≤ e .tail → count k e ≡ e .tail - e .head
-  count-up s h =
-      count-sound s ∙ ap (λ (n : ℕ). n % k) (omega arith) ∙ add-mod-right (e .tail - e .head) k ∙ mod-eq-of-lt (omega (arith, s .1))
-
-  count-around : Sound k e → e .tail < e .head → count k e ≡ e .tail + k - e .head
-  count-around s h = count-sound s ∙ mod-eq-of-lt (omega (arith, s .0))
-
--- The same, whichever end is higher.
+-- Ends that are sound: how many items an append and a take leave, and that in a ring that isn't full no item stands
+-- in the slot after the last one.
 module _ (k : ℕ) (e : Ends) (s : Sound k e) where
-  pub count-lt : count k e < k
-  count-lt = rw (count-sound k e s) (mod-lt (e .tail + k - e .head) (omega (arith, s .0)))
-
-  pub count-none : Empty e → count k e ≡ 0
-  count-none h = omega (arith, h, count-up k e s (omega (arith, h)))
-
-  pub none-empty : count k e ≡ 0 → Empty e
-  none-empty z = go (decLe (e .head) (e .tail))
-    where
-      go : Dec (e .head ≤ e .tail) → Empty e
-      go (yes h) = omega (arith, z, h, count-up k e s h)
-      go (no n) = omega (arith, z, s .0, n, count-around k e s (omega arith))
-
-  pub count-full : Full k e → count k e ≡ capacity k
-  unfolding capacity
-  count-full f = go (ℕ-discrete (e .tail + 1) k)
-    where
-      go : Dec (e .tail + 1 ≡ k) → count k e ≡ k - 1
-      go (yes w) = omega (arith, w, f, after-wrap k (e .tail) w, count-up k e s (omega (arith, f, after-wrap k (e .tail) w)))
-      go (no w) =
-          let u : after k (e .tail) ≡ e .tail + 1 = after-up k (e .tail) (omega (arith, s .1)) in
-          omega (arith, u, f, s .1, count-around k e s (omega (arith, u, f)))
-
-  pub full-count : count k e ≡ capacity k → Full k e
-  unfolding capacity
-  full-count c = go (decLe (e .head) (e .tail))
-    where
-      go : Dec (e .head ≤ e .tail) → after k (e .tail) ≡ e .head
-      go (yes h) = after-wrap k (e .tail) (omega (arith, c, h, s .0, s .1, count-up k e s h)) ∙ omega (arith, c, h, s .0, s .1, count-up k e s h)
-      go (no n) =
-          let u : e .tail + 1 ≡ e .head = omega (arith, c, n, s .0, s .1, count-around k e s (omega arith)) in
-          after-up k (e .tail) (omega (arith, u, s .0)) ∙ u
-
-  pub count-append : ¬ (Full k e) → count k (tailOn k e) ≡ suc (count k e)
+  pub queued-append : ¬ (Full k e) → queued k (tailOn k e) ≡ suc (queued k e)
   unfolding tailOn
-  count-append n = go (ℕ-discrete (e .tail + 1) k) (decLe (e .head) (e .tail))
-    where
-      t : Sound k (tailOn k e)
-      t = sound-append k e s
+  queued-append n = queued-count k (tailOn k e) (sound-append k e s n) ∙ ap (λ (c : ℕ). c + 1) (sym (queued-count k e s)) ∙ omega arith
 
-      go : Dec (e .tail + 1 ≡ k) → Dec (e .head ≤ e .tail) → count k (tailOn k e) ≡ suc (count k e)
-      go (yes w) (yes h) =
-          let z : after k (e .tail) ≡ 0 = after-wrap k (e .tail) w in
-          let p : after k (e .tail) < e .head = stable (decLt (after k (e .tail)) (e .head)) (λ m. n (omega (arith, z, m))) in
-          omega (arith, z, w, h, count-up k e s h, count-around k (tailOn k e) t p)
-      go (yes w) (no h) = absurd (omega (arith, w, h, s .0))
-      go (no w) (yes h) =
-          let u : after k (e .tail) ≡ e .tail + 1 = after-up k (e .tail) (omega (arith, w, s .1)) in
-          omega (arith, u, h, count-up k e s h, count-up k (tailOn k e) t (omega (arith, u, h)))
-      go (no w) (no h) =
-          let u : after k (e .tail) ≡ e .tail + 1 = after-up k (e .tail) (omega (arith, w, s .1)) in
-          let p : after k (e .tail) < e .head = stable (decLt (after k (e .tail)) (e .head)) (λ m. n (omega (arith, u, m, h))) in
-          omega (arith, u, h, s .0, count-around k e s (omega arith), count-around k (tailOn k e) t p)
-
-  pub count-take : ¬ (Empty e) → count k e ≡ suc (count k (headOn k e))
+  pub queued-take : ¬ (Empty e) → queued k e ≡ suc (queued k (headOn k e))
   unfolding headOn
-  count-take n = go (ℕ-discrete (e .head + 1) k) (decLt (e .head) (e .tail))
+  queued-take n = queued-count k e s ∙ omega (arith, n) ∙ ap suc (sym (queued-count k (headOn k e) (sound-take k e s n)))
+
+  pub slot-free : (e .head + queued k e) % k ≡ e .tail
+  slot-free = rw (queued-count k e s) (s .leads)
+
+  pub slot-used : ¬ (Full k e) → (n : ℕ) → n < queued k e → ¬ ((e .head + n) % k ≡ e .tail)
+  slot-used room n l c = go (decLt (e .head + e .count) k) (decLt (e .head + n) k)
     where
-      t : Sound k (headOn k e)
-      t = sound-take k e s
+      few : n < e .count
+      few = omega (arith, l, queued-count k e s)
 
-      below : ¬ (e .head < e .tail) → e .tail < e .head
-      below h = stable (decLt (e .tail) (e .head)) (λ m. n (omega (arith, h, m)))
+      below : e .count < k
+      below = omega (arith, room, s .count)
 
-      go : Dec (e .head + 1 ≡ k) → Dec (e .head < e .tail) → count k e ≡ suc (count k (headOn k e))
-      go (yes w) (yes h) = absurd (omega (arith, w, h, s .1))
-      go (yes w) (no h) =
-          let z : after k (e .head) ≡ 0 = after-wrap k (e .head) w in
-          omega (arith, z, w, below h, count-around k e s (below h), count-up k (headOn k e) t (omega (arith, z)))
-      go (no w) (yes h) =
-          let u : after k (e .head) ≡ e .head + 1 = after-up k (e .head) (omega (arith, w, s .0)) in
-          omega (arith, u, h, count-up k e s (omega arith), count-up k (headOn k e) t (omega (arith, u, h)))
-      go (no w) (no h) =
-          let u : after k (e .head) ≡ e .head + 1 = after-up k (e .head) (omega (arith, w, s .0)) in
-          omega (arith, u, below h, w, s .0, count-around k e s (below h), count-around k (headOn k e) t (omega (arith, u, below h)))
+      same : (e .head + n) % k ≡ (e .head + e .count) % k
+      same = c ∙ sym (s .leads)
 
-  -- the tail's slot comes after the last item, and no item stands in it
-  pub slot-free : (e .head + count k e) % k ≡ e .tail
-  slot-free = go (decLe (e .head) (e .tail))
-    where
-      go : Dec (e .head ≤ e .tail) → (e .head + count k e) % k ≡ e .tail
-      go (yes h) = ap (λ (n : ℕ). n % k) (omega (arith, h, count-up k e s h)) ∙ mod-eq-of-lt (s .1)
-      go (no h) = ap (λ (n : ℕ). n % k) (omega (arith, h, s .0, count-around k e s (omega arith))) ∙ add-mod-right (e .tail) k ∙ mod-eq-of-lt (s .1)
-
-  pub slot-used : (n : ℕ) → n < count k e → ¬ ((e .head + n) % k ≡ e .tail)
-  slot-used n l c = go (decLe (e .head) (e .tail)) (decLt (e .head + n) k)
-    where
-      go : Dec (e .head ≤ e .tail) → Dec (e .head + n < k) → ⊥
-      go (yes h) (yes m) = omega (arith, l, c, h, count-up k e s h, mod-eq-of-lt {n = e .head + n} m)
-      go (yes h) (no m) = omega (arith, l, h, m, s .1, count-up k e s h)
-      go (no h) (yes m) = omega (arith, c, h, mod-eq-of-lt {n = e .head + n} m)
+      go : Dec (e .head + e .count < k) → Dec (e .head + n < k) → ⊥
+      go (yes h) (yes m) = omega (arith, few, same, mod-eq-of-lt {n = e .head + n} m, mod-eq-of-lt {n = e .head + e .count} h)
+      go (yes h) (no m) = omega (arith, few, h, m)
+      go (no h) (yes m) =
+          omega (arith, few, below, same, mod-eq-of-lt {n = e .head + n} m, mod-far k (e .head) (e .count) (s .head) below (omega arith))
       go (no h) (no m) =
-          omega (arith, l, c, h, m, count-around k e s (omega arith), mod-far k (e .head) n (s .0) (omega (arith, l, count-lt)) (omega arith))
+          omega (
+            arith,
+            few,
+            same,
+            mod-far k (e .head) n (s .head) (omega (arith, few, below)) (omega arith),
+            mod-far k (e .head) (e .count) (s .head) below (omega arith),
+          )
+
+-- A ring that is filled from slot 0 on.
+module _ (k n : ℕ) where
+  pub filled-sound : 0 < k → n ≤ k → Sound k (filledEnds k n)
+  filled-sound h l = record { head = h; tail = mod-lt n h; count = l; leads = ap (λ (c : ℕ). c % k) (omega arith) }
+
+  -- a ring that holds all n of them: were they too many, it would hold none
+  pub filled-queued : 0 < k → queued k (filledEnds k n) ≡ n → Sound k (filledEnds k n)
+  filled-queued h e = go (sound-told k (filledEnds k n))
+    where
+      go : Told (sound k (filledEnds k n)) (Sound k (filledEnds k n)) (¬ (Sound k (filledEnds k n))) → Sound k (filledEnds k n)
+      go (told-true t s) = s
+      go (told-false f m) = filled-sound h (omega (arith, e, queued-damaged k (filledEnds k n) m))
+
+  pub filled-append : tailOn k (filledEnds k n) ≡ filledEnds k (n + 1)
+  unfolding tailOn after
+  filled-append = rw (mod-add-mod n k 1)

@@ -3,11 +3,11 @@
 use task::Ends;
 use task::TaskId;
 ghost use mathlib.Core.Path.{_≡_};
-ghost use Prim.Native.Nat.{_+_, _*_, _≤_, _<_};
+ghost use Prim.Native.Nat.{_+_, _*_, _%_, _≤_, _<_};
 ghost use lib.ListN.{length, getD};
 ghost use Rattle.lists.specs.Circles.{after};
 ghost use Rattle.task.specs.Types.{engine};
-ghost use Rattle.ring.specs.Ring.{endWords, slotAt, endsAt, storeEnds, Sound, sound, empty, full, headOn, tailOn, ringsOf, appendedAt, Inside};
+ghost use Rattle.ring.specs.Ring.{endWords, slotAt, endsAt, storeEnds, Sound, Empty, sound, empty, full, headOn, tailOn, ringsOf, appendedAt, Inside};
 
 // The slot after a slot, modulo k.
 fn after_slot(x: u32, k: usize) -> u32
@@ -18,24 +18,31 @@ fn after_slot(x: u32, k: usize) -> u32
     if next as usize == k { 0 } else { next }
 }
 
+// A slot reached from another one, modulo k, where the last slot is passed once at most.
+fn reached(x: usize, k: usize) -> usize
+    ensures { λ r. ⌜ (x < k + k → r ≡ x % k) ⌝ }
+{
+    if x < k { x } else { x - k }
+}
+
+// Head a slot, count at most k, and tail the slot that they lead to, so a slot too.
 pub fn is_sound(ends: Ends, k: usize) -> bool
     ensures { λ r. ⌜ r ≡ sound k ends ⌝ }
 {
-    ((ends.head as usize) < k) & ((ends.tail as usize) < k)
+    let tail = reached(ends.head as usize + ends.count as usize, k);
+    ((ends.head as usize) < k) & (ends.count as usize <= k) & (tail == ends.tail as usize)
 }
 
 pub fn is_empty(ends: Ends) -> bool
     ensures { λ r. ⌜ r ≡ empty ends ⌝ }
 {
-    ends.head == ends.tail
+    ends.count == 0
 }
 
 pub fn is_full(ends: Ends, k: usize) -> bool
-    requires { ⌜ Sound k ends × (k ≤ engine .slots) ⌝ }
     ensures { λ r. ⌜ r ≡ full k ends ⌝ }
 {
-    let next = after_slot(ends.tail, k);
-    next == ends.head
+    ends.count as usize == k
 }
 
 // The ends of ring q.
@@ -43,20 +50,22 @@ pub fn ends_at(words: &[u32], q: usize) -> Ends
     requires { ⌜ q * endWords + endWords ≤ length (now words) ⌝ }
     ensures { λ r. ⌜ r ≡ endsAt (now (words .entry)) q ⌝ }
 {
-    let head = words[q * 2];
-    let tail = words[q * 2 + 1];
-    Ends { head, tail }
+    let head = words[q * 3];
+    let tail = words[q * 3 + 1];
+    let count = words[q * 3 + 2];
+    Ends { head, tail, count }
 }
 
 pub fn store_ends(words: &mut [u32], q: usize, ends: Ends)
     requires { ⌜ q * endWords + endWords ≤ length (now words) ⌝ }
     ensures { λ r. ⌜ now (words .exit) ≡ storeEnds (now (words .entry)) q ends ⌝ }
 {
-    words[q * 2] = ends.head;
-    words[q * 2 + 1] = ends.tail;
+    words[q * 3] = ends.head;
+    words[q * 3 + 1] = ends.tail;
+    words[q * 3 + 2] = ends.count;
 }
 
-// The ends after an append: the tail moves on.
+// The ends after an append: the tail moves on, the count is one more.
 fn tail_on(ends: Ends, k: usize) -> Ends
     requires { ⌜ Sound k ends × (k ≤ engine .slots) ⌝ }
     ensures { λ r. ⌜ r ≡ tailOn k ends ⌝ }
@@ -65,22 +74,25 @@ fn tail_on(ends: Ends, k: usize) -> Ends
     Ends {
         head: ends.head,
         tail,
+        count: ends.count + 1,
     }
 }
 
-// The ends after a take: the head moves on.
+// The ends after a take: the head moves on, the count is one less.
 fn head_on(ends: Ends, k: usize) -> Ends
-    requires { ⌜ Sound k ends × (k ≤ engine .slots) ⌝ }
+    requires { ⌜ Sound k ends × ((k ≤ engine .slots) × ¬ (Empty ends)) ⌝ }
     ensures { λ r. ⌜ r ≡ headOn k ends ⌝ }
 {
     let head = after_slot(ends.head, k);
     Ends {
         head,
         tail: ends.tail,
+        count: ends.count - 1,
     }
 }
 
-// "A ring's head and tail form one record, which append and fetch advance themselves": the tail. The slot that the item goes to.
+// "A ring's head and tail form one record, which append and fetch advance themselves": the tail and the count. The slot that
+// the item goes to.
 pub fn append(ends: &mut Ends, k: usize) -> u32
     requires { ⌜ Sound k (now ends) × (k ≤ engine .slots) ⌝ }
     ensures { λ r. ⌜ (r ≡ now (ends .entry) .tail) × (now (ends .exit) ≡ tailOn k (now (ends .entry))) ⌝ }
@@ -90,9 +102,9 @@ pub fn append(ends: &mut Ends, k: usize) -> u32
     before.tail
 }
 
-// The same of the head. The slot that the item is taken from.
+// The same of the head and the count. The slot that the item is taken from.
 pub fn take(ends: &mut Ends, k: usize) -> u32
-    requires { ⌜ Sound k (now ends) × (k ≤ engine .slots) ⌝ }
+    requires { ⌜ Sound k (now ends) × ((k ≤ engine .slots) × ¬ (Empty (now ends))) ⌝ }
     ensures { λ r. ⌜ (r ≡ now (ends .entry) .head) × (now (ends .exit) ≡ headOn k (now (ends .entry))) ⌝ }
 {
     let before = *ends;
@@ -113,7 +125,7 @@ pub fn append_at(words: &mut [u32], k: usize, q: usize, ends: Ends) -> u32
 
 // A take from ring q, likewise. The slot that the item is taken from.
 pub fn take_at(words: &mut [u32], k: usize, q: usize, ends: Ends) -> u32
-    requires { ⌜ (q * endWords + endWords ≤ length (now words)) × ((ends ≡ endsAt (now words) q) × (Sound k ends × (k ≤ engine .slots))) ⌝ }
+    requires { ⌜ (q * endWords + endWords ≤ length (now words)) × ((ends ≡ endsAt (now words) q) × (Sound k ends × ((k ≤ engine .slots) × ¬ (Empty ends)))) ⌝ }
     ensures { λ r. ⌜ (r ≡ ends .head) × (now (words .exit) ≡ storeEnds (now (words .entry)) q (headOn k ends)) ⌝ }
 {
     let mut both = ends;

@@ -36,7 +36,7 @@ duplicate = 4
 abbrev pub cycle : ℕ
 cycle = 5
 
--- "more than P·(K−1) roots"
+-- more roots than P·K: "The roots' limit becomes P·K."
 abbrev pub tooManyRoots : ℕ
 tooManyRoots = 6
 

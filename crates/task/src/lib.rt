@@ -67,11 +67,13 @@ impl Row {
     }
 }
 
-// A ring's ends: head is the next slot to take, tail the next free slot.
+// A ring's ends: head is the next slot to take, tail the slot that the next task goes to, count how many tasks stand from
+// head on, modulo K.
 #[repr(C)]
 pub struct Ends {
     pub head: u32,
     pub tail: u32,
+    pub count: u32,
 }
 
 pub enum Step {

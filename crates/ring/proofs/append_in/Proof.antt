@@ -8,19 +8,19 @@ append-at-requires : tie.Need-append-at-requires
 append-at-requires c κs = search needs
 
 mul-place : tie.Need-mul-place
-mul-place c = omega (arith, slot-inside _ _ _ _ _ _ (c .before .before .before .before .before .before .pre .1 .0) (c .before .before .append-at .ensures .0) (c .before .before .before .before .before .before .pre .0) (c .before .before .before .before .before .before .pre .1 .1 .1))
+mul-place c = omega (arith, slot-inside _ _ _ _ _ _ (c .before .before .before .before .before .before .pre .1 .0) (c .before .before .append-at .ensures .0) (c .before .before .before .before .before .before .pre .0) (c .before .before .before .before .before .before .pre .1 .1 .tail))
 
 cast-place : tie.Need-cast-place
 cast-place c = search needs
 
 add-place : tie.Need-add-place
-add-place c = omega (arith, slot-inside _ _ _ _ _ _ (c .before .before .before .before .before .before .pre .1 .0) (c .before .before .append-at .ensures .0) (c .before .before .before .before .before .before .pre .0) (c .before .before .before .before .before .before .pre .1 .1 .1))
+add-place c = omega (arith, slot-inside _ _ _ _ _ _ (c .before .before .before .before .before .before .pre .1 .0) (c .before .before .append-at .ensures .0) (c .before .before .before .before .before .before .pre .0) (c .before .before .before .before .before .before .pre .1 .1 .tail))
 
 mul-rings : tie.Need-mul-rings
-mul-rings c = omega (arith, slot-inside _ _ _ _ _ _ (c .before .before .before .before .before .before .pre .1 .0) (c .before .before .append-at .ensures .0) (c .before .before .before .before .before .before .pre .0) (c .before .before .before .before .before .before .pre .1 .1 .1))
+mul-rings c = omega (arith, slot-inside _ _ _ _ _ _ (c .before .before .before .before .before .before .pre .1 .0) (c .before .before .append-at .ensures .0) (c .before .before .before .before .before .before .pre .0) (c .before .before .before .before .before .before .pre .1 .1 .tail))
 
 slice-write-rings : tie.Need-slice-write-rings
-slice-write-rings c = slot-inside _ _ _ _ _ _ (c .before .before .before .before .before .before .pre .1 .0) (c .before .before .append-at .ensures .0) (c .before .before .before .before .before .before .pre .0) (c .before .before .before .before .before .before .pre .1 .1 .1)
+slice-write-rings c = slot-inside _ _ _ _ _ _ (c .before .before .before .before .before .before .pre .1 .0) (c .before .before .append-at .ensures .0) (c .before .before .before .before .before .before .pre .0) (c .before .before .before .before .before .before .pre .1 .1 .tail)
 
 same-length : tie.Need-same-length
 same-length c = search needs

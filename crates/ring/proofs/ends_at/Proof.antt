@@ -25,6 +25,18 @@ mul-tail-2 c = search needs
 shared-slice-read-tail : tie.Need-shared-slice-read-tail
 shared-slice-read-tail c = search needs
 
+mul-count : tie.Need-mul-count
+mul-count c = search needs
+
+add-count : tie.Need-add-count
+add-count c = search needs
+
+mul-count-2 : tie.Need-mul-count-2
+mul-count-2 c = search needs
+
+shared-slice-read-count : tie.Need-shared-slice-read-count
+shared-slice-read-count c = search needs
+
 returns : tie.Need-returns
 unfolding endsAt
 returns c = refl
@@ -40,4 +52,8 @@ ends-at-spec =
     add-tail
     mul-tail-2
     shared-slice-read-tail
+    mul-count
+    add-count
+    mul-count-2
+    shared-slice-read-count
     returns)

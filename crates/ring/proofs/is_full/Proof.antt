@@ -1,13 +1,15 @@
-use Rattle.ring.proofs.Laws.{full-made}
+use Rattle.ring.specs.Ring.{full}
+use mathlib.Core.Path.{refl}
 use borrow.Author.Needs.{needs}
 use Rattle.ring.proofs.is_full.Statement.{statement}
 use Rattle.ring.proofs.is_full.Tie as tie
 
-after-slot-requires : tie.Need-after-slot-requires
-after-slot-requires c κs = search needs
+cast-result : tie.Need-cast-result
+cast-result c = search needs
 
 returns : tie.Need-returns
-returns c = full-made _ _ _ (c .before .after-slot .ensures)
+unfolding full
+returns c = refl
 
 pub is-full-spec : {M : Type 1} → statement M
-is-full-spec = tie.close (tie.spec after-slot-requires returns)
+is-full-spec = tie.close (tie.spec cast-result returns)

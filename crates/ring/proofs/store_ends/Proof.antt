@@ -1,7 +1,5 @@
 use Rattle.ring.specs.Ring.{storeEnds}
-use Prim.Native.Nat.{_*_}
-use lib.Seq.{lt-length-set}
-use native.Mathlib.Omega.{arith}
+use Rattle.ring.proofs.Ends.{second-inside, third-inside}
 use mathlib.Core.Path.{refl}
 use borrow.Author.Needs.{needs}
 use Rattle.ring.proofs.store_ends.Statement.{statement}
@@ -26,7 +24,19 @@ mul-words-4 : tie.Need-mul-words-4
 mul-words-4 c = search needs
 
 slice-write-words-2 : tie.Need-slice-write-words-2
-slice-write-words-2 c = lt-length-set (c .args .words .now) (c .args .q * 2) (c .args .ends .head) (omega arith)
+slice-write-words-2 c = second-inside (c .args .words .now) (c .args .q) (c .args .ends) (c .pre)
+
+mul-words-5 : tie.Need-mul-words-5
+mul-words-5 c = search needs
+
+add-words-2 : tie.Need-add-words-2
+add-words-2 c = search needs
+
+mul-words-6 : tie.Need-mul-words-6
+mul-words-6 c = search needs
+
+slice-write-words-3 : tie.Need-slice-write-words-3
+slice-write-words-3 c = third-inside (c .args .words .now) (c .args .q) (c .args .ends) (c .pre)
 
 same-length : tie.Need-same-length
 same-length c = search needs
@@ -46,5 +56,9 @@ store-ends-spec =
     add-words
     mul-words-4
     slice-write-words-2
+    mul-words-5
+    add-words-2
+    mul-words-6
+    slice-write-words-3
     same-length
     returns)

@@ -40,7 +40,7 @@ use denote.Triple.Walked.{says, needs, Stays, stay-none, stay-ref, walkOf, goes-
 use denote.Exit.{yes}
 use Rattle.task.specs.declared.Ends.{Ends}
 use Rattle.task.specs.Types.{engine}
-use Rattle.ring.specs.Ring.{Sound, headOn}
+use Rattle.ring.specs.Ring.{Sound, Empty, headOn}
 use Rattle.ring.proofs.Records.{EndsT, ends-vals, ends-tells, head-fits, ends-makes, ends-typed}
 use Rattle.ring.proofs.head_on as head-on
 use Rattle.ring.proofs.head_on.Symbol as head-on-def
@@ -58,7 +58,7 @@ abbrev stayed : Stays (fn.ended .signature .params) (fn.ended .kept)
 stayed = (stay-ref (0 ∷ []) tt (plain (λ _. EndsT)), (stay-none (λ _. usize) yes, tt))
 
 module _ {M : Type 1} (𝓤 : URA M) (H : Heap 𝓤) (A : Atoms 𝓤) (W : Given 𝓤 H A) (mem : Memory → SProp 𝓤) (run : Routine → Fun 𝓤) (κ : Lft)
-    (q : Share) (b o : ℕ) (γ : GName) (h : Ends) (k : ℕ) (k-fits : k < 2 ^ 64) (ok : Sound k h × (k ≤ engine .slots)) where
+    (q : Share) (b o : ℕ) (γ : GName) (h : Ends) (k : ℕ) (k-fits : k < 2 ^ 64) (ok : Sound k h × ((k ≤ engine .slots) × ¬ (Empty h))) where
   -- the ends h at (b, o), a ring of k slots
   abbrev Arg : Type 0
   Arg = RefT Ends × (ℕ × Unit {0})

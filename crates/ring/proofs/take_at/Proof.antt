@@ -44,7 +44,7 @@ use denote.Exit.{yes}
 use Rattle.task.specs.declared.Ends.{Ends}
 use Rattle.task.proofs.Ends.Laws as T′
 use Rattle.task.specs.Types.{engine}
-use Rattle.ring.specs.Ring.{endWords, endsAt, storeEnds, Sound, headOn}
+use Rattle.ring.specs.Ring.{endWords, endsAt, storeEnds, Sound, Empty, headOn}
 use Rattle.ring.proofs.Records.{EndsT, ends-val, ends-vals, ends-tells, ends-makes, ends-typed}
 use Rattle.ring.proofs.Local.{lends-local, local-back}
 use Rattle.ring.proofs.EndWords.{store-ends-triple, to-store-ends, store-ends-asks}
@@ -69,7 +69,8 @@ stayed = (gave-slice (0 ∷ []) tt (plain (λ _. u32)), (stay-none (λ _. usize)
 
 module _ {M : Type 1} (𝓤 : URA M) (H : Heap 𝓤) (A : Atoms 𝓤) (W : Given 𝓤 H A) (mem : Memory → SProp 𝓤) (run : Routine → Fun 𝓤) (κ : Lft)
     (q : Share) (b o : ℕ) (γ : GName) (xs : List ℕ) (k p : ℕ) (h : Ends) (k-fits : k < 2 ^ 64) (p-fits : p < 2 ^ 64) (is : Is EndsT h (ends-vals h))
-    (room : Room u32 (length xs)) (ok : (p * endWords + endWords ≤ length xs) × ((h ≡ endsAt xs p) × (Sound k h × (k ≤ engine .slots)))) where
+    (room : Room u32 (length xs)) (ok : (p * endWords + endWords ≤ length xs) ×
+    ((h ≡ endsAt xs p) × (Sound k h × ((k ≤ engine .slots) × ¬ (Empty h))))) where
   -- the words xs of all ends at (b, o), the ring p with its ends h
   abbrev words : RefT (List ℕ)
   words = record { ptr = (b, o); name = γ; now = xs }
