@@ -65,7 +65,7 @@ module _ (sizes : Sizes) (p k : ℕ) (m : Mem) (e : sizesOf m ≡ sizes) where
       && (eqb (sizes .succs) (sizes .preds)
       && (eqb (sizes .degrees) (sizes .weights)
       && (eqb (sizes .rings) (p * p * k)
-      && (eqb (sizes .ends) (p * p * 2)
+      && (eqb (sizes .ends) (p * p * 3)
       && (eqb (sizes .counters) (p * p)
       && (eqb (sizes .buffers) (p * sizes .weights)
       && (eqb (sizes .executed) (2 * sizes .weights)

@@ -51,7 +51,7 @@ pub fn others_fit(sizes: Sizes, p: usize, k: usize) -> bool
         & ((sizes.succs == sizes.preds)
             & ((sizes.degrees == n)
                 & ((sizes.rings == squares * k)
-                    & ((sizes.ends == squares * 2)
+                    & ((sizes.ends == squares * 3)
                         & ((sizes.counters == squares)
                             & ((sizes.buffers == p * n)
                                 & ((sizes.executed == 2 * n)

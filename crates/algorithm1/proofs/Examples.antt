@@ -14,7 +14,7 @@ use Rattle.task.specs.Entries.{Entry, entryOf}
 use Rattle.task.specs.declared.Row.{Row}
 use Rattle.graph.specs.Graph.{part}
 use Rattle.graph.specs.Check.{sizesFit}
-use Rattle.ring.specs.Ring.{slotAt, endsAt, storeEnds, sound, empty, full, headOn, tailOn, count, queue}
+use Rattle.ring.specs.Ring.{slotAt, endsAt, storeEnds, sound, empty, full, headOn, tailOn, queued, queue}
 use Rattle.choice.specs.Least.{load, leastFrom, least}
 use Rattle.choice.specs.Search.{search}
 use Rattle.rules.specs.Memory.{Mem, memOf, allSteps, allEntries}
@@ -45,9 +45,9 @@ diamondState = stateWith (0 ∷ 5 ∷ 3 ∷ 0 ∷ []) ((1 ∷ 2 ∷ []) ∷ (3 �
 abbrev pub resting : List ℕ → ℕ → ℕ → Thread
 resting buffer cursor pointer = threadWith buffer cursor 0 65535 pointer
 
--- memory with these rings and ends, every other list empty
-abbrev pub ringsAlone : List ℕ → List ℕ → Mem
-ringsAlone r e = memOf [] [] [] [] [] [] r e [] [] [] [] []
+-- four rings of three slots with these ends, every other list empty
+abbrev pub fourRings : List ℕ → Mem
+fourRings e = memOf [] [] [] [] [] [] (1 ∷ 2 ∷ 0 ∷ 3 ∷ 4 ∷ 5 ∷ 6 ∷ 7 ∷ 8 ∷ 9 ∷ 10 ∷ 11 ∷ []) e [] [] [] [] []
 
 -- three tasks, two workers: the buffers 0, 1, 2 and 2, 0, 1, and these rows
 abbrev pub buffersOf : Row → Row → Mem
@@ -112,11 +112,14 @@ pub record Examples : Type 0 where
       ((pos 0 ∷ pos 0 ∷ []) ∷ (pos 3 ∷ negsuc 2 ∷ []) ∷ [])
       (resting [] 0 1 ∷ resting [] 0 1 ∷ [])
       (entryOf 0 0 ∷ entryOf 2 1 ∷ entryOf 1 0 ∷ entryOf 3 0 ∷ [])
-  -- P 2, K 3: ring (0, 0) holds two tasks; ring (0, 1) has "a head of K" and reads as empty, ring (1, 1) has such a tail; ring (1, 0) has head
-  -- 2 and tail 1, so it holds its last slot and then its first
-  pub damagedEnds :
-      stateOf 2 3 (ringsAlone (1 ∷ 2 ∷ 0 ∷ 3 ∷ 4 ∷ 5 ∷ 6 ∷ 7 ∷ 8 ∷ 9 ∷ 10 ∷ 11 ∷ []) (0 ∷ 2 ∷ 3 ∷ 1 ∷ 2 ∷ 1 ∷ 0 ∷ 3 ∷ [])) .queues
+  -- P 2, K 3: ring (0, 0) holds two tasks; ring (0, 1) has "a head of K" and reads as empty, ring (1, 1) has such a tail; ring (1, 0) has
+  -- head 2 and tail 1, so it holds its last slot and then its first
+  pub damagedEnds : stateOf 2 3 (fourRings (0 ∷ 2 ∷ 2 ∷ 3 ∷ 1 ∷ 1 ∷ 2 ∷ 1 ∷ 2 ∷ 0 ∷ 3 ∷ 3 ∷ [])) .queues
       ≡ ((1 ∷ 2 ∷ []) ∷ [] ∷ []) ∷ ((8 ∷ 6 ∷ []) ∷ [] ∷ []) ∷ []
+  -- ring (0, 0) "holds K tasks" from head 1, which is its tail too, and ring (1, 0) of this head and tail holds none: the count tells; ring
+  -- (0, 1) has "A count over K", in ring (1, 1) head plus count doesn't lead to tail, and both read as empty
+  pub countedEnds : stateOf 2 3 (fourRings (1 ∷ 1 ∷ 3 ∷ 0 ∷ 1 ∷ 4 ∷ 1 ∷ 1 ∷ 0 ∷ 0 ∷ 2 ∷ 1 ∷ [])) .queues
+      ≡ ((2 ∷ 0 ∷ 1 ∷ []) ∷ [] ∷ []) ∷ ([] ∷ [] ∷ []) ∷ []
   -- worker 0's places have write over N: its buffer reads as empty, the row's other words as they are; worker 1's is read from its own N
   -- places, up to the last
   pub damagedWrite : stateOf 2 2 (buffersOf (rowOf 7 9 8 0 4 5) (rowOf 2 0 1 1 3 0)) .threads
@@ -134,7 +137,7 @@ pub record Examples : Type 0 where
 
 -- begin's words and the run's last ones are known from the rules' examples
 pub examples : Examples
-unfolding tabulate allOf square sumToZ after around capped nextPhase part sizesFit slotAt endsAt storeEnds sound empty full headOn tailOn count queue load leastFrom least search allSteps allEntries numbersFit allFit othersFit lengthsFit countersFit storeWords updated written counted carriedOut scan fetchTask fetchFrom fetchRule startRule completeInner completeRule advanced findRoom releaseTo releaseReady releaseRule ruleOf stepPlan step turn turns bufferIn threadIn recordIn stateOf
+unfolding tabulate allOf square sumToZ after around capped nextPhase part sizesFit slotAt endsAt storeEnds sound empty full headOn tailOn queued queue load leastFrom least search allSteps allEntries numbersFit allFit othersFit lengthsFit countersFit storeWords updated written counted carriedOut scan fetchTask fetchFrom fetchRule startRule completeInner completeRule advanced findRoom releaseTo releaseReady releaseRule ruleOf stepPlan step turn turns bufferIn threadIn recordIn stateOf
 examples =
     record {
       begins = ap deskState (desk.examples .laidOut);
@@ -145,6 +148,7 @@ examples =
       leaves = ap (afterTurns 14) (desk.examples .laidOut);
       ends = ap deskState (desk.examples .whole);
       damagedEnds = refl;
+      countedEnds = refl;
       damagedWrite = refl;
       damagedRead = refl;
       damagedEntries = refl;

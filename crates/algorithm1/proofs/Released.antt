@@ -73,7 +73,7 @@ module _ (p k i : ℕ) (m : Mem) (worker : i < p) (lengths : Lengths p k m) wher
       count : length (successorsIn m (oldest m i)) ≡ succCount m (oldest m i)
       count = length-successors m (oldest m i) (lengths .list list.succs) (f .task)
 
--- The ring of owner o filled by worker i, where its ends are slots.
+-- The ring of owner o filled by worker i, where its ends aren't damaged.
 module _ (p k i : ℕ) (m : Mem) (worker : i < p) (o : ℕ) (owner : o < p) (sound : Sound k (endsIn m (ringNumber p o i))) where
   no-room : Full k (endsIn m (ringNumber p o i)) → ¬ (length (queueOf (stateOf p k m) o i) < capacity k)
   no-room f = rw (queue-at p k m o i owner worker) (λ h. omega (arith, h, queue-full 0 k (ringsIn m) (ringNumber p o i) sound .0 f))
@@ -92,7 +92,7 @@ module _ (p k i : ℕ) (m : Mem) (worker : i < p) (o : ℕ) (owner : o < p) (sou
     unfolding stateOf slotAt
     queues-appended lengths t =
         rings-put p o i owner worker (queue 0 k (ringsIn m)) (queue 0 k (appendedAt k (ringNumber p o i) t (ringsIn m)))
-        (λ q off. queue-append-other 0 k (ringsIn m) (ringNumber p o i) t q off (sound .1))
+        (λ q off. queue-append-other 0 k (ringsIn m) (ringNumber p o i) t q off (sound .tail))
         ∙ rw (
           queue-at p k m o i owner worker,
           queue-append 0 k (ringsIn m) (ringNumber p o i) t sound free

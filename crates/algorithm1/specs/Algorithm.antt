@@ -1,8 +1,8 @@
 -- Algorithm 1 of source document 001, "A Sample Implementation of Collaborative Scheduling", on the split lists and counters of its section 5.1: one step
 -- of one thread at a time, from state s to state s′ with outcome o; P threads, Thread i. Line numbers are the algorithm's, 1 to 19 (some prints of
 -- the paper count on from 91). Its open points are as document 01 settles them, whose sentences stand beside the definitions; line 16 stands at
--- Complete, as document 02's No. 3 has it. What the paper
--- leaves to a choice, which list and which thread, is stated by the property of what is chosen.
+-- Complete, as document 02's No. 3 has it, and a list is full with `capacity` tasks, not where the slot after its tail is its head (No. 5). What the
+-- paper leaves to a choice, which list and which thread, is stated by the property of what is chosen.
 -- Lines without a counterpart here: 1 and 2 are begin's; 3, 4, 18 and 19 run the threads, and 5 and 14 say when a thread releases: "the host serialises its
 -- machines" and chooses, since Release and Fetch both suit phase 0, and "the threshold on the completed buffer" is left out. That a ready task leaves the global task list
 -- (line 9) shows in its degree alone: document 01's tables stay.

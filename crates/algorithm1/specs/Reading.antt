@@ -12,7 +12,7 @@ use Rattle.ring.specs.Ring.{queue}
 use Rattle.rules.specs.Memory.{Mem, tasks, ringNumber, ringsIn, counterIn, bufferAt, rowIn, held, pointerIn, entriesIn}
 use Rattle.algorithm1.specs.State.{Thread, threadWith, State, stateWith}
 
--- Q_i^j: the list that the ring of owner i filled by worker j holds; none where one of its ends isn't a slot
+-- Q_i^j: the list that the ring of owner i filled by worker j holds; none where its ends are damaged
 abbrev pub queueIn : ℕ → ℕ → Mem → ℕ → ℕ → List ℕ
 queueIn p k m i j = queue 0 k (ringsIn m) (ringNumber p i j)
 

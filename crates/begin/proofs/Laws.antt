@@ -1,5 +1,5 @@
 -- The cases of begin: refused, and the lists stay; accepted, and what the check has shown lets them be laid down.
-use Prim.Native.Nat.{ℕ, _+_, _*_}
+use Prim.Native.Nat.{ℕ, _+_, _*_, _≤_}
 use mathlib.Core.Path.{_≡_, sym, ap, _∙_}
 use mathlib.Core.List.{List, append-nil}
 use native.Mathlib.Omega.{arith}
@@ -16,11 +16,13 @@ use Rattle.graph.specs.Graph.{Graph, graphOf}
 use Rattle.graph.specs.Conditions.{Sound, GraphFits}
 use Rattle.graph.specs.Successors.{succStarts, succWords, degreeList}
 use Rattle.graph.proofs.Accepted.{fits-sound}
-use Rattle.graph.proofs.Reversed.{length-degrees}
+use Rattle.graph.proofs.Reversed.{length-degrees, length-roots}
 use Rattle.ring.specs.Ring.{ringWords, endWords}
+use Rattle.ring.proofs.Ends.{capacity-is}
 use Rattle.memory.specs.Field as list
 use Rattle.rules.specs.Memory.{Mem, memOf}
 use Rattle.rules.specs.Sizes.{Lengths, Fits}
+use Rattle.rules.specs.Tables.{rootCount}
 use Rattle.rules.specs.Plans.{resultOf}
 use Rattle.rules.specs.Begin.{cleared, begun, beginAnswer, beginResult, begin}
 use Rattle.rules.proofs.Begin.{begin-accepted}
@@ -69,11 +71,9 @@ module _ (limits : Limits) (p k : ℕ) (w s e : List ℕ) (ss sc d r n c b x u r
   some-sizes : sizesOf some ≡ lent w s e ss sc d r n c b x u rows
   some-sizes = simp length-replicate
 
-  fits : Fits limits p k some × GraphFits limits w s e
+  fits : Fits limits p k some × GraphFits limits w s e × (rootCount some ≤ p * k)
   unfolding begin
-  fits =
-      let f = begin-accepted limits p k some .0 (ap (λ (z : Answer). answerSays (beginResult z p k some .answer)) (sym (judged some some-sizes) ∙ q)) in
-      (f .0, f .1)
+  fits = begin-accepted limits p k some .0 (ap (λ (z : Answer). answerSays (beginResult z p k some .answer)) (sym (judged some some-sizes) ∙ q))
 
   lengths : Lengths p k some
   lengths = fits .0 .lengths
@@ -108,6 +108,7 @@ module _ (limits : Limits) (p k : ℕ) (w s e : List ℕ) (ss sc d r n c b x u r
       fewTasks = omega (arith, fits .0 .limits .fewTasks, ap length hd, length-degrees g);
       weighed = sym (ap length hd ∙ length-degrees g);
       light = fits .1 .light;
+      few = rw (hd, roots-below g, length-roots g, capacity-is k) (fits .2);
     },
     record { rings = hr ∙ rings-are; ends = hn ∙ ends-are; counters = hc ∙ counters-are },
   )

@@ -46,9 +46,6 @@ module _ (limits : Limits) (p k : ℕ) (numbers fit : Bool) (hn : numbers ≡ nu
   within : (p ≤ engine .workers) × ((2 ≤ k) × (k ≤ engine .slots))
   within = numbers-within limits p k numbers-fit
 
-  pub one-slot : 1 ≤ k
-  one-slot = omega (arith, within)
-
   -- P times a number of slots can be computed
   pub product-fits : (j : ℕ) → j ≤ k → Fits w64 (p * j)
   product-fits j h = omega (arith, mul-le-mul {n₁ = p} {m₁ = j} {n₂ = 16} {m₂ = 64} (within .0) (omega (arith, within)))
@@ -84,10 +81,10 @@ module _ (limits : Limits) (p k : ℕ) (sizes : Sizes) (weights starts preds : L
 
       module _ (found : ℕ)
           (hr : (preds : List ℕ) → Sound (graphOf (length weights) starts preds) → found ≡ length (roots (graphOf (length weights) starts preds))) where
-        pub judge-roots : p * (k - 1) < found → Judges limits p k sizes weights starts preds (Refused 6 found)
+        pub judge-roots : p * k < found → Judges limits p k sizes weights starts preds (Refused 6 found)
         unfolding beginAnswer rootsAnswer capacity
-        judge-roots h m e = rw (checked m e, q, ← hr preds graph-sound, lt-ltb (p * (k - 1)) found h)
+        judge-roots h m e = rw (checked m e, q, ← hr preds graph-sound, lt-ltb (p * k) found h)
 
-        pub judge-accepted : found ≤ p * (k - 1) → Judges limits p k sizes weights starts preds a
+        pub judge-accepted : found ≤ p * k → Judges limits p k sizes weights starts preds a
         unfolding beginAnswer rootsAnswer capacity
-        judge-accepted h m e = rw (checked m e, q, ← hr preds graph-sound, le-ltb (p * (k - 1)) found h)
+        judge-accepted h m e = rw (checked m e, q, ← hr preds graph-sound, le-ltb (p * k) found h)

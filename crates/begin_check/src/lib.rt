@@ -28,7 +28,7 @@ pub fn judge(
     };
     let n = weights.len();
     let found = roots::count_roots(n, starts);
-    if p * (k - 1) < found {
+    if p * k < found {
         return Answer::Refused(refusal::TOO_MANY_ROOTS, found as u32);
     }
     answer

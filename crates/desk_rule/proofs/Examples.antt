@@ -39,28 +39,32 @@ twoRootsText =
     ∷ 48 ∷ 32 ∷ 48 ∷ 32 ∷ 48 ∷ 10
     ∷ 49 ∷ 32 ∷ 48 ∷ 32 ∷ 48 ∷ 10 ∷ []
 
--- "4␊0 0 0␊1 0 0␊2 0 0␊3 0 0␊4 0 0␊5 0 0␊"
-abbrev sixRootsText : List ℕ
-sixRootsText =
-    52 ∷ 10
-    ∷ 48 ∷ 32 ∷ 48 ∷ 32 ∷ 48 ∷ 10
-    ∷ 49 ∷ 32 ∷ 48 ∷ 32 ∷ 48 ∷ 10
-    ∷ 50 ∷ 32 ∷ 48 ∷ 32 ∷ 48 ∷ 10
-    ∷ 51 ∷ 32 ∷ 48 ∷ 32 ∷ 48 ∷ 10
-    ∷ 52 ∷ 32 ∷ 48 ∷ 32 ∷ 48 ∷ 10
-    ∷ 53 ∷ 32 ∷ 48 ∷ 32 ∷ 48 ∷ 10 ∷ []
-
--- "5␊0 0 0␊1 0 0␊2 0 0␊3 0 0␊4 0 0␊5 0 0␊6 0 0␊"
-abbrev sevenRootsText : List ℕ
-sevenRootsText =
-    53 ∷ 10
+-- "6␊0 0 0␊1 0 0␊2 0 0␊3 0 0␊4 0 0␊5 0 0␊6 0 0␊7 0 0␊"
+abbrev eightRootsText : List ℕ
+eightRootsText =
+    54 ∷ 10
     ∷ 48 ∷ 32 ∷ 48 ∷ 32 ∷ 48 ∷ 10
     ∷ 49 ∷ 32 ∷ 48 ∷ 32 ∷ 48 ∷ 10
     ∷ 50 ∷ 32 ∷ 48 ∷ 32 ∷ 48 ∷ 10
     ∷ 51 ∷ 32 ∷ 48 ∷ 32 ∷ 48 ∷ 10
     ∷ 52 ∷ 32 ∷ 48 ∷ 32 ∷ 48 ∷ 10
     ∷ 53 ∷ 32 ∷ 48 ∷ 32 ∷ 48 ∷ 10
-    ∷ 54 ∷ 32 ∷ 48 ∷ 32 ∷ 48 ∷ 10 ∷ []
+    ∷ 54 ∷ 32 ∷ 48 ∷ 32 ∷ 48 ∷ 10
+    ∷ 55 ∷ 32 ∷ 48 ∷ 32 ∷ 48 ∷ 10 ∷ []
+
+-- "7␊0 0 0␊1 0 0␊2 0 0␊3 0 0␊4 0 0␊5 0 0␊6 0 0␊7 0 0␊8 0 0␊"
+abbrev nineRootsText : List ℕ
+nineRootsText =
+    55 ∷ 10
+    ∷ 48 ∷ 32 ∷ 48 ∷ 32 ∷ 48 ∷ 10
+    ∷ 49 ∷ 32 ∷ 48 ∷ 32 ∷ 48 ∷ 10
+    ∷ 50 ∷ 32 ∷ 48 ∷ 32 ∷ 48 ∷ 10
+    ∷ 51 ∷ 32 ∷ 48 ∷ 32 ∷ 48 ∷ 10
+    ∷ 52 ∷ 32 ∷ 48 ∷ 32 ∷ 48 ∷ 10
+    ∷ 53 ∷ 32 ∷ 48 ∷ 32 ∷ 48 ∷ 10
+    ∷ 54 ∷ 32 ∷ 48 ∷ 32 ∷ 48 ∷ 10
+    ∷ 55 ∷ 32 ∷ 48 ∷ 32 ∷ 48 ∷ 10
+    ∷ 56 ∷ 32 ∷ 48 ∷ 32 ∷ 48 ∷ 10 ∷ []
 
 -- "0␊0 0 0␊1 0 1 5␊"
 abbrev badPredecessorText : List ℕ
@@ -92,22 +96,24 @@ pub record Examples : Type 0 where
       ≡ 50 ∷ 32 ∷ 54 ∷ 10
       ∷ 48 ∷ 32 ∷ 48 ∷ 10
       ∷ 49 ∷ 32 ∷ 49 ∷ 10 ∷ []
-  -- as many roots as two rings of four slots hold: "6 18␊0 0␊1 1␊2 0␊3 1␊4 0␊5 1␊"
-  pub sixRoots : deskOutput sixRootsText
-      ≡ 54 ∷ 32 ∷ 49 ∷ 56 ∷ 10
+  -- as many roots as two rings of four slots hold: "8 24␊0 0␊1 1␊2 0␊3 1␊4 0␊5 1␊6 0␊7 1␊"
+  pub eightRoots : deskOutput eightRootsText
+      ≡ 56 ∷ 32 ∷ 50 ∷ 52 ∷ 10
       ∷ 48 ∷ 32 ∷ 48 ∷ 10
       ∷ 49 ∷ 32 ∷ 49 ∷ 10
       ∷ 50 ∷ 32 ∷ 48 ∷ 10
       ∷ 51 ∷ 32 ∷ 49 ∷ 10
       ∷ 52 ∷ 32 ∷ 48 ∷ 10
-      ∷ 53 ∷ 32 ∷ 49 ∷ 10 ∷ []
-  -- one more; begin's refusal with its detail: "refused 6 7␊"
-  pub sevenRoots : deskOutput sevenRootsText
-      ≡ 114 ∷ 101 ∷ 102 ∷ 117 ∷ 115 ∷ 101 ∷ 100 ∷ 32 ∷ 54 ∷ 32 ∷ 55 ∷ 10 ∷ []
+      ∷ 53 ∷ 32 ∷ 49 ∷ 10
+      ∷ 54 ∷ 32 ∷ 48 ∷ 10
+      ∷ 55 ∷ 32 ∷ 49 ∷ 10 ∷ []
+  -- one more; begin's refusal with its detail: "refused 6 9␊"
+  pub nineRoots : deskOutput nineRootsText
+      ≡ 114 ∷ 101 ∷ 102 ∷ 117 ∷ 115 ∷ 101 ∷ 100 ∷ 32 ∷ 54 ∷ 32 ∷ 57 ∷ 10 ∷ []
   -- and another: "refused 3 1␊"
   pub badPredecessor : deskOutput badPredecessorText
       ≡ 114 ∷ 101 ∷ 102 ∷ 117 ∷ 115 ∷ 101 ∷ 100 ∷ 32 ∷ 51 ∷ 32 ∷ 49 ∷ 10 ∷ []
 
 pub examples : Examples
 unfolding ℕ-discrete decLe decLt firstBelow occOf joined tabulate allOf sumTo after around capped nextPhase part sizesFit firstBad firstTwice firstOnCycle tablesAnswer checkAnswer below? among? light? good? bad? endsFit? twice? twiceIn? find-twice edge? thru? path? leads? onCycle? succsBelow succStart succStarts succWords degreeList roots capacity slotAt endsAt storeEnds sound empty full headOn tailOn sumToZ load leastFrom least search allSteps allEntries numbersFit allFit othersFit lengthsFit countersFit storeWords updated written counted carriedOut scan fetchTask fetchFrom fetchRule startRule completeSink completeInner completeRule advanced findRoom releaseTo releaseReady releaseWaiting releaseRule ruleOf stepPlan step cleared rootsPlaced begun rootsAnswer beginAnswer begin turn turns deskRun weightsOf startsFrom predsOf lines trim skipped fields digits valueOf rowOf taskOf contents tasksFrom verdict laid readText digitsBefore digitsOf pairLine refusedLine entryLines runLines graphOutput deskMemory deskRead deskOutput
-examples = record { nought = refl; seven = refl; ten = refl; fiveDigits = refl; diamond = refl; nothing = refl; twoRoots = refl; sixRoots = refl; sevenRoots = refl; badPredecessor = refl }
+examples = record { nought = refl; seven = refl; ten = refl; fiveDigits = refl; diamond = refl; nothing = refl; twoRoots = refl; eightRoots = refl; nineRoots = refl; badPredecessor = refl }

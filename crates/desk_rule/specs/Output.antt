@@ -48,7 +48,7 @@ blankRow = record { phase = 0; held = record { 0 = 0 }; pointer = record { 0 = 0
 -- the memory that the desk lends beside weights and predecessor tables, for P 2 and K 4: lists of exact lengths, whose words begin doesn't judge
 unfoldable pub deskMemory : (weights predStarts preds : List ℕ) → Mem
 deskMemory w ps p =
-    memOf w ps p (replicate (length w + 1) 0) (replicate (length p) 0) (replicate (length w) 0) (replicate 16 0) (replicate 8 0)
+    memOf w ps p (replicate (length w + 1) 0) (replicate (length p) 0) (replicate (length w) 0) (replicate 16 0) (replicate 12 0)
     (replicate 4 (pos 0))
     (replicate (2 * length w) 0)
     (replicate (2 * length w) 0)

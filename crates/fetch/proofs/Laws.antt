@@ -74,13 +74,14 @@ module _ (p k i pointer : ℕ) (ends : List ℕ) (x : Found) (hx : foundOf x ≡
   ends-found : both ≡ endsAt ends (ringNumber p i (j .0))
   ends-found = subst (Reads (λ j. endsAt ends (ringNumber p i j))) v reads
 
-  pub scan-stops : pointer < p → (j .0 < p) × Sound k both
+  pub scan-stops : pointer < p → (j .0 < p) × (Sound k both × ¬ (Empty both))
   scan-stops h =
       go (subst (Looked p k Empty (λ d. endsAt ends (ringNumber p i ((pointer + d) % p))) pointer) found-at
       (search-looked p k pointer Empty empty empty-told (λ j. endsAt ends (ringNumber p i j))))
     where
-      go : Looked p k Empty (λ d. endsAt ends (ringNumber p i ((pointer + d) % p))) pointer (rules.at (j .0)) → (j .0 < p) × Sound k both
-      go (d, s, q) = rw (ends-found, q) (mod-lt (pointer + d) (omega arith), s .sound)
+      go : Looked p k Empty (λ d. endsAt ends (ringNumber p i ((pointer + d) % p))) pointer (rules.at (j .0))
+          → (j .0 < p) × (Sound k both × ¬ (Empty both))
+      go (d, s, q) = rw (ends-found, q) (mod-lt (pointer + d) (omega arith), (s .sound, s .stops))
 
 -- from the pointer on
 goes-on : (p k i pointer : ℕ) (rings ends run : List ℕ) → pointer < p
@@ -119,13 +120,14 @@ module _ (p k i n steps pointer : ℕ) (rings ends run : List ℕ) where
       scan-takes (Refused number detail) plans =
           λ m e w. follows (found.At j both) v m w ∙ rw (← ends-found p k i pointer ends x hx reads j both v, ← task-at) (plans p k i rings ends m e)
       scan-takes (Take head) (a, (b, (c, f))) =
-          let stops : (j .0 < p) × Sound k both = scan-stops p k i pointer ends x hx reads j both v h in
+          let stops : (j .0 < p) × (Sound k both × ¬ (Empty both)) = scan-stops p k i pointer ends x hx reads j both v h in
           record {
             points = h;
             found = rw a (found-at p k i pointer ends x hx reads j both v);
             filler = rw a (stops .0);
             reads = rw (a, b) (ends-found p k i pointer ends x hx reads j both v);
-            sound = rw b (stops .1);
+            sound = rw b (stops .1 .0);
+            waits = rw b (stops .1 .1);
             first = rw (a, b, c) task-at;
             task = f;
           }
@@ -137,9 +139,9 @@ head-ready p k i rings ends run s q h both f = (rw (s .allRings) (place-end k (p
 
 -- What is needed to write at place q.
 module _ (p k i : ℕ) (ends run : List ℕ) (s : Ready p k i ends run) (q r : ℕ) (h : (q ≡ r) × (q < p * p)) where
-  pub ends-ready : (both : Ends) → both ≡ endsAt ends r → Sound k both
-      → (q * endWords + endWords ≤ length ends) × ((both ≡ endsAt ends q) × (Sound k both × (k ≤ engine .slots)))
-  ends-ready both e f = (omega (arith, s .allEnds, h .1), (rw (h .0) e, (f, s .fewSlots)))
+  pub ends-ready : (both : Ends) → both ≡ endsAt ends r → Sound k both → ¬ (Empty both)
+      → (q * endWords + endWords ≤ length ends) × ((both ≡ endsAt ends q) × (Sound k both × ((k ≤ engine .slots) × ¬ (Empty both))))
+  ends-ready both e f n = (omega (arith, s .allEnds, h .1), (rw (h .0) e, (f, (s .fewSlots, n))))
 
 -- what is stored as the ends of ring q are those of the ring filled by j
 pub stored-at : (ends new : List ℕ) (q r : ℕ) (both : Ends) → q ≡ r → new ≡ storeEnds ends q both → new ≡ storeEnds ends r both
@@ -157,8 +159,11 @@ module _ (p k i n steps pointer : ℕ) (rings ends run : List ℕ) (x : FetchPla
 
   pub fetch-ready : Sized p k i rings ends run → steps ≤ 65535
       → Ready p k i ends run × ((head .filler .0 < p) × ((head .ends ≡ endsAt ends (ringNumber p i (head .filler .0)))
-      × (Sound k (head .ends) × (head .accepted ≤ 65535))))
-  fetch-ready s l = (s .ready, (takes-of .filler, (takes-of .reads, (takes-of .sound, omega (arith, takes-of .task .accepted)))))
+      × (Sound k (head .ends) × (¬ (Empty (head .ends)) × (head .accepted ≤ 65535)))))
+  fetch-ready s l = (
+    s .ready,
+    (takes-of .filler, (takes-of .reads, (takes-of .sound, (takes-of .waits, omega (arith, takes-of .task .accepted))))),
+  )
 
 -- A plan carried out, for a worker with this row.
 module _ (p k i n steps : ℕ) (row : Row) (rings ends run : List ℕ) (x : FetchPlan)

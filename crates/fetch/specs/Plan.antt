@@ -7,7 +7,7 @@ use lib.ListN.{length, getD}
 use Rattle.lists.specs.Circles.{around}
 use Rattle.task.specs.Types.{engine}
 use Rattle.task.specs.declared.Ends.{Ends}
-use Rattle.ring.specs.Ring.{Sound, sound, empty, slotAt, endsAt}
+use Rattle.ring.specs.Ring.{Sound, Empty, sound, empty, slotAt, endsAt}
 use Rattle.choice.specs.Search.{Found, at, search}
 use Rattle.memory.specs.Field as list
 use Rattle.memory.specs.Shape.{fixedLength}
@@ -58,6 +58,7 @@ pub record Takes (p k i n steps pointer : ℕ) (rings ends run : List ℕ) (head
   pub filler : head .filler .0 < p
   pub reads : head .ends ≡ endsAt ends (ringNumber p i (head .filler .0))
   pub sound : Sound k (head .ends)
+  pub waits : ¬ (Empty (head .ends))
   pub first : head .task .0 ≡ getD rings (slotAt k (ringNumber p i (head .filler .0)) (head .ends .head)) 0
   pub task : Fetchable n steps run head
 

@@ -2,7 +2,7 @@
 ghost use mathlib.Core.Path.{_≡_};
 ghost use Prim.Native.Nat.{_+_, _≤_, _<_};
 ghost use lib.ListN.{length, set};
-ghost use Rattle.ring.specs.Ring.{Sound, endsAt, storeEnds, headOn};
+ghost use Rattle.ring.specs.Ring.{Sound, Empty, endsAt, storeEnds, headOn};
 ghost use Rattle.rules.specs.Memory.{ringNumber};
 ghost use Rattle.admission.specs.Admission.{Knows};
 ghost use Rattle.fetch.specs.Fetch.{FetchesAdmitted, Fetches, HandAndPointer};
@@ -94,7 +94,7 @@ fn take_head(ends: &mut [u32], run: &mut [u32], p: usize, k: usize, worker: Work
     requires { ⌜
         Ready p k (worker .0) (now ends) (now run) × ((head .filler .0 < p)
         × ((head .ends ≡ endsAt (now ends) (ringNumber p (worker .0) (head .filler .0)))
-        × (Sound k (head .ends) × (head .accepted ≤ 65535))))
+        × (Sound k (head .ends) × (¬ (Empty (head .ends)) × (head .accepted ≤ 65535)))))
         ⌝ }
     ensures { λ r. ⌜ now (ends .exit) ≡ storeEnds (now (ends .entry)) (ringNumber p (worker .0) (head .filler .0)) (headOn k (head .ends)) ⌝ }
     ensures { λ r. ⌜ now (run .exit) ≡ set (now (run .entry)) 1 (head .accepted + 1) ⌝ }

@@ -74,14 +74,14 @@ pair-rows = record { found = found; other = other; back = back }
 -- one worker, two slots, one task without edges
 abbrev pub small : Mem pairs
 small =
-    memOf (5 ∷ []) (0 ∷ 0 ∷ []) [] (0 ∷ 0 ∷ []) [] (0 ∷ []) (pair 0 7 ∷ pair 1 7 ∷ []) (0 ∷ 1 ∷ []) (pos 5 ∷ []) (4 ∷ []) (6 ∷ 6 ∷ 6 ∷ []) (0 ∷ 0 ∷ 1 ∷ [])
+    memOf (5 ∷ []) (0 ∷ 0 ∷ []) [] (0 ∷ 0 ∷ []) [] (0 ∷ []) (pair 0 7 ∷ pair 1 7 ∷ []) (0 ∷ 1 ∷ 1 ∷ []) (pos 5 ∷ []) (4 ∷ []) (6 ∷ 6 ∷ 6 ∷ []) (0 ∷ 0 ∷ 1 ∷ [])
     (rowOf 0 (pair 8 8) 0 0 0 0 ∷ [])
 
 abbrev pub some : List (Update pairs)
 some =
     store list.degrees 0 3
     ∷ store list.rings 1 (pair 2 3)
-    ∷ store list.ends 0 (record { head = 1; tail = 0 })
+    ∷ store list.ends 0 (record { head = 1; tail = 0; count = 2 })
     ∷ store list.counters 0 (negsuc 1)
     ∷ store list.executed 0 (1 ∷ 2 ∷ 3 ∷ [])
     ∷ store list.rows 0 (hand (record { phase = 1; held = pair 0 7 }))
@@ -95,7 +95,7 @@ all = list.weights ∷ list.predStarts ∷ list.preds ∷ others
 pub record Examples : Type 0 where
   -- each update writes its place of its list, a row's part alone its part, and the other lists stay
   pub wrote : written some small
-      ≡ memOf (5 ∷ []) (0 ∷ 0 ∷ []) [] (0 ∷ 0 ∷ []) [] (3 ∷ []) (pair 0 7 ∷ pair 2 3 ∷ []) (1 ∷ 0 ∷ []) (negsuc 1 ∷ []) (4 ∷ []) (1 ∷ 2 ∷ 3 ∷ []) (0 ∷ 0 ∷ 1 ∷ [])
+      ≡ memOf (5 ∷ []) (0 ∷ 0 ∷ []) [] (0 ∷ 0 ∷ []) [] (3 ∷ []) (pair 0 7 ∷ pair 2 3 ∷ []) (1 ∷ 0 ∷ 2 ∷ []) (negsuc 1 ∷ []) (4 ∷ []) (1 ∷ 2 ∷ 3 ∷ []) (0 ∷ 0 ∷ 1 ∷ [])
       (rowOf 1 (pair 0 7) 4 0 1 2 ∷ [])
   -- a place that isn't there is not written
   pub beyond : written (store list.weights 1 7 ∷ store list.rows 1 (pointer 4) ∷ store list.executed 1 (1 ∷ 2 ∷ 3 ∷ []) ∷ []) small ≡ small
@@ -104,7 +104,7 @@ pub record Examples : Type 0 where
   pub spared : spares list.buffers some ≡ true
   pub named : spares list.rows some ≡ false
   -- P 2, K 4, N 3, E 5
-  pub lengths : map (lengthOf pairs 2 4 3 5) all ≡ 3 ∷ 4 ∷ 5 ∷ 4 ∷ 5 ∷ 3 ∷ 16 ∷ 8 ∷ 4 ∷ 6 ∷ 24 ∷ 3 ∷ 2 ∷ []
+  pub lengths : map (lengthOf pairs 2 4 3 5) all ≡ 3 ∷ 4 ∷ 5 ∷ 4 ∷ 5 ∷ 3 ∷ 16 ∷ 12 ∷ 4 ∷ 6 ∷ 24 ∷ 3 ∷ 2 ∷ []
   pub fits : allFit pairs 1 2 (sizesIn small) others ≡ true
   pub misfits : allFit pairs 1 3 (sizesIn small) others ≡ false
 

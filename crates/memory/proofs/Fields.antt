@@ -11,9 +11,7 @@ use lib.ListN.{getD, set, length, length-set}
 use lib.Seq.{set-out, set-getD, set-set, set-comm, getD-set-same, getD-set-other}
 use lib.IntN.{pos}
 use Rattle.lists.proofs.Told.{and-true}
-use Rattle.task.specs.declared.Ends.{Ends}
-use Rattle.ring.specs.Ring.{endsAt, storeEnds}
-use Rattle.ring.proofs.Ends.{length-stored}
+use Rattle.ring.proofs.Ends.{length-stored, ends-back}
 use Rattle.memory.specs.Family.{Family}
 use Rattle.memory.specs.Field.{Sort, word, signed, item, ringEnds, entry, row, Field, sortOf, number}
 use Rattle.memory.specs.Field as list
@@ -160,13 +158,6 @@ words-back (w ∷ ws) l x =
     (set-words ws (set l x w) (x + 1) x (getD l x 0) (omega arith)
     ∙ ap (λ (k : List ℕ). storeWords k (x + 1) ws) (set-set l x w (getD l x 0) ∙ set-getD l x 0))
     ∙ words-back ws l (x + 1)
-
-ends-back : (l : List ℕ) (q : ℕ) (e : Ends) → storeEnds (storeEnds l q e) q (endsAt l q) ≡ l
-unfolding storeEnds endsAt
-ends-back l q e =
-    rw (set-comm (set l (q * 2) (e .head)) (q * 2 + 1) (q * 2) (e .tail) (getD l (q * 2) 0) (λ h. omega arith))
-    (rw (set-set l (q * 2) (e .head) (getD l (q * 2) 0), set-getD l (q * 2) 0)
-    (set-set l (q * 2 + 1) (e .tail) (getD l (q * 2 + 1) 0) ∙ set-getD l (q * 2 + 1) 0))
 
 stored-length : (F : Family) (s : Sort) (l : List (Cell F s)) (x : ℕ) (v : Value F s) → length (storedAt F s l x v) ≡ length l
 stored-length F word l x v = length-set l x v

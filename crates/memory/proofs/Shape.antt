@@ -16,7 +16,7 @@ use Rattle.memory.proofs.Fields.{written-lengths}
 -- all figures in one equation, for every P, K, N and E: a wrong one in `lengthOf` is refused here
 lengths-are : (F : Family) (p k n e : ℕ)
     → map (lengthOf F p k n e) (list.weights ∷ list.predStarts ∷ list.preds ∷ others)
-    ≡ n ∷ (n + 1) ∷ e ∷ (n + 1) ∷ e ∷ n ∷ (p * p * k) ∷ (p * p * 2) ∷ (p * p) ∷ (p * n) ∷ (F .shape .entryWords * F .shape .entries n e) ∷ F .shape .runWords ∷ p ∷ []
+    ≡ n ∷ (n + 1) ∷ e ∷ (n + 1) ∷ e ∷ n ∷ (p * p * k) ∷ (p * p * 3) ∷ (p * p) ∷ (p * n) ∷ (F .shape .entryWords * F .shape .entries n e) ∷ F .shape .runWords ∷ p ∷ []
 lengths-are F p k n e = refl
 
 module _ (F : Family) (p k : ℕ) (size : Field → ℕ) where

@@ -21,7 +21,7 @@ pub record Mem (F : Family) : Type 0 where
   pub degrees : List ℕ
   -- "Rings P·P·K"
   pub rings : List (F .Item)
-  -- "Heads and tails, P·P pairs."
+  -- "Heads and tails", and "A ring keeps a count beside head and tail": P·P triples
   pub ends : List ℕ
   -- "Counters P·P, signed, same place rule."
   pub counters : List ℤ

@@ -24,7 +24,7 @@ lengthOf F p k n e list.succs = e
 lengthOf F p k n e list.degrees = n
 -- "Rings P·P·K"
 lengthOf F p k n e list.rings = p * p * ringWords k
--- "Heads and tails, P·P pairs."
+-- "Heads and tails", "a count beside head and tail": P·P triples
 lengthOf F p k n e list.ends = p * p * endWords
 -- "Counters P·P"
 lengthOf F p k n e list.counters = p * p

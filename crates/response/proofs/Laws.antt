@@ -88,7 +88,7 @@ pub tables-put : (w ps p : List ℕ) → length w ≤ 1024 → length p ≤ 8192
     → Appends 0
     (graphOutput
     (cellMem w ps p (take (length w + 1) (replicate 1025 0)) (take (length p) (replicate 8192 0)) (take (length w) (replicate 1024 0)) (replicate 16 0)
-    (replicate 8 0) (replicate 4 (pos 0)) (take (2 * length w) (replicate 2048 0)) (take (2 * length w) (replicate 2048 0)) (replicate 2 0)
+    (replicate 12 0) (replicate 4 (pos 0)) (take (2 * length w) (replicate 2048 0)) (take (2 * length w) (replicate 2048 0)) (replicate 2 0)
     (replicate 2 (replicate 6 0))))
     before after r
     → Appends 0 (graphOutput (deskMemory w ps p)) before after r

@@ -89,7 +89,7 @@ fn run_tables(weights: &[u32], pred_starts: &[u32], preds: &[u32], out: &mut [u8
     let mut succs = [0u32; 8192];
     let mut degrees = [0u32; 1024];
     let mut rings = [0u32; 16];
-    let mut ends = [0u32; 8];
+    let mut ends = [0u32; 12];
     let mut counters = [0i32; 4];
     let mut buffers = [0u32; 2048];
     let mut executed = [0u32; 2048];

@@ -1,16 +1,17 @@
 -- One task after the other laid down: what lets the next one be, and what it makes of the rings.
-use Prim.Native.Nat.{ℕ, _+_, _*_, _%_, _≤_, _<_}
-use mathlib.Core.Path.{_≡_, sym, ap, _∙_}
+use Prim.Native.Nat.{ℕ, zero, suc, _+_, _*_, _%_, _≤_, _<_}
+use mathlib.Core.Path.{_≡_, refl, sym, ap, _∙_}
 use mathlib.Core.Bool.{true, cond}
 use mathlib.Core.List.{List, [], _∷_, _++_, append-nil}
 use native.Mathlib.Omega.{arith}
 use native.Mathlib.Decide.{ℕ-discrete}
 use native.Mathlib.Numerals.{add-one}
-use native.Mathlib.Nat.{mod-lt, mod-eq-of-lt, mod-add-mod}
+use native.Mathlib.Nat.{add-zero, mod-lt, mod-eq-of-lt, mod-add-mod}
 use lib.IntN.{ℤ, pos, _+ℤ_}
 use lib.ListN.{length, getD, set, replicate, length-set, length-append, length-replicate}
 use lib.Seq.{getD-set-same, getD-set-other}
-use borrow.Author.Tests.{le-leb}
+use lib.Dec.{eqb}
+use borrow.Author.Tests.{le-leb, eq-eqb, ne-eqb}
 use Rattle.lists.specs.Circles.{after}
 use Rattle.lists.specs.Decided.{holds}
 use Rattle.lists.specs.Lists.{joined}
@@ -22,14 +23,16 @@ use Rattle.task.specs.declared.Ends.{Ends}
 use Rattle.graph.specs.Graph.{Graph, predsOf}
 use Rattle.graph.specs.Successors.{degreeList, roots}
 use Rattle.graph.proofs.Reversed.{length-degrees}
-use Rattle.ring.specs.Ring.{Sound, slotAt, endsAt, storeEnds, tailOn, Rings, ringsOf, appendedAt, Inside}
-use Rattle.ring.proofs.Ends.{length-stored, ends-cleared, stored-sound, sound-append}
+use Rattle.ring.specs.Ring.{capacity, endWords, Sound, slotAt, endsAt, storeEnds, tailOn, filledEnds, Rings, ringsOf, appendedAt, Inside}
+use Rattle.ring.proofs.Ends.{length-stored, ends-cleared, ends-stored, ends-other, filled-sound, filled-append}
 use Rattle.ring.proofs.Inside.{ring-inside}
 use Rattle.memory.specs.Updates.{updated, written}
-use Rattle.rules.specs.Memory.{Mem}
+use Rattle.rules.specs.Memory.{Mem, ringNumber}
 use Rattle.rules.specs.Words.{counterFits}
 use Rattle.rules.specs.Steps.{join}
 use Rattle.rules.specs.Begin.{rootsPlaced}
+use Rattle.rules.specs.Begun.{toRing}
+use Rattle.rules.proofs.Dealt.{to-fits, to-snoc}
 use Rattle.roots.specs.Laying.{rootsBelow, laidIn, Placed, Job, Room, Laid}
 
 module _ (degrees : List ℕ) (t : ℕ) where
@@ -40,6 +43,20 @@ module _ (degrees : List ℕ) (t : ℕ) where
   below-root : getD degrees t 0 ≡ 0 → rootsBelow degrees (t + 1) ≡ rootsBelow degrees t ++ (t ∷ [])
   unfolding rootsBelow joined
   below-root e = ap (rootsBelow degrees) (add-one t) ∙ rw (yes-holds (ℕ-discrete (getD degrees t 0) 0) e)
+
+-- the further, the more roots
+below-fewer : (degrees : List ℕ) (t n : ℕ) → t ≤ n → length (rootsBelow degrees t) ≤ length (rootsBelow degrees n)
+unfolding rootsBelow joined
+below-fewer degrees t zero h = none (omega arith)
+  where
+    none : t ≡ 0 → length (rootsBelow degrees t) ≤ length (rootsBelow degrees 0)
+    none e = rw e (omega arith)
+below-fewer degrees t (suc n) h = go (ℕ-discrete t (suc n)) (below-fewer degrees t n)
+  where
+    go : Dec (t ≡ suc n) → (t ≤ n → length (rootsBelow degrees t) ≤ length (rootsBelow degrees n))
+        → length (rootsBelow degrees t) ≤ length (rootsBelow degrees (suc n))
+    go (yes e) before = rw e (omega arith)
+    go (no m) before = omega (arith, before (omega (arith, h, m)), length-append (rootsBelow degrees n) (cond (holds (ℕ-discrete (getD degrees n 0) 0)) (n ∷ []) []))
 
 -- one root more is placed
 placed-snoc : (p k n : ℕ) (ts : List ℕ) (t : ℕ) (m : Mem)
@@ -65,7 +82,7 @@ pub laid-none : (p k : ℕ) (weights degrees rings ends rings′ ends′ : List 
     → Job p k weights degrees → Room p k rings ends counters
     → rings′ ≡ replicate (length rings) 0 → ends′ ≡ replicate (length ends) 0 → counters′ ≡ replicate (length counters) (pos 0)
     → Laid p k weights degrees 0 0 rings′ ends′ counters′
-unfolding rootsBelow joined rootsPlaced
+unfolding rootsBelow joined rootsPlaced toRing
 laid-none p k weights degrees rings ends rings′ ends′ counters counters′ job room r e c =
     record {
       job = job;
@@ -77,8 +94,7 @@ laid-none p k weights degrees rings ends rings′ ends′ counters counters′ j
           };
       upto = omega arith;
       next = sym (mod-eq-of-lt (job .oneWorker));
-      sound = λ q h.
-          rw (e, ends-cleared (replicate (length ends) 0) q (zeros (length ends) (q * 2)) (zeros (length ends) (q * 2 + 1))) (job .oneSlot, job .oneSlot);
+      filled = λ q h. rw e (ends-cleared (replicate (length ends) 0) q k (job .oneSlot) (zeros (length ends)));
       small = λ q h. (0, (rw c (getD-equals (length counters) q (pos 0)), omega arith));
       placed = λ m.
           laid-same m weights (r ∙ ap (λ (n : ℕ). replicate n 0) (room .rings)) (e ∙ ap (λ (n : ℕ). replicate n 0) (room .ends))
@@ -94,7 +110,7 @@ module _ (p k : ℕ) (weights degrees : List ℕ) (t owner : ℕ) (rings ends : 
         room = l .room;
         upto = omega arith;
         next = rw (below-skip degrees t n) (l .next);
-        sound = l .sound;
+        filled = rw (below-skip degrees t n) (l .filled);
         small = λ q i. let (x, (e, b)) = l .small q i in (x, (e, omega arith));
         placed = rw (below-skip degrees t n) (l .placed);
       }
@@ -109,8 +125,11 @@ module _ (p k : ℕ) (weights degrees : List ℕ) (t owner : ℕ) (rings ends : 
     pub ring-ready : (both : Ends) → both ≡ endsAt ends q → Inside k q (ringsOf rings ends) × ((both ≡ endsAt ends q) × Sound k both)
     ring-ready both e = (
       ring-inside k (p * p) q rings ends (l .job .fewSlots) (l .room .rings) (l .room .ends) inside,
-      (e, rw e (l .sound q inside)),
+      (e, rw (e, l .filled q inside) (filled-sound k _ (l .job .oneSlot) (to-fits p (l .job .oneWorker) k q (rootsBelow degrees t) few))),
     )
+      where
+        few : length (rootsBelow degrees t) ≤ p * capacity k
+        few = omega (arith, below-fewer degrees t (length degrees) (l .upto), l .job .few)
 
     light : getD weights t 0 ≤ 65535
     light = l .job .light t (omega (arith, l .job .weighed))
@@ -145,6 +164,19 @@ module _ (p k : ℕ) (weights degrees : List ℕ) (t owner : ℕ) (rings ends : 
       unfolding written updated
       joins m = rw (← own) (laid-same m weights new-rings new-ends raises)
 
+      -- the number of the root's own ring, as the roots are dealt out
+      dealt-to : ringNumber p ((0 + length (rootsBelow degrees t)) % p) ((0 + length (rootsBelow degrees t)) % p) ≡ q
+      dealt-to = sym (own ∙ ap (λ (o : ℕ). ringNumber p o o) (l .next ∙ ap (λ (n : ℕ). n % p) (omega arith)))
+
+      filled-after : (r : ℕ) → r < p * p → Dec (r ≡ q) → endsAt (storeEnds ends q (tailOn k (endsAt ends q))) r
+          ≡ filledEnds k (length (toRing p r 0 (rootsBelow degrees t)) + cond (eqb (ringNumber p ((0 + length (rootsBelow degrees t)) % p) ((0 + length (rootsBelow degrees t)) % p)) r) 1 0)
+      filled-after r i (yes e) =
+          rw (e, dealt-to, eq-eqb q q refl)
+          (ends-stored ends q (tailOn k (endsAt ends q)) (omega (arith, l .room .ends, inside)) ∙ rw (l .filled q inside) (filled-append k _))
+      filled-after r i (no n) =
+          rw (dealt-to, ne-eqb q r (λ e. n (sym e)), add-zero (length (toRing p r 0 (rootsBelow degrees t))))
+          (ends-other ends q r (tailOn k (endsAt ends q)) n ∙ l .filled r i)
+
       placed-after : Placed p k weights degrees (t + 1) rings′ ends′ counters′
       placed-after m =
           joins m
@@ -154,7 +186,7 @@ module _ (p k : ℕ) (weights degrees : List ℕ) (t owner : ℕ) (rings ends : 
           ∙ ap (λ (ts : List ℕ). rootsPlaced p k 0 ts start) (sym (below-root degrees t root))
         where
           start : Mem
-          start = laidIn m weights (replicate (p * p * k) 0) (replicate (p * p * 2) 0) (replicate (p * p) (pos 0))
+          start = laidIn m weights (replicate (p * p * k) 0) (replicate (p * p * endWords) 0) (replicate (p * p) (pos 0))
 
           before : Mem
           before = rootsPlaced p k 0 (rootsBelow degrees t) start
@@ -174,8 +206,7 @@ module _ (p k : ℕ) (weights degrees : List ℕ) (t owner : ℕ) (rings ends : 
             next =
                 e ∙ ap (λ (o : ℕ). (o + 1) % p) (l .next) ∙ mod-add-mod (length (rootsBelow degrees t)) p 1
                 ∙ ap (λ (n : ℕ). n % p) (omega (arith, ap length (below-root degrees t root), length-append (rootsBelow degrees t) (t ∷ [])));
-            sound = rw new-ends
-                (stored-sound k (p * p) ends q (tailOn k (endsAt ends q)) (l .room .ends) (l .sound) (sound-append k (endsAt ends q) (l .sound q inside)));
+            filled = λ r i. rw (new-ends, below-root degrees t root, to-snoc p (l .job .oneWorker) r 0 (rootsBelow degrees t) t) (filled-after r i (ℕ-discrete r q));
             small = λ r i. small-after r i (ℕ-discrete r q);
             placed = placed-after;
           }

@@ -10,12 +10,13 @@ use Rattle.lists.specs.Decided.{holds}
 use Rattle.lists.specs.Lists.{joined}
 use Rattle.task.specs.Types.{engine}
 use Rattle.graph.specs.Conditions.{Light}
-use Rattle.ring.specs.Ring.{ringWords, endWords, endsAt, Sound}
+use Rattle.ring.specs.Ring.{capacity, ringWords, endWords, endsAt, filledEnds}
 use Rattle.memory.specs.Field as list
 use Rattle.memory.specs.Memory.{put}
 use Rattle.memory.specs.Shape.{fixedLength}
 use Rattle.rules.specs.Memory.{plain, Mem}
 use Rattle.rules.specs.Begin.{rootsPlaced}
+use Rattle.rules.specs.Begun.{toRing}
 
 -- the tasks below t whose degree is 0, rising
 unfoldable pub rootsBelow : List ℕ → ℕ → List ℕ
@@ -46,6 +47,8 @@ pub record Job (p k : ℕ) (weights degrees : List ℕ) : Type 0 where
   pub fewTasks : length degrees ≤ engine .tasks
   pub weighed : length weights ≡ length degrees
   pub light : Light weights
+  -- "The roots' limit becomes P·K."
+  pub few : length (rootsBelow degrees (length degrees)) ≤ p * capacity k
 
 pub record Room (p k : ℕ) (r e : List ℕ) (c : List ℤ) : Type 0 where
   pub rings : length r ≡ fixedLength plain p k list.rings
@@ -58,7 +61,8 @@ pub record Laid (p k : ℕ) (weights degrees : List ℕ) (t owner : ℕ) (rings 
   pub room : Room p k rings ends counters
   pub upto : t ≤ length degrees
   pub next : owner ≡ length (rootsBelow degrees t) % p
-  pub sound : (q : ℕ) → q < p * p → Sound k (endsAt ends q)
+  -- each ring is filled from its first slot on with the roots that go to it
+  pub filled : (q : ℕ) → q < p * p → endsAt ends q ≡ filledEnds k (length (toRing p q 0 (rootsBelow degrees t)))
   -- no counter is above the weights of t tasks
   pub small : (q : ℕ) → q < p * p → (x : ℕ) × ((getD counters q (pos 0) ≡ pos x) × (x ≤ t * 65535))
   pub placed : Placed p k weights degrees t rings ends counters

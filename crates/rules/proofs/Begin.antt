@@ -50,7 +50,7 @@ module _ (limits : Limits) (p k : ℕ) (m : Mem) where
   graphRows = checkRows limits (BeyondPK limits p k) (¬ Others) (m .weights) (m .predStarts) (m .preds)
 
   abbrev rootRows : List Refusal
-  rootRows = row tooManyRoots (only (rootCount m) (p * (k - 1) < rootCount m)) ∷ []
+  rootRows = row tooManyRoots (only (rootCount m) (p * k < rootCount m)) ∷ []
 
   abbrev found : ℕ
   found = length (roots (graphIn m))
@@ -65,7 +65,7 @@ module _ (limits : Limits) (p k : ℕ) (m : Mem) where
       (λ e h. omega (arith, ltb-false (p * capacity k) found e, room)))
       (λ _. follows-none accepted tt))
     where
-      room : p * capacity k ≡ p * (k - 1)
+      room : p * capacity k ≡ p * k
       room = ap (λ (c : ℕ). p * c) (capacity-is k)
 
   checks-follow : Follows (graphRows ++ rootRows) (answerSays (begin limits p k m .answer))
@@ -105,15 +105,15 @@ module _ (limits : Limits) (p k : ℕ) (m : Mem) where
       whole : ¬ (¬ (Lengths p k m))
       whole n = o (λ x. n (whole-lengths (g .lengths) x))
 
-  clear-begin : Clear (graphRows ++ rootRows) ↔ (Fits limits p k m × GraphHere × (rootCount m ≤ p * (k - 1)))
+  clear-begin : Clear (graphRows ++ rootRows) ↔ (Fits limits p k m × GraphHere × (rootCount m ≤ p * k))
   clear-begin = (λ c. to (clear-parts graphRows rootRows .0 c), λ a. clear-parts graphRows rootRows .1 (from a))
     where
-      to : Clear graphRows × Clear rootRows → Fits limits p k m × GraphHere × (rootCount m ≤ p * (k - 1))
+      to : Clear graphRows × Clear rootRows → Fits limits p k m × GraphHere × (rootCount m ≤ p * k)
       to (c, (r, _)) =
           let a : (¬ (BeyondPK limits p k)) × ((¬ (¬ Others)) × GraphHere) = clear-fits limits (m .weights) (m .predStarts) (m .preds) c in
-          (fits (a .0) (a .1 .0) (a .1 .1), a .1 .1, stable (decLe (rootCount m) (p * (k - 1))) (λ n. r (rootCount m) (refl, omega arith)))
+          (fits (a .0) (a .1 .0) (a .1 .1), a .1 .1, stable (decLe (rootCount m) (p * k)) (λ n. r (rootCount m) (refl, omega arith)))
 
-      from : Fits limits p k m × GraphHere × (rootCount m ≤ p * (k - 1)) → Clear graphRows × Clear rootRows
+      from : Fits limits p k m × GraphHere × (rootCount m ≤ p * k) → Clear graphRows × Clear rootRows
       from (a, g, r) = (
         fits-clear limits (m .weights) (m .predStarts) (m .preds) (λ h. fits-within limits p k m a (inl h), (λ n. n (others-fit p k m (a .lengths)), g)),
         (λ d h. omega (arith, h .1), tt),
@@ -138,7 +138,7 @@ begin-follows limits p k m =
 
 pub begin-accepted : (limits : Limits) (p k : ℕ) (m : Mem)
     → (answerSays (begin limits p k m .answer) ≡ accepted)
-    ↔ (Fits limits p k m × GraphFits limits (m .weights) (m .predStarts) (m .preds) × (rootCount m ≤ p * (k - 1)))
+    ↔ (Fits limits p k m × GraphFits limits (m .weights) (m .predStarts) (m .preds) × (rootCount m ≤ p * k))
 begin-accepted limits p k m = (
   λ e. clear-begin limits p k m .0 (checks-follow limits p k m .accepts .0 (said-accepted (begin limits p k m .answer) .0 e)),
   λ a. said-accepted (begin limits p k m .answer) .1 (checks-follow limits p k m .accepts .1 (clear-begin limits p k m .1 a)),

@@ -5,7 +5,7 @@ use mathlib.Core.Bool.{Bool, true, false, cond}
 use mathlib.Core.List.{List, [], _∷_, _++_, append-nil}
 use native.Mathlib.Omega.{arith}
 use native.Mathlib.Decide.{decLt}
-use native.Mathlib.Nat.{mod-lt}
+use native.Mathlib.Nat.{mod-lt, mod-eq-of-lt}
 use lib.Dec.{eqb}
 use lib.IntN.{pos}
 use lib.ListN.{length, getD, replicate, length-append, length-replicate, getD-replicate, List·getD-eq-default}
@@ -30,7 +30,7 @@ use Rattle.graph.specs.Conditions.{Good, Sound}
 use Rattle.graph.specs.Successors.{roots}
 use Rattle.graph.proofs.Accepted.{fits-sound}
 use Rattle.graph.proofs.Reversed.{succ-part, table-reversed, table-good, succs-rise, length-succStarts, length-succWords, length-degrees, length-roots}
-use Rattle.ring.specs.Ring.{capacity, slotAt, endsAt}
+use Rattle.ring.specs.Ring.{capacity, endWords, slotAt, endsAt, filledEnds}
 use Rattle.ring.proofs.Ends.{capacity-is, ends-cleared}
 use Rattle.ring.proofs.Queues.{queue-cleared}
 use Rattle.memory.specs.Field.{Field}
@@ -42,10 +42,10 @@ use Rattle.rules.specs.Memory.{plain, Mem, tasks, edges, graphIn, ringNu
 use Rattle.rules.specs.Sizes.{Lengths}
 use Rattle.rules.specs.Steps.{join}
 use Rattle.rules.specs.Begin.{cleared, rootsPlaced, begun, beginAnswer, beginResult, begin}
-use Rattle.rules.specs.Begun.{rootsOf, LaidDown}
+use Rattle.rules.specs.Begun.{rootsOf, LaidDown, toRing}
 use Rattle.rules.proofs.Begin.{begin-accepted}
-use Rattle.rules.proofs.Dealt.{toRing, to-own, to-other, to-any, to-fits}
-use Rattle.rules.proofs.Joins.{filledEnds, Holds, join-lengths, join-own, join-other}
+use Rattle.rules.proofs.Dealt.{to-own, to-other, to-any, to-fits}
+use Rattle.rules.proofs.Joins.{Holds, join-lengths, join-own, join-other}
 
 regrouped : (b : Bool) (l : List ℕ) (t : ℕ) (rest : List ℕ) → l ++ cond b (t ∷ rest) rest ≡ cond b (l ++ (t ∷ [])) l ++ rest
 regrouped true l t rest = sym (append-snoc l t rest)
@@ -74,7 +74,7 @@ module _ (p k : ℕ) where
     abbrev added : ℕ → ℕ → (ℕ → List ℕ) → ℕ → List ℕ
     added q t hold r = cond (eqb q r) (hold r ++ (t ∷ [])) (hold r)
 
-    filled-join : (hold : ℕ → List ℕ) (o t : ℕ) (m : Mem) → o < p → suc (length (hold (ringNumber p o o))) < k → Filled hold m
+    filled-join : (hold : ℕ → List ℕ) (o t : ℕ) (m : Mem) → o < p → length (hold (ringNumber p o o)) < k → Filled hold m
         → Filled (added (ringNumber p o o) t hold) (written (join p k o o t m) m)
     unfolding written updated
     filled-join hold o t m h room f =
@@ -88,7 +88,7 @@ module _ (p k : ℕ) where
         own = f .rings (ringNumber p o o) (place-lt p p o o h h)
 
         small : endsIn m (ringNumber p o o) .tail < k
-        small = rw (own .ends) (omega (arith, room))
+        small = rw (own .ends) (mod-lt (length (hold (ringNumber p o o))) (omega (arith, room)))
 
         at : (r : ℕ) → r < p * p → Told (eqb (ringNumber p o o) r) (ringNumber p o o ≡ r) (¬ (ringNumber p o o ≡ r))
             → Holds k (λ t. getD given t 0) (written (join p k o o t m) m) r (added (ringNumber p o o) t hold r)
@@ -98,7 +98,7 @@ module _ (p k : ℕ) where
         at r l (told-false e n) = rw e (join-other p k o o t m (λ t. getD given t 0) (hold r) r small (λ s. n (sym s)) (f .rings r l))
 
     filled-placed : (n : ℕ) (ts : List ℕ) (hold : ℕ → List ℕ) (m : Mem) → 0 < p
-        → ((q : ℕ) → q < p * p → length (hold q) + length (toRing p q n ts) < k)
+        → ((q : ℕ) → q < p * p → length (hold q) + length (toRing p q n ts) ≤ k)
         → Filled hold m → Filled (λ q. hold q ++ toRing p q n ts) (rootsPlaced p k n ts m)
     unfolding rootsPlaced toRing
     filled-placed n [] hold m h room f = filled-same hold (λ q. hold q ++ []) m (λ q. append-nil (hold q)) f
@@ -113,7 +113,7 @@ module _ (p k : ℕ) where
         regroup : (q : ℕ) → hold q ++ toRing p q n (t ∷ ts) ≡ added o t hold q ++ toRing p q (n + 1) ts
         regroup q = regrouped (eqb o q) (hold q) t (toRing p q (n + 1) ts)
 
-        still : (q : ℕ) → q < p * p → length (added o t hold q) + length (toRing p q (n + 1) ts) < k
+        still : (q : ℕ) → q < p * p → length (added o t hold q) + length (toRing p q (n + 1) ts) ≤ k
         still q l =
             omega (
               arith,
@@ -123,14 +123,14 @@ module _ (p k : ℕ) where
               length-append (added o t hold q) (toRing p q (n + 1) ts),
             )
 
-        own : length (hold o) + suc (length (toRing p o (n + 1) ts)) < k
+        own : length (hold o) + suc (length (toRing p o (n + 1) ts)) ≤ k
         own = rw (eq-eqb o o refl) at (room o (place-lt p p (n % p) (n % p) (mod-lt n h) (mod-lt n h)))
 
 cond-of : (f : List ℕ → ℕ) (b : Bool) (l : List ℕ) → f (cond b l []) ≡ cond b (f l) (f [])
 cond-of f true l = refl
 cond-of f false l = refl
 
-module _ (p k : ℕ) (m : Mem) (lengths : Lengths p k m) (sound : Sound (graphIn m)) where
+module _ (p k : ℕ) (m : Mem) (lengths : Lengths p k m) (sound : Sound (graphIn m)) (slots : 0 < k) where
   cleared-filled : Filled p k (m .weights) (λ q. []) (cleared m)
   unfolding cleared
   cleared-filled =
@@ -141,7 +141,7 @@ module _ (p k : ℕ) (m : Mem) (lengths : Lengths p k m) (sound : Sound (graphIn
             record {
               ends = none q;
               slot = λ x hx. zeros (length (m .rings)) (slotAt k q x);
-              items = queue-cleared 0 k (ringsIn (cleared m)) q (none q);
+              items = queue-cleared 0 k (ringsIn (cleared m)) q slots (none q);
               counter = getD-replicate (length (m .counters)) q (pos 0) (pos 0) (omega (arith, h, lengths .list list.counters)) ∙ ap pos (sym (sumOf-nil (weightIn m)));
             };
       }
@@ -161,10 +161,10 @@ module _ (p k : ℕ) (m : Mem) (lengths : Lengths p k m) (sound : Sound (graphIn
       long list.run = length-replicate _ _ ∙ lengths .list list.run
       long list.rows = length-replicate _ _ ∙ lengths .list list.rows
 
-      none : (q : ℕ) → endsIn (cleared m) q ≡ filledEnds 0
-      none q = ends-cleared (replicate (length (m .ends)) 0) q (zeros (length (m .ends)) (q * 2)) (zeros (length (m .ends)) (q * 2 + 1))
+      none : (q : ℕ) → endsIn (cleared m) q ≡ filledEnds k 0
+      none q = ends-cleared (replicate (length (m .ends)) 0) q k slots (zeros (length (m .ends)))
 
-  module _ (one : 1 ≤ p) (two : 2 ≤ k) (few : length (roots (graphIn m)) ≤ p * capacity k) where
+  module _ (one : 1 ≤ p) (few : length (roots (graphIn m)) ≤ p * capacity k) where
     abbrev rs : List ℕ
     rs = roots (graphIn m)
 
@@ -175,7 +175,7 @@ module _ (p k : ℕ) (m : Mem) (lengths : Lengths p k m) (sound : Sound (graphIn
     unfolding begun
     begun-filled =
         filled-placed p k (m .weights) 0 rs (λ q. []) (cleared m) one
-        (λ q h. omega (arith, to-fits p one k q rs (omega (arith, two)) few))
+        (λ q h. omega (arith, to-fits p one k q rs few))
         cleared-filled
 
     at : (i j : ℕ) → i < p → j < p → Holds k (weightIn m) b (ringNumber p i j) (toRing p (ringNumber p i j) 0 rs)
@@ -192,7 +192,7 @@ module _ (p k : ℕ) (m : Mem) (lengths : Lengths p k m) (sound : Sound (graphIn
         go : Dec (q < p * p) → _≡_ {A = ℕ} (endsIn b q .head) 0
         go (yes h) = ap (λ (e : Ends). e .head) (begun-filled .rings q h .ends)
         go (no n) =
-            List·getD-eq-default (b .ends) 0 {n = q * 2}
+            List·getD-eq-default (b .ends) 0 {n = q * endWords}
             (omega (arith, n, begun-filled .lengths .list list.ends))
 
     begun-laid-down : LaidDown p k m b
@@ -212,7 +212,12 @@ module _ (p k : ℕ) (m : Mem) (lengths : Lengths p k m) (sound : Sound (graphIn
               at i j hi hj .counter ∙ ap (λ (l : List ℕ). pos (sumOf (weightIn m) l)) (to-other p one i j 0 rs hj n) ∙ ap pos (sumOf-nil (weightIn m));
           head = heads;
           tail = λ i j hi hj.
-              ap (λ (e : Ends). e .tail) (at i j hi hj .ends) ∙ ap length (to-any p one i j 0 rs hi hj) ∙ cond-of length (eqb i j) (rootsOf p i m);
+              ap (λ (e : Ends). e .tail) (at i j hi hj .ends)
+              ∙ ap (λ (l : List ℕ). length l % k) (to-any p one i j 0 rs hi hj)
+              ∙ cond-of (λ l. length l % k) (eqb i j) (rootsOf p i m)
+              ∙ ap (cond (eqb i j) (length (rootsOf p i m) % k)) (mod-eq-of-lt slots);
+          count = λ i j hi hj.
+              ap (λ (e : Ends). e .count) (at i j hi hj .ends) ∙ ap length (to-any p one i j 0 rs hi hj) ∙ cond-of length (eqb i j) (rootsOf p i m);
           slot = λ i j x hi hj hx.
               at i j hi hj .slot x hx
               ∙ ap (λ (l : List ℕ). getD l x 0) (to-any p one i j 0 rs hi hj)
@@ -248,7 +253,7 @@ module _ (limits : Limits) (p k : ℕ) (m : Mem) (e : answerSays (begin limits p
   unfolding begin
   laid-down =
       let (f, g, few) = begin-accepted limits p k m .0 e in
-      rw (accepted-begun (beginAnswer limits p k m) p k m e) (begun-laid-down p k m (f .lengths) (fits-sound g) (f .limits .oneWorker) (f .limits .twoSlots) (rw (length-roots (graphIn m), capacity-is k) few))
+      rw (accepted-begun (beginAnswer limits p k m) p k m e) (begun-laid-down p k m (f .lengths) (fits-sound g) (omega (arith, f .limits .twoSlots)) (f .limits .oneWorker) (rw (length-roots (graphIn m), capacity-is k) few))
 
   -- the successor table is the predecessor table reversed, "each task's successors rising": t is among u's successors exactly as often as u is among t's
   -- predecessors, each successor is a task, and u's successors rise

@@ -1,12 +1,12 @@
 -- Laws of a list dealt out to p workers.
 use Prim.Native.Nat.{ℕ, zero, suc, _+_, _-_, _*_, _%_, _≤_, _<_}
 use mathlib.Core.Path.{_≡_, refl, sym, ap, _∙_}
-use mathlib.Core.Bool.{false, cond}
+use mathlib.Core.Bool.{Bool, true, false, cond}
 use mathlib.Core.Logic.{_⊎_, inl, inr}
-use mathlib.Core.List.{List, [], _∷_}
+use mathlib.Core.List.{List, [], _∷_, _++_}
 use native.Mathlib.Omega.{arith}
 use native.Mathlib.Decide.{ℕ-discrete, decLt}
-use native.Mathlib.Nat.{mod-lt, mod-eq-of-lt, mod-add-mod, add-mod-right, mul-comm, lt-of-mul-lt-mul-right, suc-mul}
+use native.Mathlib.Nat.{add-zero, mod-lt, mod-eq-of-lt, mod-add-mod, add-mod-right, mul-comm, lt-of-mul-lt-mul-right, suc-mul}
 use lib.Dec.{eqb}
 use lib.ListN.{length}
 use borrow.Author.Tests.{eq-eqb, ne-eqb}
@@ -19,14 +19,9 @@ use Rattle.lists.proofs.Told.{Told, same-told, told-true, told-false}
 use Rattle.lists.proofs.Places.{place-same}
 use Rattle.lists.proofs.Circles.{mod-far}
 use Rattle.ring.specs.Ring.{capacity}
-use Rattle.ring.proofs.Ends.{capacity-suc}
+use Rattle.ring.proofs.Ends.{capacity-is}
 use Rattle.rules.specs.Memory.{ringNumber}
-use Rattle.rules.specs.Begun.{dealt}
-
--- the members of a list, counted from n, that go to ring q: number n goes to the ring of owner and filler n modulo p
-unfoldable pub toRing : ℕ → ℕ → ℕ → List ℕ → List ℕ
-toRing p q n [] = []
-toRing p q n (t ∷ ts) = cond (eqb (ringNumber p (n % p) (n % p)) q) (t ∷ toRing p q (n + 1) ts) (toRing p q (n + 1) ts)
+use Rattle.rules.specs.Begun.{dealt, toRing}
 
 module _ (p : ℕ) (positive : 0 < p) where
   -- ring (i, i) gets what is dealt to i, another ring nothing
@@ -97,17 +92,44 @@ module _ (p : ℕ) (positive : 0 < p) where
       (omega (arith, length-dealt i (n + 1) d ts (omega (arith, h)) (ap (λ (x : ℕ). x % p) (omega arith) ∙ e)))
 
   -- a ring has room for each worker's share of p times its capacity
-  dealt-fits : (k i : ℕ) (ts : List ℕ) → 1 ≤ k → i < p → length ts ≤ p * capacity k → length (dealt p i 0 ts) < k
-  dealt-fits k i ts one h few =
-      lt-of-mul-lt-mul-right p
-      (omega (
-        arith,
-        few,
-        length-dealt i 0 i ts h (ap (λ (x : ℕ). x % p) (omega arith) ∙ mod-eq-of-lt h),
-        mul-comm p (capacity k),
-        suc-mul (capacity k) p,
-        ap (λ (x : ℕ). x * p) (capacity-suc k one),
-      ))
+  dealt-fits : (k i : ℕ) (ts : List ℕ) → i < p → length ts ≤ p * capacity k → length (dealt p i 0 ts) ≤ k
+  dealt-fits k i ts h few = omega (arith, below)
+    where
+      below : length (dealt p i 0 ts) < suc k
+      below =
+          lt-of-mul-lt-mul-right p
+          (omega (
+            arith,
+            few,
+            length-dealt i 0 i ts h (ap (λ (x : ℕ). x % p) (omega arith) ∙ mod-eq-of-lt h),
+            ap (λ (x : ℕ). p * x) (capacity-is k),
+            mul-comm p k,
+            suc-mul k p,
+          ))
+
+  -- one member more: it goes to its own ring
+  pub to-snoc : (q n : ℕ) (ts : List ℕ) (t : ℕ)
+      → length (toRing p q n (ts ++ (t ∷ [])))
+      ≡ length (toRing p q n ts) + cond (eqb (ringNumber p ((n + length ts) % p) ((n + length ts) % p)) q) 1 0
+  unfolding toRing
+  to-snoc q n [] t = rw (add-zero n) (go (eqb (ringNumber p (n % p) (n % p)) q))
+    where
+      go : (b : Bool) → length (cond b (t ∷ []) []) ≡ 0 + cond b 1 0
+      go true = refl
+      go false = refl
+  to-snoc q n (x ∷ ts) t = go (eqb (ringNumber p (n % p) (n % p)) q) (to-snoc q (n + 1) ts t ∙ ap added (omega arith))
+    where
+      added : ℕ → ℕ
+      added m = length (toRing p q (n + 1) ts) + cond (eqb (ringNumber p (m % p) (m % p)) q) 1 0
+
+      here : ℕ
+      here = cond (eqb (ringNumber p ((n + suc (length ts)) % p) ((n + suc (length ts)) % p)) q) 1 0
+
+      go : (b : Bool) → length (toRing p q (n + 1) (ts ++ (t ∷ []))) ≡ added (n + suc (length ts))
+          → length (cond b (x ∷ toRing p q (n + 1) (ts ++ (t ∷ []))) (toRing p q (n + 1) (ts ++ (t ∷ []))))
+          ≡ length (cond b (x ∷ toRing p q (n + 1) ts) (toRing p q (n + 1) ts)) + here
+      go true rest = ap suc rest ∙ omega arith
+      go false rest = rest
 
   -- nothing goes to a ring whose owner doesn't fill it
   to-own-alone : (q n : ℕ) (ts : List ℕ) → (toRing p q n ts ≡ []) ⊎ ((i : ℕ) × (i < p) × (q ≡ ringNumber p i i))
@@ -124,9 +146,9 @@ module _ (p : ℕ) (positive : 0 < p) where
       go (told-false e m) (inl r) = inl (rw (e, r))
       go (told-false e m) (inr r) = inr r
 
-  pub to-fits : (k q : ℕ) (ts : List ℕ) → 1 ≤ k → length ts ≤ p * capacity k → length (toRing p q 0 ts) < k
-  to-fits k q ts one few = go (to-own-alone q 0 ts)
+  pub to-fits : (k q : ℕ) (ts : List ℕ) → length ts ≤ p * capacity k → length (toRing p q 0 ts) ≤ k
+  to-fits k q ts few = go (to-own-alone q 0 ts)
     where
-      go : (toRing p q 0 ts ≡ []) ⊎ ((i : ℕ) × (i < p) × (q ≡ ringNumber p i i)) → length (toRing p q 0 ts) < k
-      go (inl e) = rw e one
-      go (inr (i, h, e)) = rw (e, to-own i 0 ts h) (dealt-fits k i ts one h few)
+      go : (toRing p q 0 ts ≡ []) ⊎ ((i : ℕ) × (i < p) × (q ≡ ringNumber p i i)) → length (toRing p q 0 ts) ≤ k
+      go (inl e) = rw e (omega arith)
+      go (inr (i, h, e)) = rw (e, to-own i 0 ts h) (dealt-fits k i ts h few)

@@ -1,22 +1,21 @@
 -- What the words of the rings are after a task has joined one of them, where each ring was filled from its first slot on.
-use Prim.Native.Nat.{ℕ, suc, _+_, _*_, _≤_, _<_}
+use Prim.Native.Nat.{ℕ, _+_, _*_, _≤_, _<_}
 use mathlib.Core.Path.{_≡_, refl, sym, ap, _∙_}
 use mathlib.Core.List.{List, [], _∷_, _++_}
 use native.Mathlib.Omega.{arith}
 use native.Mathlib.Decide.{ℕ-discrete}
+use native.Mathlib.Nat.{mod-eq-of-lt}
 use lib.IntN.{pos}
 use lib.ListN.{length, getD, length-append}
 use lib.Seq.{getD-set-same, getD-set-other, getD-append-seam}
-use Rattle.lists.specs.Circles.{after}
 use Rattle.lists.specs.Sums.{sumOf}
 use Rattle.lists.proofs.Sums.{sumOf-single, sumOf-append}
 use Rattle.lists.proofs.Appends.{getD-snoc-other}
 use Rattle.lists.proofs.Places.{place-end, place-same}
-use Rattle.lists.proofs.Circles.{after-up}
 use Rattle.task.specs.declared.Ends.{Ends}
-use Rattle.ring.specs.Ring.{endWords, slotAt, tailOn, Sound, Full, queue, appendedAt}
-use Rattle.ring.proofs.Ends.{capacity-suc, ends-stored, ends-other}
-use Rattle.ring.proofs.Queues.{queue-full, queue-append, queue-append-other}
+use Rattle.ring.specs.Ring.{endWords, slotAt, tailOn, Sound, Full, queue, appendedAt, filledEnds}
+use Rattle.ring.proofs.Ends.{ends-stored, ends-other, filled-sound, filled-append}
+use Rattle.ring.proofs.Queues.{queue-append, queue-append-other}
 use Rattle.memory.specs.Field as list
 use Rattle.memory.specs.Updates.{updated, written}
 use Rattle.memory.proofs.Shape.{written-shaped}
@@ -24,13 +23,9 @@ use Rattle.rules.specs.Memory.{Mem, ringNumber, ringsIn, endsIn, counter
 use Rattle.rules.specs.Sizes.{Lengths}
 use Rattle.rules.specs.Steps.{join}
 
--- a ring whose first n slots are taken
-abbrev pub filledEnds : ℕ → Ends
-filledEnds n = record { head = 0; tail = n }
-
 -- ring q holds the list from its first slot on, its other slots are 0, and its counter is the list's weight
 pub record Holds (k : ℕ) (weight : ℕ → ℕ) (m : Mem) (q : ℕ) (l : List ℕ) : Type 0 where
-  pub ends : endsIn m q ≡ filledEnds (length l)
+  pub ends : endsIn m q ≡ filledEnds k (length l)
   pub slot : (x : ℕ) → x < k → getD (m .rings) (slotAt k q x) 0 ≡ getD l x 0
   pub items : queue 0 k (ringsIn m) q ≡ l
   pub counter : counterIn m q ≡ pos (sumOf weight l)
@@ -52,12 +47,12 @@ module _ (p k o i t : ℕ) (m : Mem) where
   join-lengths = written-shaped p k (join p k o i t m) m
 
   -- the ring that it joins
-  pub join-own : (weight : ℕ → ℕ) (l : List ℕ) → Lengths p k m → q < p * p → weightIn m t ≡ weight t → suc (length l) < k
+  pub join-own : (weight : ℕ → ℕ) (l : List ℕ) → Lengths p k m → q < p * p → weightIn m t ≡ weight t → length l < k
       → Holds k weight m q l → Holds k weight next q (l ++ (t ∷ []))
   unfolding written updated tailOn slotAt
   join-own weight l lengths h w room r =
       record {
-        ends = ends-stored (m .ends) q (tailOn k (endsIn m q)) ends-room ∙ rw (r .ends, moved, length-append l (t ∷ []));
+        ends = ends-stored (m .ends) q (tailOn k (endsIn m q)) ends-room ∙ rw (r .ends, filled-append k (length l), length-append l (t ∷ []));
         slot = λ x hx. slots x hx (ℕ-discrete x (length l));
         items = rw join-appends (queue-append 0 k (ringsIn m) q t sound free slots-room ends-room ∙ ap (λ (s : List ℕ). s ++ (t ∷ [])) (r .items));
         counter =
@@ -65,11 +60,8 @@ module _ (p k o i t : ℕ) (m : Mem) where
             ∙ rw (r .counter, w, sumOf-append weight l (t ∷ []), sumOf-single weight t);
       }
     where
-      moved : after k (length l) ≡ length l + 1
-      moved = after-up k (length l) (omega (arith, room))
-
       tail-is : endsIn m q .tail ≡ length l
-      tail-is = ap (λ (e : Ends). e .tail) (r .ends)
+      tail-is = ap (λ (e : Ends). e .tail) (r .ends) ∙ mod-eq-of-lt room
 
       ends-room : q * endWords + endWords ≤ length (m .ends)
       ends-room = rw (lengths .list list.ends) (omega (arith, h))
@@ -78,10 +70,10 @@ module _ (p k o i t : ℕ) (m : Mem) where
       slots-room = rw (lengths .list list.rings) (place-end k (p * p) q h)
 
       sound : Sound k (endsIn m q)
-      sound = rw (r .ends) (omega (arith, room), omega (arith, room))
+      sound = rw (r .ends) (filled-sound k (length l) (omega (arith, room)) (omega (arith, room)))
 
       free : ¬ (Full k (endsIn m q))
-      free f = omega (arith, room, queue-full 0 k (ringsIn m) q sound .0 f, ap length (r .items), capacity-suc k (omega (arith, room)))
+      free f = omega (arith, room, f, ap (λ (e : Ends). e .count) (r .ends))
 
       slots : (x : ℕ) → x < k → Dec (x ≡ length l) → getD (next .rings) (slotAt k q x) 0 ≡ getD (l ++ (t ∷ [])) x 0
       slots x hx (yes e) =

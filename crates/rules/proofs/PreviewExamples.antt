@@ -1,12 +1,12 @@
 -- PROMISE: the preview's limits in one table, each answer beside the engine's.
-use Prim.Native.Nat.{ℕ, suc, _+_, _-_, _<_}
+use Prim.Native.Nat.{ℕ, suc, _+_, _-_, _≤_, _<_}
 use mathlib.Core.Path.{_≡_, refl, sym, ap, _∙_}
 use mathlib.Core.Bool.{true, _&&_}
 use mathlib.Core.Logic.{inl, inr}
 use mathlib.Core.List.{List, [], _∷_}
 use native.Mathlib.Omega.{arith}
 use native.Mathlib.Decide.{ℕ-discrete, decLe, decLt}
-use lib.ListN.{length, getD, replicate, length-replicate, getD-replicate}
+use lib.ListN.{length, getD, take, replicate, length-replicate, getD-replicate}
 use lib.Seq.{take-nil, drop-nil}
 use Rattle.lists.specs.Decided.{firstBelow}
 use Rattle.lists.specs.Lists.{occ, occOf, joined, tabulate, allOf}
@@ -18,6 +18,9 @@ use Rattle.lists.proofs.Told.{neither, told-yes}
 use Rattle.task.specs.Types.{engine, preview, capped}
 use Rattle.task.specs.Phases.{nextPhase}
 use Rattle.task.specs.Refusals.{Said, refused, accepted, taskFetched, degreeLeft, taskPlaced, answerSays, stepSays}
+use Rattle.task.specs.Rows.{Given, Clear, Acceptance}
+use Rattle.task.specs.declared.Answer.{Answer}
+use Rattle.task.specs.declared.Answer.the-variants.{Refused, Accepted}
 use Rattle.task.specs.declared.Limits.{Limits}
 use Rattle.task.specs.declared.Step.{Step}
 use Rattle.task.specs.declared.Step.the-variants.{Fetch, Start, Complete, Release}
@@ -39,7 +42,7 @@ use Rattle.rules.specs.Plans.{counted, carriedOut}
 use Rattle.rules.specs.Steps.{scan, fetchTask, fetchFrom, fetchRule, startRule, completeSink, completeInner, completeRule, advanced, findRoom, releaseTo, releaseReady, releaseWaiting, releaseRule, ruleOf, stepPlan, step}
 use Rattle.rules.specs.Begin.{cleared, rootsPlaced, begun, rootsAnswer, beginAnswer, begin}
 use Rattle.rules.specs.Desk.{turn, turns}
-use Rattle.rules.specs.Tables.{rootCount}
+use Rattle.rules.specs.Tables.{rootCount, beginRows}
 use Rattle.rules.proofs.Headers.{lengths-are, limits-told}
 use Rattle.rules.proofs.Begin.{begin-follows}
 use Rattle.rules.proofs.Examples.{lent, short, fresh, Call, by, diamond, diamondLeft}
@@ -76,7 +79,7 @@ root p k = lent p k (1 ∷ []) (0 ∷ 0 ∷ []) []
 abbrev pub begunRoot : ℕ → ℕ → Mem
 begunRoot p k = fresh p k (root p k)
 
--- Within the limits more than 28 such tasks are more than P·(K−1) roots: proved, as a search for cycles among 128 tasks can't be computed.
+-- Within the limits P·K roots are 32 such tasks: proved, as a search for cycles among so many tasks can't be computed.
 module _ (n : ℕ) where
   abbrev here : Graph
   here = graphIn (loose n)
@@ -106,31 +109,49 @@ module _ (n : ℕ) where
   ends-fit : (t : ℕ) → ¬ (¬ (_≡_ {A = ℕ} (getD (replicate (suc n) 0) t 0) 0))
   ends-fit t f = f (zeros (suc n) t)
 
-  too-many-roots : (l : Limits) → numbersFit l 4 8 && sizesFit l (length (loose n .weights)) 0 ≡ true → lengthsFit 4 8 (loose n) ≡ true → rootCount (loose n) ≡ n → 28 < n
-      → answerSays (begin l 4 8 (loose n) .answer) ≡ refused 6 n
-  too-many-roots l within fit many more =
-      begin-follows l 4 8 (loose n) .refuses 6 n .1
-      (inr (
-        λ d c. neither (told-yes (limits-told l 4 8 (loose n)) within) all-light (c .1),
-        inr (
-          λ d c. c .1 (lengths-are 4 8 (loose n) fit),
-          inr (
-            λ d c. c .such .1 (all-good d),
-            inr (
-              λ d c. neither (ends-fit 0) (ends-fit (length (loose n .weights))) (c .1),
-              inr (
-                λ d c. omega (arith, c .such .1 .1, no-edge (c .such .1 .0) d),
-                inr (
-                  λ d c. no-path d d (c .such),
-                  inl (refl, (sym many, omega (arith, many, more))),
-                ),
+  module _ (l : Limits) (within : numbersFit l 4 8 && sizesFit l (length (loose n .weights)) 0 ≡ true) (fit : lengthsFit 4 8 (loose n) ≡ true)
+      (many : rootCount (loose n) ≡ n) where
+    -- no row before 6 holds
+    rows-passed : Clear (take 6 (beginRows l 4 8 (loose n)))
+    rows-passed = (
+      λ d c. neither (told-yes (limits-told l 4 8 (loose n)) within) all-light (c .1),
+      (
+        λ d c. c .1 (lengths-are 4 8 (loose n) fit),
+        (
+          λ d c. c .such .1 (all-good d),
+          (
+            λ d c. neither (ends-fit 0) (ends-fit (length (loose n .weights))) (c .1),
+            (
+              λ d c. omega (arith, c .such .1 .1, no-edge (c .such .1 .0) d),
+              (
+                λ d c. no-path d d (c .such),
+                tt,
               ),
             ),
           ),
         ),
-      ))
+      ),
+    )
+
+    too-many-roots : 32 < n → answerSays (begin l 4 8 (loose n) .answer) ≡ refused 6 n
+    too-many-roots more = begin-follows l 4 8 (loose n) .refuses 6 n .1 (last rows-passed)
+      where
+        last : Clear (take 6 (beginRows l 4 8 (loose n))) → Given (beginRows l 4 8 (loose n)) 6 n
+        last (a, (b, (c, (d, (e, (f, _)))))) = inr (a, inr (b, inr (c, inr (d, inr (e, inr (f, inl (refl, (sym many, omega (arith, many, more)))))))))
+
+    all-roots : n ≤ 32 → answerSays (begin l 4 8 (loose n) .answer) ≡ accepted
+    all-roots few = told (begin l 4 8 (loose n) .answer) (begin-follows l 4 8 (loose n) .accepts .1 (all rows-passed))
+      where
+        all : Clear (take 6 (beginRows l 4 8 (loose n))) → Clear (beginRows l 4 8 (loose n))
+        all (a, (b, (c, (d, (e, (f, _)))))) = (a, (b, (c, (d, (e, (f, (λ x h. omega (arith, h .1, many, few), tt)))))))
+
+        told : (a : Answer) → Acceptance (answerSays a) → answerSays a ≡ accepted
+        told Accepted h = refl
+        told (Refused x y) h = absurd h
 
 pub record PreviewExamples : Type 0 where
+  -- "The roots' limit becomes P·K": 32 and 33
+  pub rootsHeld : (beginsBeside 4 8 (loose 32) ≡ (accepted, accepted)) × (beginsBeside 4 8 (loose 33) ≡ (refused 6 33, refused 6 33))
   -- N 128 and 129
   pub tasks : (beginsBeside 4 8 (loose 128) ≡ (refused 6 128, refused 6 128)) × (beginsBeside 4 8 (loose 129) ≡ (refused 2 0, refused 6 129))
   pub tasksStep : (stepsBeside 4 8 4 Fetch (loose 128) ≡ (refused 7 4, refused 7 4)) × (stepsBeside 4 8 4 Fetch (loose 129) ≡ (refused 2 0, refused 7 4))
@@ -168,6 +189,10 @@ pub preview-examples : PreviewExamples
 unfolding ℕ-discrete decLe decLt firstBelow occOf joined tabulate allOf sumTo after around capped nextPhase part sizesFit firstBad firstTwice firstOnCycle tablesAnswer checkAnswer below? among? light? good? bad? endsFit? twice? twiceIn? find-twice edge? thru? path? leads? onCycle? succsBelow succStart succStarts succWords degreeList roots capacity slotAt endsAt storeEnds sound empty full headOn tailOn sumToZ load leastFrom least search allSteps allEntries numbersFit allFit othersFit lengthsFit countersFit storeWords updated written counted carriedOut scan fetchTask fetchFrom fetchRule startRule completeSink completeInner completeRule advanced findRoom releaseTo releaseReady releaseWaiting releaseRule ruleOf stepPlan step cleared rootsPlaced begun rootsAnswer beginAnswer begin turn turns answersAt
 preview-examples =
     record {
+      rootsHeld = (
+        together (all-roots 32 preview refl refl refl (omega arith)) (all-roots 32 engine refl refl refl (omega arith)),
+        together (too-many-roots 33 preview refl refl refl (omega arith)) (too-many-roots 33 engine refl refl refl (omega arith)),
+      );
       tasks = (
         together (too-many-roots 128 preview refl refl refl (omega arith)) (too-many-roots 128 engine refl refl refl (omega arith)),
         together refl (too-many-roots 129 engine refl refl refl (omega arith)),

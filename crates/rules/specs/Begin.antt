@@ -40,7 +40,7 @@ rootsPlaced p k n (t ∷ ts) m = rootsPlaced p k (n + 1) ts (written (join p k (
 unfoldable pub begun : ℕ → ℕ → Mem → Mem
 begun p k m = rootsPlaced p k 0 (roots (graphIn m)) (cleared m)
 
--- 6: "more than P·(K−1) roots"; the detail is "their number"
+-- 6: "The roots' limit becomes P·K."; the detail is "their number"
 unfoldable pub rootsAnswer : ℕ → ℕ → Mem → Answer
 rootsAnswer p k m = refusedIf (ltb (p * capacity k) (length (roots (graphIn m)))) tooManyRoots (length (roots (graphIn m))) Accepted
 

@@ -18,6 +18,11 @@ unfoldable pub dealt : ℕ → ℕ → ℕ → List ℕ → List ℕ
 dealt p i n [] = []
 dealt p i n (t ∷ ts) = cond (eqb (n % p) i) (t ∷ dealt p i (n + 1) ts) (dealt p i (n + 1) ts)
 
+-- the members of a list, counted from n, that go to ring q: number n goes to the ring of owner and filler n modulo p
+unfoldable pub toRing : ℕ → ℕ → ℕ → List ℕ → List ℕ
+toRing p q n [] = []
+toRing p q n (t ∷ ts) = cond (eqb (ringNumber p (n % p) (n % p)) q) (t ∷ toRing p q (n + 1) ts) (toRing p q (n + 1) ts)
+
 -- the roots that go to worker i, rising: "root number m, from 0, goes to the ring of owner and filler m mod P"
 abbrev pub rootsOf : ℕ → ℕ → Mem → List ℕ
 rootsOf p i m = dealt p i 0 (roots (graphIn m))
@@ -40,10 +45,11 @@ pub record LaidDown (p k : ℕ) (m b : Mem) : Type 0 where
   -- "and its weight to that counter"; the other counters are zeroed
   pub ownCounter : (i : ℕ) → i < p → counterIn b (ringNumber p i i) ≡ pos (sumOf (weightIn m) (rootsOf p i m))
   pub otherCounter : (i j : ℕ) → i < p → j < p → ¬ (i ≡ j) → counterIn b (ringNumber p i j) ≡ pos 0
-  -- of the ends all words are zeroed but the tails of rings (i, i), each past its last root; of the rings all but the slots that
-  -- hold the roots
+  -- of the ends all words are zeroed but the tails of rings (i, i), each past its last root, modulo K, and their counts; of the rings all
+  -- but the slots that hold the roots
   pub head : (q : ℕ) → _≡_ {A = ℕ} (endsIn b q .head) 0
-  pub tail : (i j : ℕ) → i < p → j < p → endsIn b (ringNumber p i j) .tail ≡ cond (eqb i j) (length (rootsOf p i m)) 0
+  pub tail : (i j : ℕ) → i < p → j < p → endsIn b (ringNumber p i j) .tail ≡ cond (eqb i j) (length (rootsOf p i m) % k) 0
+  pub count : (i j : ℕ) → i < p → j < p → endsIn b (ringNumber p i j) .count ≡ cond (eqb i j) (length (rootsOf p i m)) 0
   pub slot : (i j x : ℕ) → i < p → j < p → x < k → getD (b .rings) (slotAt k (ringNumber p i j) x) 0 ≡ cond (eqb i j) (getD (rootsOf p i m) x 0) 0
   pub buffers : b .buffers ≡ replicate (length (m .buffers)) 0
   pub executed : b .executed ≡ replicate (length (m .executed)) 0

@@ -43,7 +43,7 @@ pub record Fetches (p k i : ℕ) (m : Mem) (o : StepOutcome) (us : List Update) 
   pub outcome : o ≡ Fetched (record { 0 = task })
   -- "the slot's word stays. .. The pointer becomes the ring after, modulo P."
   pub updates : us
-      ≡ putEnds ring (record { head = (endsIn m ring .head + 1) % k; tail = endsIn m ring .tail })
+      ≡ putEnds ring (record { head = (endsIn m ring .head + 1) % k; tail = endsIn m ring .tail; count = endsIn m ring .count - 1 })
       ∷ putHand i 1 task
       ∷ putPointer i ((filler + 1) % p)
       ∷ []
@@ -148,7 +148,7 @@ pub record ReleasesPlaced (p k i : ℕ) (m : Mem) (o : StepOutcome) (us : List U
       ≡ putDegree (successor m i) 0
       ∷ putPlaces i to
       ∷ putSlot (slotAt k ring (endsIn m ring .tail)) (successor m i)
-      ∷ putEnds ring (record { head = endsIn m ring .head; tail = (endsIn m ring .tail + 1) % k })
+      ∷ putEnds ring (record { head = endsIn m ring .head; tail = (endsIn m ring .tail + 1) % k; count = endsIn m ring .count + 1 })
       ∷ putCounter ring (counterIn m ring +ℤ pos (weightIn m (successor m i)))
       ∷ []
 

@@ -51,8 +51,8 @@ beginRows limits p k m =
     ∷ row duplicate (Smallest (λ t. (t < tasks m) × Twice (graphIn m) t))
     -- 5: "a cycle, a loop on one task included", "smallest task on any cycle"
     ∷ row cycle (Smallest (OnCycle (graphIn m)))
-    -- 6: "more than P·(K−1) roots", "their number"
-    ∷ row tooManyRoots (only (rootCount m) (p * (k - 1) < rootCount m))
+    -- 6: more roots than "The roots' limit becomes P·K", "their number"
+    ∷ row tooManyRoots (only (rootCount m) (p * k < rootCount m))
     ∷ []
 
 -- "counter beyond ±2^30"
@@ -81,7 +81,7 @@ BadAccepted m = 3 * tasks m + edges m ≤ acceptedIn m
 abbrev pub GoesOn : ℕ → (Ends → Type 0) → (ℕ → Ends) → ℕ → Type 0
 GoesOn k Skip ends e = (d : ℕ) → d < e → Sound k (ends d) × Skip (ends d)
 
--- "head or tail ≥ K" at a ring that the search comes to
+-- "head or tail ≥ K", "A count over K, or head plus count not leading to tail modulo K" at a ring that the search comes to
 abbrev pub BadEnds : ℕ → ℕ → (Ends → Type 0) → (ℕ → Ends) → Type 0
 BadEnds p k Skip ends = (e : ℕ) × (e < p) × GoesOn k Skip ends e × ¬ (Sound k (ends e))
 
@@ -107,7 +107,7 @@ abbrev pub fetchRows : ℕ → ℕ → ℕ → Mem → List Refusal
 fetchRows p k i m =
     -- 8: "pointer ≥ P"
     row damaged (only 0 (p ≤ pointerIn m i))
-    -- 8: "head or tail ≥ K", the rings before it being empty
+    -- 8: damaged ends, the rings before it being empty
     ∷ row damaged (only 0 (BadEnds p k Empty (scannedEnds p i m)))
     -- 10: "Fetch: all P rings empty"
     ∷ row nothingThere (only 0 (GoesOn k Empty (scannedEnds p i m) p))
@@ -174,7 +174,7 @@ releaseRows p k i m =
     ∷ row damaged (only 0 ((degreeIn m (successor m i) < 1) ⊎ (tasks m < degreeIn m (successor m i))))
     -- 8: "counter beyond ±2^30", of all P·P, since the target is sought
     ∷ row damaged (only 0 (Ready m i × BadCounter (p * p) (m .counters)))
-    -- 8: "head or tail ≥ K", the rings before it, from the target's on, being full
+    -- 8: damaged ends, the rings before it, from the target's on, being full
     ∷ row damaged (only 0 (Ready m i × ((j : ℕ) × Least (λ h. h < p) (load p (m .counters)) j × BadEnds p k (Full k) (offeredEnds p i m j))))
     -- 11: "Release: degree would be 0 and all P rings filled by this worker are full", "the successor"; "11 comes after the words
     -- that it reads"

@@ -19,7 +19,7 @@ putDegree t d = updates.store list.degrees t d
 abbrev pub putSlot : (place task : ℕ) → Update
 putSlot x t = updates.store list.rings x t
 
--- head and tail of a ring, by its number
+-- head, tail and count of a ring, by its number
 abbrev pub putEnds : (number : ℕ) → Ends → Update
 putEnds q e = updates.store list.ends q e
 

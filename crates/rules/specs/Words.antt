@@ -8,7 +8,7 @@ use lib.Signed.{leZ}
 use Rattle.ring.specs.Ring.{sound}
 use Rattle.rules.specs.Memory.{Mem, tasks, edges, allSteps, allEntries, endsIn, weightIn, firstSucc, pastSucc, succCount, entriesIn, acceptedIn}
 
--- "head or tail ≥ K"
+-- "head or tail ≥ K", "A count over K, or head plus count not leading to tail modulo K"
 abbrev pub endsFit : ℕ → Mem → ℕ → Bool
 endsFit k m q = sound k (endsIn m q)
 

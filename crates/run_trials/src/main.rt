@@ -88,7 +88,7 @@ fn lend(case: &[u32], weights: &[u32], pred_starts: &[u32], preds: &[u32], scrip
     let mut succs = [fill; 8200];
     let mut degrees = [fill; 1032];
     let mut rings = [fill; 16400];
-    let mut ends = [fill; 520];
+    let mut ends = [fill; 776];
     let mut counters = [signed; 260];
     let mut buffers = [fill; 16400];
     let mut executed = [fill; 2056];
@@ -103,7 +103,7 @@ fn lend(case: &[u32], weights: &[u32], pred_starts: &[u32], preds: &[u32], scrip
         &mut succs[..capped(case, 5, 8200)],
         &mut degrees[..capped(case, 6, 1032)],
         &mut rings[..capped(case, 7, 16400)],
-        &mut ends[..capped(case, 8, 520)],
+        &mut ends[..capped(case, 8, 776)],
         &mut counters[..capped(case, 9, 260)],
         &mut buffers[..capped(case, 10, 16400)],
         &mut executed[..capped(case, 11, 2056)],

@@ -89,7 +89,7 @@ pub record Sane (g : Graph) (p : ℕ) (s : State) : Type 0 where
 
 -- the words that are no part of the state
 pub record Words (p k : ℕ) (m : Mem) : Type 0 where
-  -- every head and tail is a slot
+  -- no ring's ends are damaged
   pub ends : (q : ℕ) → q < p * p → Sound k (endsIn m q)
   -- the buffer places are in order, and no more tasks have joined the buffers than are recorded
   pub places : (i : ℕ) → i < p → rowIn m i .read ≤ rowIn m i .write

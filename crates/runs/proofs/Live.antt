@@ -20,7 +20,7 @@ use Rattle.task.specs.Rows.{Acceptance}
 use Rattle.task.specs.declared.Limits.{Limits}
 use Rattle.task.specs.declared.Step.the-variants.{Fetch, Start, Complete}
 use Rattle.task.specs.declared.StepOutcome.the-variants.{Moved, Fetched}
-use Rattle.ring.specs.Ring.{Empty, ringsOf, takenAt, queue}
+use Rattle.ring.specs.Ring.{Empty, endWords, ringsOf, takenAt, queue}
 use Rattle.ring.proofs.Queues.{queue-empty, queue-take}
 use Rattle.choice.specs.Search.{Found, unsound, none, at}
 use Rattle.memory.specs.Field as list
@@ -88,7 +88,7 @@ module _ {limits : Limits} {p k : ℕ} {m : Mem} (h : Honest limits p k m) (i : 
       here : 0 < occ (headWord k m (ringNumber p i j)) (queue 0 k (ringsIn m) (ringNumber p i j))
       here =
           rw (queue-take 0 k (ringsIn m) (ringNumber p i j) (ends-sound h i worker j l) n
-          (rw (h .fits .lengths .list list.ends) (place-end 2 (p * p) (ringNumber p i j) (place-lt p p i j worker l))))
+          (rw (h .fits .lengths .list list.ends) (place-end endWords (p * p) (ringNumber p i j) (place-lt p p i j worker l))))
           (omega (
             arith,
             occ-hit ℕ-discrete (headWord k m (ringNumber p i j)) (headWord k m (ringNumber p i j))

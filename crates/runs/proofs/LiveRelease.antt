@@ -22,7 +22,7 @@ use Rattle.task.specs.declared.Row.{Row}
 use Rattle.task.specs.declared.Step.the-variants.{Release}
 use Rattle.task.specs.declared.StepOutcome.{StepOutcome}
 use Rattle.ring.specs.Ring.{Full}
-use Rattle.ring.proofs.Ends.{capacity-suc}
+use Rattle.ring.proofs.Ends.{capacity-is}
 use Rattle.ring.proofs.Queues.{queue-full}
 use Rattle.choice.specs.Least.{load, least}
 use Rattle.choice.proofs.Least.{least-worker}
@@ -198,7 +198,7 @@ module _ {limits : Limits} {p k : ℕ} {m : Mem} (h : Honest limits p k m) (i : 
       omega (
         arith,
         h .fits .limits .twoSlots,
-        capacity-suc k (omega (arith, h .fits .limits .twoSlots)),
+        capacity-is k,
         sym (queue-full 0 k (ringsIn m) (ringNumber p o i) (ends-sound h o owner i worker) .0 full)
             ∙ ap length (sym (queue-at p k m o i owner worker) ∙ none),
       )

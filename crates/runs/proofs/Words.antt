@@ -1,9 +1,10 @@
 -- The words that are no part of Algorithm 1's state: an accepted begin leaves them as `Words` says, and every accepted step keeps them so.
-use Prim.Native.Nat.{ℕ, _+_, _*_, _≤_, _<_}
+use Prim.Native.Nat.{ℕ, _+_, _*_, _%_, _≤_, _<_}
 use mathlib.Core.Path.{_≡_, refl, sym, ap, _∙_}
 use mathlib.Core.Bool.{cond}
 use mathlib.Core.List.{List}
 use native.Mathlib.Omega.{arith}
+use native.Mathlib.Nat.{mod-eq-of-lt}
 use native.Mathlib.Decide.{ℕ-discrete}
 use lib.ListN.{length, getD, set}
 use lib.Seq.{getD-set-same}
@@ -21,8 +22,8 @@ use Rattle.task.specs.declared.Row.{Row}
 use Rattle.task.specs.declared.Step.{Step}
 use Rattle.task.specs.declared.Step.the-variants.{Fetch, Start, Complete, Release}
 use Rattle.task.specs.declared.StepOutcome.{StepOutcome}
-use Rattle.ring.specs.Ring.{endsAt, storeEnds, Sound, headOn, tailOn, queue}
-use Rattle.ring.proofs.Ends.{stored-sound, sound-append, sound-take, filled-sound}
+use Rattle.ring.specs.Ring.{endsAt, storeEnds, Sound, headOn, tailOn, queue, filledEnds}
+use Rattle.ring.proofs.Ends.{ends-same, stored-sound, sound-append, sound-take, filled-queued}
 use Rattle.ring.proofs.Queues.{length-queue}
 use Rattle.memory.specs.Family.{Places}
 use Rattle.memory.specs.Field as list
@@ -50,12 +51,26 @@ module _ (limits : Limits) (p k : ℕ) (m : Mem) (e : answerSays (begin limits p
   laid : LaidDown p k m b
   laid = laid-down limits p k m e
 
-  begun-tail : (i j : ℕ) → i < p → j < p → endsIn b (ringNumber p i j) .tail ≡ length (queue 0 k (ringsIn b) (ringNumber p i j))
-  begun-tail i j hi hj = laid .tail i j hi hj ∙ go (same-told i j)
+  slots : 0 < k
+  slots = omega (arith, begin-accepted limits p k m .0 e .0 .limits .twoSlots)
+
+  -- each ring is filled from its first slot on with what it holds
+  begun-ends : (i j : ℕ) → i < p → j < p → endsIn b (ringNumber p i j) ≡ filledEnds k (length (queue 0 k (ringsIn b) (ringNumber p i j)))
+  begun-ends i j hi hj =
+      let (tail, count) = go (same-told i j) in
+      ends-same _ _ (laid .head (ringNumber p i j)) (laid .tail i j hi hj ∙ tail) (laid .count i j hi hj ∙ count)
     where
-      go : Told (eqb i j) (i ≡ j) (¬ (i ≡ j)) → cond (eqb i j) (length (rootsOf p i m)) 0 ≡ length (queue 0 k (ringsIn b) (ringNumber p i j))
-      go (told-true t s) = rw (t, sym s) (sym (ap length (laid .own i hi)))
-      go (told-false f n) = rw f (sym (ap length (laid .empty i j hi hj n)))
+      queued : ℕ
+      queued = length (queue 0 k (ringsIn b) (ringNumber p i j))
+
+      go : Told (eqb i j) (i ≡ j) (¬ (i ≡ j))
+          → (cond (eqb i j) (length (rootsOf p i m) % k) 0 ≡ queued % k) × (cond (eqb i j) (length (rootsOf p i m)) 0 ≡ queued)
+      go (told-true t s) = rw (t, sym s) (sym (ap (λ (l : List ℕ). length l % k) (laid .own i hi)), sym (ap length (laid .own i hi)))
+      go (told-false f n) =
+          rw f (
+            sym (ap (λ (l : List ℕ). length l % k) (laid .empty i j hi hj n) ∙ mod-eq-of-lt slots),
+            sym (ap length (laid .empty i j hi hj n)),
+          )
 
   pub begun-words : Words p k b
   begun-words =
@@ -69,9 +84,9 @@ module _ (limits : Limits) (p k : ℕ) (m : Mem) (e : answerSays (begin limits p
       ends : (q : ℕ) → q < p * p → Sound k (endsIn b q)
       ends q h =
           let (i, j, hi, hj, s) = place-parts p p q h in
-          let two : 2 ≤ k = begin-accepted limits p k m .0 e .0 .limits .twoSlots in
           let q′ : ℕ = ringNumber p i j in
-          rw (sym s) (filled-sound k (endsIn b q′) (omega (arith, two)) (laid .head q′) (begun-tail i j hi hj ∙ length-queue 0 k (ringsIn b) q′))
+          rw (sym s, begun-ends i j hi hj)
+          (filled-queued k (length (queue 0 k (ringsIn b) q′)) slots (rw (begun-ends i j hi hj) at (sym (length-queue 0 k (ringsIn b) q′))))
 
 -- what Release does to the places
 advanced-places : {count : ℕ} {r : Row} {to : Places} → r .read < r .write → Advances count r to → (to .read ≤ to .write) × (to .write ≡ r .write)
@@ -94,13 +109,14 @@ module _ (limits : Limits) (p k i : ℕ) (m : Mem) (w : Words p k m) where
   made-ends : (s : Step) (o : StepOutcome) (us : List Update) → Allowed limits p k i s m o us → (f : Made s p k i m o us)
       → (q : ℕ) → q < p * p → Sound k (endsIn (written (withCount m us) m) q)
   unfolding written updated headOn tailOn after
-  made-ends Fetch o us a f = rw (f .updates) (stored a (f .ring) _ (sound-take k (endsIn m (f .ring)) (rw (f .ringIs) (f .stop .sound))))
+  made-ends Fetch o us a f = rw (f .updates) (stored a (f .ring) _ (sound-take k (endsIn m (f .ring)) (rw (f .ringIs) (f .stop .sound)) (rw (f .ringIs) (f .stop .stops))))
   made-ends Start o us a f = rw (f .updates) (w .ends)
   made-ends Complete o us a (sink f) = rw (f .updates) (w .ends)
   made-ends Complete o us a (inner f) = rw (f .updates) (w .ends)
   made-ends Release o us a (waiting f) = rw (f .updates) (w .ends)
   made-ends Release o us a (placed f) =
-      rw (f .updates) (stored a (f .ring) _ (sound-append k (endsIn m (f .ring)) (rw (f .ringIs, f .ownerIs) (f .stop .sound))))
+      rw (f .updates) (stored a (f .ring) _ (sound-append k (endsIn m (f .ring)) (rw (f .ringIs, f .ownerIs) (f .stop .sound))
+      (rw (f .ringIs, f .ownerIs) (f .stop .stops))))
 
   abbrev Ordered : Step → Row → Type 0
   Ordered s row = (row .read ≤ row .write) × (row .write ≤ entriesNext s (rowIn m i .write))

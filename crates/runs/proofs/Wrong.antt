@@ -463,10 +463,10 @@ two-early = early 1 2 (record { task = omega arith; predecessor = omega arith })
 record WrongRuns : Type 0 where
   -- against `next`: root 1 is run, root 0 is in no ring
   forgets-a-root : Stuck forgetsRoot (trial 2 2 twoRoots (runsOne 0)) 10 9 9 10
-  -- against `next`: task 2 is never placed
-  skips-the-last-successor : Stuck skipsLast (trial 1 2 fork (runsOne 0 ++ (by 0 Release ∷ runsOne 0))) 10 9 9 10
-  -- against `next`: the ring holds task 1, and task 2 is lost
-  drops-when-full : Stuck dropsWhenFull (trial 1 2 fork (runsOne 0 ++ (by 0 Release ∷ by 0 Release ∷ runsOne 0))) 10 9 9 10
+  -- against `next`: task 3 is never placed
+  skips-the-last-successor : Stuck skipsLast (trial 1 2 fork (runsOne 0 ++ (by 0 Release ∷ by 0 Release ∷ runsOne 0) ++ runsOne 0)) 10 9 9 10
+  -- against `next`: the ring holds tasks 1 and 2, and task 3 is lost
+  drops-when-full : Stuck dropsWhenFull (trial 1 2 fork (runsOne 0 ++ (by 0 Release ∷ by 0 Release ∷ by 0 Release ∷ runsOne 0) ++ runsOne 0)) 10 9 9 10
   -- against `next`: the task that waits for worker 1 is in no ring after the refused begin
   clears-when-refused : Stuck clearsRefused begunTwice 10 9 9 10
   -- against `next`: every step with the preview's limits is beyond them

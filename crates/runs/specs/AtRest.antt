@@ -9,7 +9,7 @@ use Rattle.runs.specs.Calls.{Run, memoryOf}
 
 -- nothing is left to do
 pub record AtRest (r : Run) : Type 0 where
-  -- each ring's list is empty, and it isn't so because one of the ends is damaged: head and tail are one slot
+  -- each ring's list is empty, and it isn't so because its ends are damaged: the count is 0
   pub queues : (i j : ℕ) → i < r .workers → j < r .workers → queueIn (r .workers) (r .slots) (memoryOf r) i j ≡ []
   pub rings : (i j : ℕ) → i < r .workers → j < r .workers
       → Sound (r .slots) (endsIn (memoryOf r) (ringNumber (r .workers) i j)) × Empty (endsIn (memoryOf r) (ringNumber (r .workers) i j))

@@ -33,7 +33,7 @@ inHandOf m i = cond (eqb (rowIn m i .phase) 0) [] (held m i ∷ [])
 
 -- PROMISE: after every list of a run's calls
 pub record CountersAddUp : Type 0 where
-  -- no ring's list is read from damaged ends, as an empty one: both are slots
+  -- no ring's list is read from damaged ends, as an empty one
   pub ends : (r : Run) (i j : ℕ) → i < r .workers → j < r .workers → Sound (r .slots) (endsIn (memoryOf r) (ringNumber (r .workers) i j))
   pub addsUp : (r : Run) → AddsUp (r .workers) (stateOf (r .workers) (r .slots) (memoryOf r))
   -- the same in the lent words: the counters at places i·P .. i·P + P−1, and begin's weights of the tasks in the rings of owner i and of the one in its

@@ -51,7 +51,11 @@ pub fn find_task(ends: &[u32], p: usize, k: usize, owner: WorkerId, from: Worker
 {
     let mut fillers = p;
     let mut j = from;
-    let mut both = Ends { head: 0, tail: 0 };
+    let mut both = Ends {
+        head: 0,
+        tail: 0,
+        count: 0,
+    };
     let filler = loop {
         if fillers == 0 {
             return Found::None;
@@ -71,7 +75,7 @@ pub fn find_task(ends: &[u32], p: usize, k: usize, owner: WorkerId, from: Worker
 
 // Release's search: the filler's rings, their owners from `from` upward, modulo p, up to the first that isn't full.
 pub fn find_room(ends: &[u32], p: usize, k: usize, filler: WorkerId, from: WorkerId) -> Found
-    requires { ⌜ (filler .0 < p) × ((from .0 < p) × ((p ≤ engine .workers) × ((k ≤ engine .slots) × (length (now ends) ≡ p * p * endWords)))) ⌝ }
+    requires { ⌜ (filler .0 < p) × ((from .0 < p) × ((p ≤ engine .workers) × (length (now ends) ≡ p * p * endWords))) ⌝ }
     ensures { λ r.
         ⌜ foundOf r
         ≡ search (λ o. sound k (endsAt (now (ends .entry)) (o * p + filler .0)))
@@ -81,7 +85,11 @@ pub fn find_room(ends: &[u32], p: usize, k: usize, filler: WorkerId, from: Worke
 {
     let mut owners = p;
     let mut o = from;
-    let mut both = Ends { head: 0, tail: 0 };
+    let mut both = Ends {
+        head: 0,
+        tail: 0,
+        count: 0,
+    };
     let owner = loop {
         if owners == 0 {
             return Found::None;

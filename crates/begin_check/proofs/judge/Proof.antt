@@ -1,7 +1,7 @@
 -- Each test answers for its number, and what it has passed lets the next one run.
 use native.Mathlib.Omega.{arith}
 use Rattle.admission.proofs.Laws.{within-engine}
-use Rattle.begin_check.proofs.Laws.{judge-beyond, one-slot, product-fits, judge-refused, starts-fit, few-tasks, judge-roots, judge-accepted}
+use Rattle.begin_check.proofs.Laws.{judge-beyond, product-fits, judge-refused, starts-fit, few-tasks, judge-roots, judge-accepted}
 use borrow.Author.Needs.{needs}
 use Rattle.begin_check.proofs.judge.Statement.{statement}
 use Rattle.begin_check.proofs.judge.Tie as tie
@@ -58,9 +58,6 @@ count-roots-requires c κs =
     (c .before .before .check-graph .ensures)
     (c .enum-told .given .1)
 
-sub-if2 : tie.Need-sub-if2
-sub-if2 c = omega (arith, one-slot _ _ _ _ _ (c .before .before .before .before .before .before .before .numbers-fit .ensures) (c .before .before .before .before .before .if1 .left))
-
 mul-if2 : tie.Need-mul-if2
 mul-if2 c =
     product-fits _ _ _ _ _
@@ -69,8 +66,8 @@ mul-if2 c =
     _
     (omega arith)
 
-cast-t18 : tie.Need-cast-t18
-cast-t18 c =
+cast-t17 : tie.Need-cast-t17
+cast-t17 c =
     omega (
       arith,
       few-tasks _ _ _ _ _ _ _ _ _
@@ -127,8 +124,7 @@ judge-spec =
     enum-told-2
     returns-2
     count-roots-requires
-    sub-if2
     mul-if2
-    cast-t18
+    cast-t17
     returns-3
     returns-4)

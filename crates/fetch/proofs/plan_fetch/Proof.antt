@@ -35,7 +35,7 @@ head-of-requires : tie.Need-head-of-requires
 head-of-requires c κs =
     head-ready _ _ _ _ _ _ (c .before .before .before .before .before .before .before .before .before .before .pre) _ (c .ring-number .ensures .1) _
     (scan-stops _ _ _ _ _ _ (c .before .before .before .before .find-task .ensures .0) (c .before .before .before .before .find-task .ensures .1) _ _ (c .before .before .found .given .1)
-    (c .before .before .before .before .before .if1 .left) .1)
+    (c .before .before .before .before .before .if1 .left) .1 .0)
 
 plan-task-requires : tie.Need-plan-task-requires
 plan-task-requires c κs = search needs

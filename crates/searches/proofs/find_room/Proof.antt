@@ -2,9 +2,6 @@
 use Rattle.searches.proofs.Laws.{ends-read, ends-test, onward, onward-all, look-none, look-unsound, look-stops, look-goes-on}
 use Rattle.lists.specs.Circles.{around}
 use Rattle.lists.proofs.Circles.{after-lt}
-use Rattle.ring.proofs.Ends.{sound-told}
-use Rattle.lists.proofs.Told.{told-yes}
-use borrow.Author.Tests.{not-false}
 use Rattle.ring.specs.Ring.{sound, full, endsAt}
 use Rattle.choice.specs.Search as rules
 use Prim.Native.Nat.{ℕ, _+_, _*_, _<_}
@@ -53,7 +50,7 @@ returns-2 c = (
 )
 
 is-full-requires : tie.Need-is-full-requires Inv-loop μ-loop
-is-full-requires c κs = (told-yes (sound-told _ _) (sym (c .before .is-sound .ensures) ∙ not-false _ (c .if2 .left)), omega arith)
+is-full-requires c κs = search needs
 
 sub-owners : tie.Need-sub-owners Inv-loop μ-loop
 sub-owners c = omega arith
