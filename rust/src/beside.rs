@@ -118,7 +118,7 @@ impl Guarded {
             ("successors", self.succs.holds(&memory.succs)),
             ("degrees", self.degrees.holds(&memory.degrees)),
             ("rings", self.rings.holds(&memory.rings)),
-            ("heads and tails", self.ends.holds(&memory.ends)),
+            ("ends", self.ends.holds(&memory.ends)),
             ("counters", self.counters.holds(&memory.counters)),
             ("buffers", self.buffers.holds(&memory.buffers)),
             ("record", self.executed.holds(&memory.executed)),

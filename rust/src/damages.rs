@@ -1,8 +1,9 @@
 //! Every word of small runs damaged in turn: on the way through a run, each word of each list takes values at and around
-//! the limits that document 01 names, and then every step of every worker is made.
+//! the limits that document 01 names, and the ends of each ring take all values up to K + 1 together; then every step of every
+//! worker is made.
 
 use crate::engine;
-use crate::memory::{List, Memory, Step, ACCEPTED, ROW_WORDS};
+use crate::memory::{List, Memory, Step, ACCEPTED, COUNT, END_WORDS, HEAD, ROW_WORDS, TAIL};
 use crate::model::Table;
 use crate::runs::{Call, Case};
 use std::collections::BTreeSet;
@@ -17,11 +18,11 @@ struct Run {
     k: usize,
 }
 
-/// A task with more successors than its worker's rings hold, the diamond, one worker with a ring of one task, and a task without
-/// successors for each of two workers.
+/// A task with more successors than its worker's rings hold, the diamond, one worker with one ring, and a task without successors
+/// for each of two workers.
 const RUNS: [Run; 4] = [
     Run {
-        lists: &[&[], &[0], &[0], &[0], &[1, 2]],
+        lists: &[&[], &[0], &[0], &[0], &[0], &[0], &[1, 2]],
         p: 2,
         k: 2,
     },
@@ -31,7 +32,7 @@ const RUNS: [Run; 4] = [
         k: 4,
     },
     Run {
-        lists: &[&[], &[0], &[0]],
+        lists: &[&[], &[0], &[0], &[0]],
         p: 1,
         k: 2,
     },
@@ -101,15 +102,16 @@ fn words(memory: &mut Memory, list: List) -> usize {
     }
 }
 
-/// The cases of one word of each list damaged, with a sound accepted word and with a damaged one, which is read last.
+/// The cases of one word of each list, or the ends of a ring, damaged, with a sound accepted word and with a damaged one, which is
+/// read last.
 pub fn cases() -> impl Iterator<Item = Case> {
     let runs = RUNS.iter();
     let states = runs.flat_map(|run| run.states().into_iter().map(move |state| (run, state)));
     states.flat_map(|(run, state)| {
         let mut finished = state.clone();
         finished.run[ACCEPTED] = u32::MAX;
-        let damaged = [damaged(run, state), damaged(run, finished)].into_iter().flatten();
-        damaged.flat_map(|memory| run.every_step(&memory))
+        let damaged = [state, finished].map(|memory| [damaged(run, memory.clone()), any_ends(run, &memory)].concat());
+        damaged.into_iter().flatten().flat_map(|memory| run.every_step(&memory))
     })
 }
 
@@ -123,6 +125,26 @@ fn damaged(run: &Run, mut memory: Memory) -> Vec<Memory> {
                 let mut changed = memory.clone();
                 changed.replace(list, place, value);
                 all.push(changed);
+            }
+        }
+    }
+    all
+}
+
+/// The memory with each ring in turn taking each head, tail and count, sound together or not: an empty ring and a full one at
+/// every place, one that goes round, a count that doesn't lead from head to tail.
+fn any_ends(run: &Run, memory: &Memory) -> Vec<Memory> {
+    let words = 0..=run.k as u32 + 1;
+    let mut all = Vec::new();
+    for ring in 0..run.p * run.p {
+        for head in words.clone() {
+            for tail in words.clone() {
+                for count in words.clone() {
+                    let mut changed = memory.clone();
+                    let ends = &mut changed.ends[END_WORDS * ring..][..END_WORDS];
+                    (ends[HEAD], ends[TAIL], ends[COUNT]) = (head, tail, count);
+                    all.push(changed);
+                }
             }
         }
     }

@@ -5,7 +5,10 @@ mod begin;
 
 pub use begin::begin_within;
 
-use crate::memory::{Memory, Outcome, Step, ACCEPTED, CURSOR, ENTRIES, HELD, NIL, PHASE, POINTER, READ, WRITE};
+use crate::memory::{
+    Memory, Outcome, Step, ACCEPTED, COUNT, CURSOR, END_WORDS, ENTRIES, HEAD, HELD, NIL, PHASE, POINTER, READ, TAIL,
+    WRITE,
+};
 use crate::model::{self, refused, word, Answer, Refusal, MAX_WEIGHT};
 
 /// "P workers, numbered 0..P−1, P from 1 to 16."
@@ -126,7 +129,7 @@ impl Sizes {
             (memory.succs.len(), e),
             (memory.degrees.len(), n),
             (memory.rings.len(), p * p * k),
-            (memory.ends.len(), 2 * p * p),
+            (memory.ends.len(), END_WORDS * p * p),
             (memory.counters.len(), p * p),
             (memory.buffers.len(), p * n),
             (memory.executed.len(), 2 * n),
@@ -140,7 +143,7 @@ impl Sizes {
     }
 
     /// "the ring of owner i filled by worker j begins at (i·P + j)·K": the number that stands before "·K" there, which is
-    /// also the number of its pair of ends and of its counter ("same place rule").
+    /// also the number of its triple of ends and of its counter ("same place rule").
     fn ring(self, owner: usize, filler: usize) -> usize {
         owner * self.p + filler
     }
@@ -242,22 +245,60 @@ fn add(counters: &mut [i32], place: usize, weight: i64) {
     }
 }
 
-/// Head and tail of a ring.
-#[derive(Clone, Copy)]
+/// "A ring keeps a count beside head and tail and holds K tasks"; zeroed, it is empty.
+#[derive(Clone, Copy, Default)]
 struct Ends {
     head: usize,
     tail: usize,
+    count: usize,
 }
 
 impl Ends {
-    /// "Empty: head equals tail."
-    fn is_empty(self) -> bool {
-        self.head == self.tail
+    /// The ends of this ring, all three words of them.
+    ///
+    /// Damaged are a "head or tail ≥ K", and "A count over K, or head plus count not leading to tail modulo K".
+    fn read(words: &[u32], ring: usize, k: usize) -> Result<Ends, Refusal> {
+        let head = below(words, END_WORDS * ring + HEAD, k)?;
+        let tail = below(words, END_WORDS * ring + TAIL, k)?;
+        let count = at(words, END_WORDS * ring + COUNT)? as usize;
+        if count > k || (head + count) % k != tail {
+            return damaged();
+        }
+        Ok(Ends { head, tail, count })
     }
 
-    /// "Full: the slot after tail, modulo K, is head."
+    fn write(self, words: &mut [u32], ring: usize) {
+        set(words, END_WORDS * ring + HEAD, word(self.head));
+        set(words, END_WORDS * ring + TAIL, word(self.tail));
+        set(words, END_WORDS * ring + COUNT, word(self.count));
+    }
+
+    /// "empty is count 0"
+    fn is_empty(self) -> bool {
+        self.count == 0
+    }
+
+    /// "full is count K"
     fn is_full(self, k: usize) -> bool {
-        (self.tail + 1) % k == self.head
+        self.count == k
+    }
+
+    /// A task joins at the tail, "the next free slot".
+    fn appended(self, k: usize) -> Ends {
+        Ends {
+            tail: (self.tail + 1) % k,
+            count: self.count + 1,
+            ..self
+        }
+    }
+
+    /// The task at the head, "the next slot to take", is taken.
+    fn taken(self, k: usize) -> Ends {
+        Ends {
+            head: (self.head + 1) % k,
+            count: self.count - 1,
+            ..self
+        }
     }
 }
 
@@ -265,7 +306,7 @@ impl Ends {
 struct Place {
     owner: usize,
     ring: usize,
-    tail: usize,
+    ends: Ends,
     weight: u32,
 }
 
@@ -280,15 +321,15 @@ impl Call<'_> {
     /// **Fetch** by i. The weight stays, so that neither weight nor counter is read.
     fn fetch(&mut self, next: u32) -> Result<Outcome, Refusal> {
         let Sizes { n, k, p, .. } = self.sizes;
-        let Some((filler, head)) = self.first_waiting()? else {
+        let Some((filler, ends)) = self.first_waiting()? else {
             return refused(10, 0);
         };
         let ring = self.sizes.ring(self.worker, filler);
-        let task = below(&self.memory.rings, ring * k + head, n)?;
+        let task = below(&self.memory.rings, ring * k + ends.head, n)?;
         let accepted = self.accepted()?;
 
         // "Take its head, which becomes the held task; the slot's word stays."
-        set(&mut self.memory.ends, 2 * ring, word((head + 1) % k));
+        ends.taken(k).write(&mut self.memory.ends, ring);
         self.set_row(HELD, word(task));
         // "The pointer becomes the ring after, modulo P."
         self.set_row(POINTER, word((filler + 1) % p));
@@ -297,8 +338,8 @@ impl Call<'_> {
     }
 
     /// "scan the rings of owner i from the ring pointer upward, modulo P; the scan stops at the first ring that isn't
-    /// empty": its filler and its head.
-    fn first_waiting(&self) -> Result<Option<(usize, usize)>, Refusal> {
+    /// empty": its filler and its ends.
+    fn first_waiting(&self) -> Result<Option<(usize, Ends)>, Refusal> {
         let p = self.sizes.p;
         let pointer = self.row_word(POINTER)? as usize;
         if pointer >= p {
@@ -308,7 +349,7 @@ impl Call<'_> {
             let filler = (pointer + passed) % p;
             let ends = self.ends(self.sizes.ring(self.worker, filler))?;
             if !ends.is_empty() {
-                return Ok(Some((filler, ends.head)));
+                return Ok(Some((filler, ends)));
             }
         }
         Ok(None)
@@ -446,11 +487,11 @@ impl Call<'_> {
             let ring = self.sizes.ring(owner, self.worker);
             let ends = self.ends(ring)?;
             if !ends.is_full(k) {
-                let (tail, weight) = (ends.tail, self.weight(successor)?);
+                let weight = self.weight(successor)?;
                 return Ok(Place {
                     owner,
                     ring,
-                    tail,
+                    ends,
                     weight,
                 });
             }
@@ -477,8 +518,12 @@ impl Call<'_> {
     /// "s is appended", and "The weight joins the counter of the ring really used."
     fn append(&mut self, successor: usize, place: &Place) {
         let k = self.sizes.k;
-        set(&mut self.memory.rings, place.ring * k + place.tail, word(successor));
-        set(&mut self.memory.ends, 2 * place.ring + 1, word((place.tail + 1) % k));
+        set(
+            &mut self.memory.rings,
+            place.ring * k + place.ends.tail,
+            word(successor),
+        );
+        place.ends.appended(k).write(&mut self.memory.ends, place.ring);
         add(&mut self.memory.counters, place.ring, i64::from(place.weight));
     }
 
@@ -493,11 +538,8 @@ impl Call<'_> {
         }
     }
 
-    /// Damaged is a "head or tail ≥ K".
     fn ends(&self, ring: usize) -> Result<Ends, Refusal> {
-        let head = below(&self.memory.ends, 2 * ring, self.sizes.k)?;
-        let tail = below(&self.memory.ends, 2 * ring + 1, self.sizes.k)?;
-        Ok(Ends { head, tail })
+        Ends::read(&self.memory.ends, ring, self.sizes.k)
     }
 
     /// Damaged is a "weight over 65,535".

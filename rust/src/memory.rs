@@ -11,6 +11,14 @@ pub const READ: usize = 3;
 pub const WRITE: usize = 4;
 pub const CURSOR: usize = 5;
 
+/// Words of a ring's ends.
+pub const END_WORDS: usize = 3;
+
+/// The places of a ring's ends: "A ring keeps a count beside head and tail".
+pub const HEAD: usize = 0;
+pub const TAIL: usize = 1;
+pub const COUNT: usize = 2;
+
 /// The places of the run words: "entries recorded, steps accepted".
 pub const ENTRIES: usize = 0;
 pub const ACCEPTED: usize = 1;
@@ -28,7 +36,7 @@ pub struct Memory {
     pub succs: Vec<u32>,
     pub degrees: Vec<u32>,
     pub rings: Vec<u32>,
-    /// "Heads and tails, P·P pairs", head first.
+    /// Head, tail and count of each ring, P·P triples: ring q's are at 3q, 3q + 1 and 3q + 2.
     pub ends: Vec<u32>,
     pub counters: Vec<i32>,
     pub buffers: Vec<u32>,
@@ -54,7 +62,7 @@ impl Memory {
             succs: vec![fill; e],
             degrees: vec![fill; n],
             rings: vec![fill; p * p * k],
-            ends: vec![fill; 2 * p * p],
+            ends: vec![fill; END_WORDS * p * p],
             counters: vec![fill as i32; p * p],
             buffers: vec![fill; p * n],
             executed: vec![fill; 2 * n],

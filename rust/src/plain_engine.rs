@@ -9,7 +9,8 @@ pub(crate) mod graph;
 
 use crate::engine::Engine;
 use crate::memory::{
-    Memory, Outcome, Step, ACCEPTED, CURSOR, ENTRIES, HELD, NIL, PHASE, POINTER, READ, ROW_WORDS, WRITE,
+    Memory, Outcome, Step, ACCEPTED, COUNT, CURSOR, END_WORDS, ENTRIES, HEAD, HELD, NIL, PHASE, POINTER, READ,
+    ROW_WORDS, TAIL, WRITE,
 };
 use crate::model::{refused, Refusal, MAX_EDGES, MAX_TASKS};
 use graph::Preds;
@@ -43,7 +44,7 @@ pub struct Lent<'a> {
     pub succs: &'a mut [u32],
     pub degrees: &'a mut [u32],
     pub rings: &'a mut [u32],
-    /// P·P pairs, head first.
+    /// P·P triples: head, tail, count.
     pub ends: &'a mut [u32],
     pub counters: &'a mut [i32],
     pub buffers: &'a mut [u32],
@@ -100,7 +101,7 @@ impl<'a> Lent<'a> {
             && self.succs.len() == e
             && self.degrees.len() == n
             && self.rings.len() == p * p * k
-            && self.ends.len() == 2 * p * p
+            && self.ends.len() == END_WORDS * p * p
             && self.counters.len() == p * p
             && self.buffers.len() == p * n
             && self.executed.len() == 2 * n
@@ -139,14 +140,21 @@ impl<'a> Lent<'a> {
         Ok(accepted + 1)
     }
 
-    /// "head or tail ≥ K" is damaged: head and tail of a ring.
+    /// "head or tail ≥ K", "A count over K, or head plus count not leading to tail modulo K" is damaged: the ends of a ring.
     #[inline]
-    fn ends_of(&self, ring: usize, k: usize) -> Result<(usize, usize), Refusal> {
-        let (head, tail) = (self.ends[2 * ring] as usize, self.ends[2 * ring + 1] as usize);
-        if head >= k || tail >= k {
+    fn ends_of(&self, ring: usize, k: usize) -> Result<Ends, Refusal> {
+        let words = &self.ends[END_WORDS * ring..][..END_WORDS];
+        let (head, tail, count) = (words[HEAD] as usize, words[TAIL] as usize, words[COUNT] as usize);
+        if head >= k || count > k {
             return damaged();
         }
-        Ok((head, tail))
+        // head plus count is below 2·K; led to, the tail is below K
+        let led = head + count;
+        let led = if led >= k { led - k } else { led };
+        if led != tail {
+            return damaged();
+        }
+        Ok(Ends { head, tail, count })
     }
 
     /// "ring, buffer, held or successor word ≥ N" is damaged: the word as a place.
@@ -215,14 +223,15 @@ impl<'a> Lent<'a> {
         Ok(least.map_or(0, |(j, _)| j))
     }
 
-    /// "the first ring filled by i that isn't full, owners taken j, j+1, … modulo P": its owner and tail; none if all are full.
+    /// "the first ring filled by i that isn't full, owners taken j, j+1, … modulo P": its owner and ends; none if all are full.
     #[inline]
-    fn free_ring(&self, p: usize, k: usize, i: usize, j: usize) -> Result<Option<(usize, usize)>, Refusal> {
+    fn free_ring(&self, p: usize, k: usize, i: usize, j: usize) -> Result<Option<(usize, Ends)>, Refusal> {
         let mut owner = j;
         for _ in 0..p {
-            let (head, tail) = self.ends_of(owner * p + i, k)?;
-            if after(tail, k) != head {
-                return Ok(Some((owner, tail)));
+            let ends = self.ends_of(owner * p + i, k)?;
+            // "full is count K"
+            if ends.count < k {
+                return Ok(Some((owner, ends)));
             }
             owner = after(owner, p);
         }
@@ -230,19 +239,28 @@ impl<'a> Lent<'a> {
     }
 
     /// "scan the rings of owner i from the ring pointer upward, modulo P; the scan stops at the first ring that isn't empty":
-    /// its filler and head; none if all are empty.
+    /// its filler and ends; none if all are empty.
     #[inline]
-    fn waiting_ring(&self, p: usize, k: usize, i: usize, pointer: usize) -> Result<Option<(usize, usize)>, Refusal> {
+    fn waiting_ring(&self, p: usize, k: usize, i: usize, pointer: usize) -> Result<Option<(usize, Ends)>, Refusal> {
         let mut filler = pointer;
         for _ in 0..p {
-            let (head, tail) = self.ends_of(i * p + filler, k)?;
-            if head != tail {
-                return Ok(Some((filler, head)));
+            let ends = self.ends_of(i * p + filler, k)?;
+            // "empty is count 0"
+            if ends.count > 0 {
+                return Ok(Some((filler, ends)));
             }
             filler = after(filler, p);
         }
         Ok(None)
     }
+}
+
+/// A ring's ends, none of them damaged.
+#[derive(Clone, Copy)]
+struct Ends {
+    head: usize,
+    tail: usize,
+    count: usize,
 }
 
 /// 8: "a damaged word", detail 0.
@@ -275,7 +293,7 @@ pub fn begin(lent: &mut Lent, p: usize, k: usize) -> Result<(), Refusal> {
     let preds = Preds::new(lent.pred_starts, lent.preds);
     let counts = preds.judge()?;
     let roots = preds.roots().count();
-    if roots > p * (k - 1) {
+    if roots > p * k {
         return refused(6, word(roots));
     }
 
@@ -290,9 +308,10 @@ pub fn begin(lent: &mut Lent, p: usize, k: usize) -> Result<(), Refusal> {
     let mut owner = 0;
     for root in preds.roots() {
         let ring = owner * p + owner;
-        let tail = &mut lent.ends[2 * ring + 1];
-        lent.rings[ring * k + *tail as usize] = word(root);
-        *tail += 1;
+        let ends = &mut lent.ends[END_WORDS * ring..][..END_WORDS];
+        lent.rings[ring * k + ends[TAIL] as usize] = word(root);
+        ends[TAIL] = word(after(ends[TAIL] as usize, k));
+        ends[COUNT] += 1;
         lent.counters[ring] += lent.weights[root] as i32;
         owner = after(owner, p);
     }
@@ -316,7 +335,7 @@ pub fn fetch(lent: &mut Lent, p: usize, k: usize, worker: u32) -> Result<Outcome
     if pointer >= p {
         return damaged();
     }
-    let Some((filler, head)) = lent.waiting_ring(p, k, i, pointer)? else {
+    let Some((filler, Ends { head, count, .. })) = lent.waiting_ring(p, k, i, pointer)? else {
         return refused(10, 0);
     };
     let ring = i * p + filler;
@@ -324,7 +343,8 @@ pub fn fetch(lent: &mut Lent, p: usize, k: usize, worker: u32) -> Result<Outcome
     let accepted = lent.next_accepted()?;
 
     let task = word(task);
-    lent.ends[2 * ring] = word(after(head, k));
+    lent.ends[END_WORDS * ring + HEAD] = word(after(head, k));
+    lent.ends[END_WORDS * ring + COUNT] = word(count - 1);
     let row = &mut lent.rows[i];
     row[PHASE] = FETCHED;
     row[HELD] = task;
@@ -427,7 +447,7 @@ pub fn release(lent: &mut Lent, p: usize, k: usize, worker: u32) -> Result<Outco
 #[inline(always)]
 fn place(lent: &mut Lent, p: usize, k: usize, i: usize, successor: usize) -> Result<Outcome, Refusal> {
     let target = lent.target(p)?;
-    let Some((owner, tail)) = lent.free_ring(p, k, i, target)? else {
+    let Some((owner, Ends { tail, count, .. })) = lent.free_ring(p, k, i, target)? else {
         return refused(11, word(successor));
     };
     let weight = lent.weight(successor)?;
@@ -435,7 +455,8 @@ fn place(lent: &mut Lent, p: usize, k: usize, i: usize, successor: usize) -> Res
 
     let ring = owner * p + i;
     lent.rings[ring * k + tail] = word(successor);
-    lent.ends[2 * ring + 1] = word(after(tail, k));
+    lent.ends[END_WORDS * ring + TAIL] = word(after(tail, k));
+    lent.ends[END_WORDS * ring + COUNT] = word(count + 1);
     lent.counters[ring] += weight;
     lent.run[ACCEPTED] = accepted;
     let (task, owner) = (word(successor), word(owner));

@@ -2,7 +2,7 @@
 //! 2, the engine's and the preview's; and the damaged words of number 8, with the calls that read them.
 
 use crate::engine::{Limits, MIN_SLOTS};
-use crate::memory::{List, Step, ACCEPTED, CURSOR, ENTRIES, HELD, PHASE, POINTER, READ, WRITE};
+use crate::memory::{List, Step, ACCEPTED, COUNT, CURSOR, ENTRIES, HEAD, HELD, PHASE, POINTER, READ, TAIL, WRITE};
 use crate::model::MAX_WEIGHT;
 use crate::pages::{table, Block};
 
@@ -112,17 +112,24 @@ pub struct Damage {
     pub word: &'static str,
     pub damaged: &'static str,
     pub read_by: &'static [Caller],
-    /// The lists; of the rows and the run words, the places in a row or in the list; of the record, those in an entry.
+    /// The lists; of the rows, the ends and the record, the places in a row, a ring's ends or an entry; of the run words, those in
+    /// the list.
     pub places: &'static [(List, Option<usize>)],
 }
 
 /// "Damaged, for a word the rule reads". "From now on the weight leaves counter (i, i) at Complete": Fetch reads neither.
-pub const DAMAGES: [Damage; 16] = [
+pub const DAMAGES: [Damage; 17] = [
     damage(
         "head or tail of a ring",
         "K or more",
         &[Fetch, Release],
-        &[(List::Ends, None)],
+        &[(List::Ends, Some(HEAD)), (List::Ends, Some(TAIL))],
+    ),
+    damage(
+        "count of a ring",
+        "over K, or head plus count doesn't lead to tail modulo K",
+        &[Fetch, Release],
+        &[(List::Ends, Some(COUNT))],
     ),
     damage("task in a ring", "N or more", &[Fetch], &[(List::Rings, None)]),
     damage("task in a hand", "N or more", &[Complete], &[(List::Rows, Some(HELD))]),

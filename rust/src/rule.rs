@@ -3,7 +3,7 @@
 
 use crate::desk;
 use crate::engine::{begin, step};
-use crate::memory::{Memory, Outcome, Step, HELD, PHASE};
+use crate::memory::{Memory, Outcome, Step, COUNT, END_WORDS, HEAD, HELD, PHASE};
 use crate::model::{word, Refusal, Table};
 use crate::pages::{table, Block};
 use crate::texts::DIAMOND;
@@ -31,9 +31,11 @@ impl View {
     pub fn of(memory: &Memory, p: usize, k: usize, worker: u32) -> View {
         let hands = memory.rows.iter().map(|row| (row[PHASE] > 0).then_some(row[HELD]));
         let counters = memory.counters.chunks(p).map(<[i32]>::to_vec);
-        let ring = |ring: usize| Ring {
-            tasks: waiting(memory, ring, k),
-            full: is_full(ends(memory, ring), k),
+        let ring = |ring: usize| {
+            let tasks = waiting(memory, ring, k);
+            // "holds K tasks"
+            let full = tasks.len() == k;
+            Ring { tasks, full }
         };
         let rings = (0..p).map(|owner| (owner * p..(owner + 1) * p).map(ring).collect());
         View {
@@ -97,16 +99,6 @@ impl View {
     pub fn foreseen(&self) -> Option<u32> {
         self.owners().find(|&owner| !self.is_full(owner))
     }
-}
-
-/// Head and tail of a ring.
-fn ends(memory: &Memory, ring: usize) -> (usize, usize) {
-    (memory.ends[2 * ring] as usize, memory.ends[2 * ring + 1] as usize)
-}
-
-/// "Full: the slot after tail, modulo K, is head."
-fn is_full((head, tail): (usize, usize), k: usize) -> bool {
-    (tail + 1) % k == head
 }
 
 /// A Release of a task that no predecessor holds back any more.
@@ -224,15 +216,15 @@ pub fn long_task() -> Example {
     example
 }
 
-/// A light worker 0, whose ring is full after one task: the next tasks go to the owners behind it, first to worker 1, which has
-/// the largest load, until no ring has room.
+/// A light worker 0, whose ring has a root left and is full after one task: the next tasks go to the owners behind it, first to
+/// worker 1, which has the largest load, until no ring has room.
 pub fn fallback() -> Example {
     let after: &[u32] = &[0];
-    let roots = [(4, &[][..]), (12, &[]), (9, &[])];
-    let successors = [(1, after), (1, after), (1, after), (2, after)];
+    let roots = [(4, &[][..]), (7, &[]), (9, &[]), (1, &[]), (5, &[])];
+    let successors = [(1, after), (1, after), (1, after), (1, after), (1, after), (2, after)];
     let mut example = Example::begin("fallback", &[&roots[..], &successors].concat(), 3, 2);
     example.execute(0);
-    example.release(0, 4);
+    example.release(0, 6);
     example.step(2, Step::Fetch);
     example.release(0, 1);
     example
@@ -266,10 +258,10 @@ pub fn running() -> Example {
 pub fn past_the_last() -> Example {
     let after: &[u32] = &[2];
     let roots = [(8, &[][..]), (5, &[]), (1, &[]), (6, &[])];
-    let successors = [(2, after), (4, after), (1, after)];
+    let successors = [(1, after), (1, after), (3, after), (1, after), (1, after)];
     let mut example = Example::begin("answer 2", &[&roots[..], &successors].concat(), 4, 2);
     example.execute(2);
-    example.release(2, 3);
+    example.release(2, 5);
     example
 }
 
@@ -278,10 +270,10 @@ pub fn past_the_last() -> Example {
 pub fn room() -> Example {
     let after: &[u32] = &[1];
     let roots = [(6, &[][..]), (2, &[])];
-    let successors = [(3, after), (1, after), (2, after)];
+    let successors = [(2, after), (1, after), (1, after), (1, after), (2, after)];
     let mut example = Example::begin("answer 3", &[&roots[..], &successors].concat(), 2, 2);
     example.execute(1);
-    example.release(1, 3);
+    example.release(1, 5);
     example.step(0, Step::Fetch);
     example.release(1, 1);
     example.step(0, Step::Start);
@@ -334,7 +326,7 @@ impl Example {
         let Example { p, k, .. } = self;
         format!(
             "P {p}, K {k}: a ring holds {}.\n\n{}",
-            counted(k - 1, "task"),
+            counted(*k, "task"),
             self.tasks()
         )
     }
@@ -456,8 +448,8 @@ fn predecessors(memory: &Memory, task: usize) -> &[u32] {
 
 /// The tasks in a ring, the next one to take first.
 fn waiting(memory: &Memory, ring: usize, k: usize) -> Vec<u32> {
-    let (head, tail) = ends(memory, ring);
-    let slots = (0..(tail + k - head) % k).map(|passed| (head + passed) % k);
+    let [head, count] = [HEAD, COUNT].map(|place| memory.ends[END_WORDS * ring + place] as usize);
+    let slots = (0..count).map(|passed| (head + passed) % k);
     slots.map(|slot| memory.rings[ring * k + slot]).collect()
 }
 

@@ -37,17 +37,20 @@ fn a_chain() {
     assert_prints(example("chain.stg"), &lines);
 }
 
-/// 8 roots, and room for P·(K−1) = 6.
+/// 9 roots, and room for P·K = 8.
 #[test]
 fn a_star() {
-    assert_prints(example("star.stg"), &["refused 6 8"]);
+    assert_prints(example("star.stg"), &["refused 6 9"]);
 }
 
-/// The star's images behind task 0: 9 tasks and 14 edges are 41 steps. Worker 0 releases seven images, to 0, 1, 0, 1, 1, 0, 1: when
-/// it releases 3, worker 1 has 2 in its hand, so that the sums are 3 and 3; when it releases 5, worker 1 has completed 2.
+/// The star's images behind task 0: 10 tasks and 16 edges are 46 steps. Worker 0 releases eight images, to 0, 1, 0, 1, 1, 0, 1, 0:
+/// when it releases 3, worker 1 has 2 in its hand, so that the sums are 3 and 3; when it releases 5, worker 1 has completed 2; when
+/// it releases 8, worker 0 has 1, 3 and 6 waiting, and worker 1 has 5 in its hand or waiting beside 4 and 7.
 #[test]
 fn a_star_behind_one_task() {
-    let lines = ["9 41", "0 0", "2 1", "4 1", "1 0", "5 1", "3 0", "7 1", "6 0", "8 0"];
+    let lines = [
+        "10 46", "0 0", "2 1", "4 1", "1 0", "5 1", "3 0", "7 1", "6 0", "8 0", "9 0",
+    ];
     assert_prints(example("star_behind_one.stg"), &lines);
 }
 
@@ -100,10 +103,12 @@ fn refusals() {
     assert_prints("1\n0 0 0\n1 5 1 3\n2 0 1 1\n", &["refused 3 1"]);
     assert_prints("1\n0 0 0\n1 5 1 0\n2 0 2 1 1\n", &["refused 4 2"]);
     assert_prints("2\n0 0 0\n1 5 1 2\n2 5 1 1\n3 0 1 2\n", &["refused 5 1"]);
-    assert_prints("5\n0 0 0\n1 0 0\n2 0 0\n3 0 0\n4 0 0\n5 0 0\n6 0 0\n", &["refused 6 7"]);
+    // eight roots fill both rings of K 4, and nine are refused
+    let eight = "0 0 0\n1 0 0\n2 0 0\n3 0 0\n4 0 0\n5 0 0\n6 0 0\n7 0 0\n";
+    assert_prints(format!("7\n{eight}8 0 0\n"), &["refused 6 9"]);
     assert_prints(
-        "4\n0 0 0\n1 0 0\n2 0 0\n3 0 0\n4 0 0\n5 0 0\n",
-        &["6 18", "0 0", "1 1", "2 0", "3 1", "4 0", "5 1"],
+        format!("6\n{eight}"),
+        &["8 24", "0 0", "1 1", "2 0", "3 1", "4 0", "5 1", "6 0", "7 1"],
     );
 }
 
@@ -146,7 +151,8 @@ fn drawn_texts() {
         let lists = drawn_lists(&mut draw);
         let printed = String::from_utf8(output(spelt(&mut draw, &lists).as_bytes())).expect("text");
         let roots = lists.iter().filter(|list| list.is_empty()).count();
-        if roots > 6 {
+        // "The roots' limit becomes P·K"
+        if roots > 8 {
             assert_eq!(printed, format!("refused 6 {roots}\n"));
             refusals += 1;
             continue;

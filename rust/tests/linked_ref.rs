@@ -33,7 +33,7 @@ fn a_round_of_every_stored_graph() {
         Trial::Graph(trial) => Some(trial.graph),
         _ => None,
     });
-    let rounds = graphs.flat_map(|graph| [(1, 64), (2, 2), (3, 64)].map(|(p, k)| round(&graph, p, k)));
+    let rounds = graphs.flat_map(|graph| [(1, 2), (1, 64), (2, 2), (3, 64)].map(|(p, k)| round(&graph, p, k)));
     compare_all((0..).zip(rounds), &RECORDS, &[0, 1, 2, 3, 4, 5, 6], 100);
 }
 

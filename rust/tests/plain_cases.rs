@@ -122,7 +122,7 @@ fn roots_in_turn() {
     assert_eq!(begin_in(&mut memory, 2, 4), Ok(()));
     // roots 0, 1, 3, 4, 5: owner 0 gets 0, 3, 5; owner 1 gets 1, 4
     assert_eq!(memory.rings, [0, 3, 5, 0, 0, 0, 0, 0, 0, 0, 0, 0, 1, 4, 0, 0]);
-    assert_eq!(memory.ends, [0, 3, 0, 0, 0, 0, 0, 2]);
+    assert_eq!(memory.ends, [0, 3, 3, 0, 0, 0, 0, 0, 0, 0, 2, 2]);
     assert_eq!(memory.counters, [1 + 8 + 32, 0, 0, 2 + 16]);
 }
 
@@ -135,7 +135,7 @@ fn row_1() {
         |memory| memory.succs.truncate(3),
         |memory| memory.degrees.truncate(3),
         |memory| memory.rings.push(0),
-        |memory| memory.ends.truncate(7),
+        |memory| memory.ends.truncate(11),
         |memory| memory.counters.push(0),
         |memory| memory.buffers.truncate(7),
         |memory| memory.executed.push(0),
@@ -230,14 +230,21 @@ fn row_5() {
     assert_begin_refused(unweighted(&[&[3], &[2], &[1, 3], &[2]], 2, 4), 2, 4, 5, 1);
 }
 
-/// Row 6: "P 2, K 2, three roots"; two roots are accepted.
+/// Row 6: "At P 2, K 2 four roots are accepted and five refused"; two and three are accepted too.
 #[test]
 fn row_6() {
-    assert_begin_refused(unweighted(&[&[][..]; 3], 2, 2), 2, 2, 6, 3);
+    assert_begin_refused(unweighted(&[&[][..]; 5], 2, 2), 2, 2, 6, 5);
+    let mut four = unweighted(&[&[][..]; 4], 2, 2);
+    assert_eq!(begin_in(&mut four, 2, 2), Ok(()));
+    assert_eq!(four.rings, [0, 2, 0, 0, 0, 0, 1, 3]);
+    assert_eq!(four.ends, [0, 0, 2, 0, 0, 0, 0, 0, 0, 0, 0, 2]);
+    let mut three = unweighted(&[&[][..]; 3], 2, 2);
+    assert_eq!(begin_in(&mut three, 2, 2), Ok(()));
+    assert_eq!(three.ends, [0, 0, 2, 0, 0, 0, 0, 0, 0, 0, 1, 1]);
     let mut two = unweighted(&[&[][..]; 2], 2, 2);
     assert_eq!(begin_in(&mut two, 2, 2), Ok(()));
     assert_eq!(two.rings, [0, 0, 0, 0, 0, 0, 1, 0]);
-    assert_eq!(two.ends, [0, 1, 0, 0, 0, 0, 0, 1]);
+    assert_eq!(two.ends, [0, 1, 1, 0, 0, 0, 0, 0, 0, 0, 1, 1]);
 }
 
 /// Row 7: "P 2, worker 2"; it comes before the phase.
@@ -279,21 +286,24 @@ fn row_10() {
     assert_refused(&memory, 2, 4, 0, release, 10, 0);
 }
 
-/// Row 11: "P 1, K 2, edges 0→1, 0→2: second Release", accepted once task 1 is fetched.
+/// Row 11: "P 1, K 2, edges 0→1, 0→2", which "gains an edge 0→3 and is refused at the third Release", accepted once task 1 is
+/// fetched.
 #[test]
 fn row_11() {
-    let mut memory = memory(&[1, 2, 4], &[&[], &[0], &[0]], 1, 2);
+    let mut memory = memory(&[1, 2, 4, 8], &[&[], &[0], &[0], &[0]], 1, 2);
     assert_eq!(begin_in(&mut memory, 1, 2), Ok(()));
-    for step in [fetch, start, complete, release] {
+    for step in [fetch, start, complete, release, release] {
         assert!(step(&mut Lent::of(&mut memory), 1, 2, 0).is_ok());
     }
-    assert_refused(&memory, 1, 2, 0, release, 11, 2);
+    // two slots: task 0 in slot 0, task 1 in slot 1, task 2 in slot 0 again
+    assert_eq!((&memory.rings[..], &memory.ends[..]), (&[2, 1][..], &[1, 1, 2][..]));
+    assert_refused(&memory, 1, 2, 0, release, 11, 3);
     // a heavy weight isn't read, for no ring is used; a bad counter is read before
     let heavy = Memory {
-        weights: vec![1, 2, 65_536],
+        weights: vec![1, 2, 4, 65_536],
         ..memory.clone()
     };
-    assert_refused(&heavy, 1, 2, 0, release, 11, 2);
+    assert_refused(&heavy, 1, 2, 0, release, 11, 3);
     let counter = Memory {
         counters: vec![(1 << 30) + 1],
         ..memory.clone()
@@ -303,13 +313,48 @@ fn row_11() {
         (fetch as StepOf, Outcome::Fetched { task: 1 }),
         (start, Outcome::Moved),
         (complete, Outcome::Moved),
-        (release, Outcome::Placed { task: 2, owner: 0 }),
+        (release, Outcome::Placed { task: 3, owner: 0 }),
     ] {
         assert_eq!(step(&mut Lent::of(&mut memory), 1, 2, 0), Ok(outcome));
     }
-    // two slots: task 0 in slot 0, task 1 in slot 1, task 2 in slot 0 again
-    assert_eq!((memory.rings, memory.ends), (vec![2, 1], vec![0, 1]));
-    assert_eq!(memory.counters, [4]);
+    // task 3 in slot 1 again
+    assert_eq!((memory.rings, memory.ends), (vec![2, 3], vec![0, 0, 2]));
+    assert_eq!(memory.counters, [4 + 8]);
+}
+
+/// "empty is count 0, full is count K": with head and tail at one slot the count alone tells which.
+#[test]
+fn an_empty_ring_and_a_full_one() {
+    let lists: [&[u32]; 4] = [&[], &[0], &[0], &[0]];
+    let mut memory = memory(&[1; 4], &lists, 1, 2);
+    assert_eq!(begin_in(&mut memory, 1, 2), Ok(()));
+    memory.rings = vec![2, 3];
+    for (ends, task) in [([0, 0, 2], 2), ([1, 1, 2], 3), ([0, 1, 1], 2), ([1, 0, 1], 3)] {
+        let mut found = Memory {
+            ends: ends.to_vec(),
+            ..memory.clone()
+        };
+        let answer = fetch(&mut Lent::of(&mut found), 1, 2, 0);
+        assert_eq!(answer, Ok(Outcome::Fetched { task }), "{ends:?}");
+        assert_eq!(found.ends, [1 - ends[0], ends[1], ends[2] - 1]);
+    }
+    for (ends, number) in [
+        ([0, 0, 0], 10),
+        ([1, 1, 0], 10),
+        ([1, 0, 0], 8),
+        ([0, 1, 0], 8),
+        ([1, 0, 2], 8),
+        ([0, 0, 1], 8),
+        ([0, 1, 3], 8),
+        ([0, 0, 4], 8),
+        ([2, 1, 1], 8),
+    ] {
+        let found = Memory {
+            ends: ends.to_vec(),
+            ..memory.clone()
+        };
+        assert_refused(&found, 1, 2, 0, fetch, number, 0);
+    }
 }
 
 /// "owners taken j, j+1, … modulo P" and "the counter of the ring really used"
@@ -318,11 +363,11 @@ fn the_ring_after_a_full_one() {
     let mut memory = completed_diamond();
     // worker 1 has the least sum, but the ring that worker 0 fills for it is full
     memory.counters = vec![7, 0, 0, 0];
-    memory.ends[4..6].copy_from_slice(&[2, 1]);
+    memory.ends[6..9].copy_from_slice(&[2, 2, 4]);
     let answer = release(&mut Lent::of(&mut memory), 2, 4, 0);
     assert_eq!(answer, Ok(Outcome::Placed { task: 1, owner: 0 }));
     assert_eq!(memory.counters, [12, 0, 0, 0]);
-    assert_eq!(memory.ends, [1, 2, 0, 0, 2, 1, 0, 0]);
+    assert_eq!(memory.ends, [1, 2, 1, 0, 0, 0, 2, 2, 4, 0, 0, 0]);
     assert_eq!(memory.rings[1], 1);
 }
 
@@ -356,11 +401,16 @@ fn assert_damaged(sound: &Memory, step: StepOf, damages: &[Damage]) {
 
 #[test]
 fn damage_met_by_fetch() {
-    let damages: [Damage; 8] = [
+    let damages: [Damage; 12] = [
         |memory| memory.rows[0][PHASE] = 3,
         |memory| memory.rows[0][POINTER] = 2,
         |memory| memory.ends[0] = 4,
         |memory| memory.ends[1] = u32::MAX,
+        // head 0 and tail 1: one task, not none, two, five or any more
+        |memory| memory.ends[2] = 0,
+        |memory| memory.ends[2] = 2,
+        |memory| memory.ends[2] = 5,
+        |memory| memory.ends[2] = u32::MAX,
         |memory| memory.rings[0] = 4,
         |memory| memory.rings[0] = NIL,
         |memory| memory.run[ACCEPTED] = 16,
@@ -427,7 +477,7 @@ fn damage_met_by_start_and_complete() {
 
 #[test]
 fn damage_met_by_release() {
-    let damages: [Damage; 18] = [
+    let damages: [Damage; 21] = [
         |memory| memory.rows[0][READ] = 2,
         |memory| memory.rows[0][WRITE] = 5,
         |memory| memory.buffers[0] = 4,
@@ -442,6 +492,10 @@ fn damage_met_by_release() {
         |memory| memory.counters[1] = -(1 << 30) - 1,
         |memory| memory.ends[0] = 4,
         |memory| memory.ends[1] = 4,
+        // head 1 and tail 1: none or all four
+        |memory| memory.ends[2] = 1,
+        |memory| memory.ends[2] = 5,
+        |memory| memory.ends[2] = 8,
         |memory| memory.weights[1] = 65_536,
         |memory| memory.run[ACCEPTED] = 16,
         |memory| memory.run[ACCEPTED] = 17,
@@ -458,7 +512,7 @@ fn sound_at_the_limits() {
     // where the degree stays above 0, no weight, counter or end is read
     memory.weights[1] = u32::MAX;
     memory.counters = vec![i32::MIN; 4];
-    memory.ends = vec![u32::MAX; 8];
+    memory.ends = vec![u32::MAX; 12];
     let answer = release(&mut Lent::of(&mut memory), 2, 4, 0);
     assert_eq!(answer, Ok(Outcome::DegreeLeft { degree: 3 }));
     memory = completed_diamond();

@@ -62,7 +62,7 @@ fn the_engine_s_own_call_or_2() {
 
 #[test]
 fn runs_of_one_graph_each() {
-    preview::runs_of_one_graph_each(&SIDES.preview, 60);
+    preview::runs_of_one_graph_each(&SIDES.preview, 200);
 }
 
 #[test]

@@ -114,9 +114,9 @@ fn tasks() {
     assert_limit(&dense(1_024, 512), 16, 64, Ok(()), false);
     assert_limit(&roots(1_025), 4, 8, refused(2, 0), false);
     assert_limit(&roots(0), 4, 8, Ok(()), true);
-    // "P·(K−1)" roots at most, as ever
-    assert_limit(&roots(28), 4, 8, Ok(()), true);
-    assert_limit(&roots(29), 4, 8, refused(6, 29), true);
+    // "The roots' limit becomes P·K", by both
+    assert_limit(&roots(32), 4, 8, Ok(()), true);
+    assert_limit(&roots(33), 4, 8, refused(6, 33), true);
 }
 
 #[test]

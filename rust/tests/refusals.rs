@@ -3,7 +3,7 @@
 use engine_model::engine::{Engine, Limits, MODEL, PREVIEW};
 use engine_model::exports::MAX_WRITTEN;
 use engine_model::frames;
-use engine_model::memory::{List, Memory, ENTRIES, ROW_WORDS};
+use engine_model::memory::{List, Memory, END_WORDS, ENTRIES, ROW_WORDS};
 use engine_model::model::{check, link, Answer, Lent, Refusal};
 use engine_model::pages;
 use engine_model::reader;
@@ -195,6 +195,7 @@ fn every_word_damaged(memory: &Memory) -> Vec<(&'static str, Memory)> {
             };
             let places = match (list, field) {
                 (List::Rows, Some(field)) => (field..words).step_by(ROW_WORDS),
+                (List::Ends, Some(field)) => (field..words).step_by(END_WORDS),
                 (List::Executed, Some(field)) => (field..words).step_by(2),
                 (_, Some(place)) => (place..place + 1).step_by(1),
                 (_, None) => (0..words).step_by(1),

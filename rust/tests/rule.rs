@@ -51,16 +51,19 @@ fn the_placement_beside_a_long_task() {
     assert_eq!(example.after(1).loads(), [60, 1]);
 }
 
-/// Root 0 of weight 4 is completed, the others of weights 12 and 9 wait. A ring holds one task, so 3 fills that of the target, 4
-/// that of worker 1 and 5 that of worker 2; there is no room for 6 until worker 2 has taken 5, which then counts in its hand.
+/// Root 0 of weight 4 is completed; the others wait: 3 of weight 1 for worker 0, 1 and 4 of weights 7 and 5 for worker 1, 2 of
+/// weight 9 for worker 2. A ring holds two tasks, so 5 fills that of the target beside 3, 6 and 7 that of worker 1, 8 and 9 that of
+/// worker 2; there is no room for 10 until worker 2 has taken 8, which then counts in its hand.
 #[test]
 fn the_placements_past_full_rings() {
-    let expected: [Expected; 5] = [
-        (&[0, 12, 9], 0, 3, Some(0)),
-        (&[1, 12, 9], 0, 4, Some(1)),
-        (&[1, 13, 9], 0, 5, Some(2)),
-        (&[1, 13, 10], 0, 6, None),
-        (&[1, 13, 10], 0, 6, Some(2)),
+    let expected: [Expected; 7] = [
+        (&[1, 12, 9], 0, 5, Some(0)),
+        (&[2, 12, 9], 0, 6, Some(1)),
+        (&[2, 13, 9], 0, 7, Some(1)),
+        (&[2, 14, 9], 0, 8, Some(2)),
+        (&[2, 14, 10], 0, 9, Some(2)),
+        (&[2, 14, 11], 0, 10, None),
+        (&[2, 14, 11], 0, 10, Some(2)),
     ];
     assert_places(&fallback(), &expected);
 }
@@ -97,40 +100,44 @@ fn exercise_1() {
     assert_eq!(example.after(1).waiting(2), [(1, &[5][..]), (2, &[2])]);
 }
 
-/// Each ring holds one task. Worker 2 has the least load, and keeps it: the weight 4 joins worker 3.
+/// Each ring holds two tasks. Worker 2 has the least load, and keeps it: the weights 3 and 1 join worker 3.
 #[test]
 fn exercise_2() {
-    let expected: [Expected; 3] = [
+    let expected: [Expected; 5] = [
         (&[8, 5, 0, 6], 2, 4, Some(2)),
-        (&[8, 5, 2, 6], 2, 5, Some(3)),
-        (&[8, 5, 2, 10], 2, 6, Some(0)),
+        (&[8, 5, 1, 6], 2, 5, Some(2)),
+        (&[8, 5, 2, 6], 2, 6, Some(3)),
+        (&[8, 5, 2, 9], 2, 7, Some(3)),
+        (&[8, 5, 2, 10], 2, 8, Some(0)),
     ];
     let example = past_the_last();
     assert_places(&example, &expected);
-    assert_told("Tasks 4, 5 and 6 go to workers 2, 3 and 0.");
+    assert_told("Tasks 4 and 5 go to worker 2, tasks 6 and 7 to worker 3, and task 8 to worker 0.");
     assert_eq!(example.after(2).loads(), [9, 5, 2, 10]);
     assert_told("After that the loads are 9, 5, 2 and 10.");
 }
 
-/// Each ring holds one task, and those that worker 1 fills have tasks 2 and 3. Worker 0 looks at filler 0 first. Its load is the
-/// same before and after each Fetch; at its Complete the 6 of task 0 leaves.
+/// Each ring holds two tasks, and those that worker 1 fills have tasks 2 and 3, and 4 and 5. Worker 0 looks at filler 0 first. Its
+/// load is the same before and after each Fetch; at its Complete the 6 of task 0 leaves.
 #[test]
 fn exercise_3() {
-    let expected: [Expected; 5] = [
+    let expected: [Expected; 7] = [
         (&[6, 0], 1, 2, Some(1)),
-        (&[6, 3], 1, 3, Some(0)),
-        (&[7, 3], 1, 4, None),
-        (&[7, 3], 1, 4, None),
-        (&[1, 3], 0, 4, Some(0)),
+        (&[6, 2], 1, 3, Some(1)),
+        (&[6, 3], 1, 4, Some(0)),
+        (&[7, 3], 1, 5, Some(0)),
+        (&[8, 3], 1, 6, None),
+        (&[8, 3], 1, 6, None),
+        (&[2, 3], 0, 6, Some(0)),
     ];
     let example = room();
     assert_places(&example, &expected);
     let fetched: Vec<&[(u32, u32)]> = example.placements.iter().map(|each| each.fetched.as_slice()).collect();
-    assert_eq!(fetched, [&[(1, 1)][..], &[], &[], &[(0, 0)], &[(3, 0)]]);
-    let before_the_refusal = &example.placements[2].view;
-    assert_eq!(before_the_refusal.waiting(0), [(0, &[0][..]), (1, &[3])]);
-    assert_eq!(before_the_refusal.waiting(1), [(1, &[2][..])]);
-    assert_told("The third and the fourth Release are refused, both with 11 and task 4.");
+    assert_eq!(fetched, [&[(1, 1)][..], &[], &[], &[], &[], &[(0, 0)], &[(4, 0)]]);
+    let before_the_refusal = &example.placements[4].view;
+    assert_eq!(before_the_refusal.waiting(0), [(0, &[0][..]), (1, &[4, 5])]);
+    assert_eq!(before_the_refusal.waiting(1), [(1, &[2, 3][..])]);
+    assert_told("The fifth and the sixth Release are refused, both with 11 and task 6.");
 }
 
 /// The page says so, wherever its lines break.
@@ -140,7 +147,7 @@ fn assert_told(sentence: &str) {
     assert!(words.join(" ").contains(sentence), "{sentence}");
 }
 
-/// What waits in which ring, in the example of full rings: before the refused Release, and after worker 2 has fetched task 5 from
+/// What waits in which ring, in the example of full rings: before the refused Release, and after worker 2 has fetched task 8 from
 /// the ring that worker 0 fills.
 #[test]
 fn what_waits_past_full_rings() {
@@ -148,10 +155,10 @@ fn what_waits_past_full_rings() {
     let [.., refused, last] = example.placements.as_slice() else {
         panic!("a refused Release and one after it");
     };
-    assert_eq!(refused.view.waiting(0), [(0, &[3][..])]);
-    assert_eq!(refused.view.waiting(1), [(0, &[4][..]), (1, &[1])]);
-    assert_eq!(refused.view.waiting(2), [(0, &[5][..]), (2, &[2])]);
-    assert_eq!(last.view.waiting(2), [(2, &[2][..])]);
+    assert_eq!(refused.view.waiting(0), [(0, &[3, 5][..])]);
+    assert_eq!(refused.view.waiting(1), [(0, &[6, 7][..]), (1, &[1, 4])]);
+    assert_eq!(refused.view.waiting(2), [(0, &[8, 9][..]), (2, &[2])]);
+    assert_eq!(last.view.waiting(2), [(0, &[9][..]), (2, &[2])]);
 }
 
 /// How often the drawn runs try each part of the rule.
@@ -208,7 +215,7 @@ fn assert_waiting_and_held(memory: &Memory, view: &View) {
 /// their owner has the least load.
 fn crowded(seed: u64) -> Case {
     let mut draw = Draw::new(seed);
-    let (p, k, n) = (draw.between(2, 5), draw.between(2, 3), draw.between(10, 40));
+    let (p, k, n) = (draw.between(2, 4), draw.between(2, 3), draw.between(20, 60));
     let weights = (0..n).map(|_| draw.pick(&[0, 0, 1, 50])).collect();
     let root = |task: usize| if task < p { vec![] } else { vec![(task % p) as u32] };
     let Table { starts, words } = Table::of(&(0..n).map(root).collect::<Vec<_>>());

@@ -41,8 +41,7 @@ fn every_answer_is_tried() {
         ("refused 3 1", 2),
         ("refused 4 2", 1),
         ("refused 5 1", 2),
-        ("refused 6 7", 1),
-        ("refused 6 8", 1),
+        ("refused 6 9", 2),
         ("refused 13 1", 2),
         ("refused 13 2", 2),
         ("refused 13 3", 1),
@@ -51,7 +50,8 @@ fn every_answer_is_tried() {
         ("2 6", 2),
         ("2 7", 1),
         ("4 16", 2),
-        ("6 18", 1),
+        ("8 24", 1),
+        ("9 34", 1),
         ("1024 11264", 1),
     ] {
         assert!(count(words) >= least, "{words}: {}", count(words));

@@ -17,7 +17,7 @@ const ROOM: [(List, usize); 10] = [
     (List::Succs, 8_200),
     (List::Degrees, 1_032),
     (List::Rings, 16_400),
-    (List::Ends, 520),
+    (List::Ends, 776),
     (List::Counters, 260),
     (List::Buffers, 16_400),
     (List::Executed, 2_056),

@@ -1,6 +1,6 @@
-//! Begin in the words of document 01.
+//! Begin in the words of document 01, and of document 02 where it changes them.
 
-use super::{add, set, Limits, Sizes};
+use super::{add, set, Ends, Limits, Sizes};
 use crate::memory::{Memory, HELD, NIL, ROW_WORDS};
 use crate::model::{refused, word, Answer, Graph, Table};
 
@@ -33,9 +33,9 @@ fn roots(graph: &Graph) -> Vec<usize> {
         .collect()
 }
 
-/// 6: "more than P·(K−1) roots", detail "their number".
+/// 6: "The roots' limit becomes P·K", detail "their number".
 fn judge_roots(sizes: Sizes, roots: &[usize]) -> Answer {
-    if roots.len() > sizes.p * (sizes.k - 1) {
+    if roots.len() > sizes.p * sizes.k {
         return refused(6, word(roots.len()));
     }
     Ok(())
@@ -69,18 +69,15 @@ fn fill_graph(memory: &mut Memory, graph: &Graph) {
 
 /// "root number m, from 0, goes to the ring of owner and filler m mod P, and its weight to that counter."
 fn place_roots(memory: &mut Memory, sizes: Sizes, roots: &[usize]) {
+    let mut all_ends = vec![Ends::default(); sizes.p];
     for (m, &root) in roots.iter().enumerate() {
         let worker = m % sizes.p;
         let ring = sizes.ring(worker, worker);
-        let tail = tail_of(memory, ring);
-        set(&mut memory.rings, ring * sizes.k + tail, word(root));
-        set(&mut memory.ends, 2 * ring + 1, word((tail + 1) % sizes.k));
+        let ends = &mut all_ends[worker];
+        set(&mut memory.rings, ring * sizes.k + ends.tail, word(root));
+        *ends = ends.appended(sizes.k);
+        ends.write(&mut memory.ends, ring);
         let weight = memory.weights.get(root).copied().unwrap_or(0);
         add(&mut memory.counters, ring, i64::from(weight));
     }
-}
-
-/// A tail that begin has written.
-fn tail_of(memory: &Memory, ring: usize) -> usize {
-    memory.ends.get(2 * ring + 1).map_or(0, |&tail| tail as usize)
 }

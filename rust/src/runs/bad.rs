@@ -60,10 +60,10 @@ fn several_defects(draw: &mut Draw, limits: Limits) -> Case {
     recorder.case()
 }
 
-/// Rings that the roots fill, or that lack a slot or two: "more than P·(K−1) roots".
+/// Rings that the roots fill, or that lack a slot or two: "The roots' limit becomes P·K".
 fn too_many_roots(draw: &mut Draw, limits: Limits) -> Case {
     let (p, k) = (draw.between(1, 4), draw.between(2, 5));
-    let roots = p * (k - 1) + draw.below(3);
+    let roots = p * k + draw.below(3);
     let mut lists = vec![Vec::new(); roots + draw.below(3)];
     for list in &mut lists[roots..] {
         *list = vec![draw.below(roots) as u32];

@@ -5,7 +5,7 @@ use super::honest::{Manner, Recorder};
 use super::{graphs, lent_for, small_sizes, Case};
 use crate::draw::Draw;
 use crate::engine::Limits;
-use crate::memory::{List, Memory, Step, CURSOR, HELD, PHASE, POINTER, READ, ROW_WORDS};
+use crate::memory::{List, Memory, Step, COUNT, CURSOR, END_WORDS, HEAD, HELD, PHASE, POINTER, READ, ROW_WORDS, TAIL};
 
 /// Lists whose words the steps read come more often.
 const LISTS: [List; 18] = [
@@ -44,6 +44,7 @@ pub fn between_calls(draw: &mut Draw, limits: Limits, most: usize) -> Case {
         }
         let mut old = match draw.below(8) {
             0 => large_counters(draw, &mut recorder),
+            1 => sound_ends(draw, &mut recorder),
             _ => several(draw, &mut recorder),
         };
         recorder.every_step(draw, 32);
@@ -62,7 +63,7 @@ pub fn between_calls(draw: &mut Draw, limits: Limits, most: usize) -> Case {
 /// Worker 0 has filled all its rings and meets 11; damage that comes before it or behind it, and its Release again.
 pub fn at_full_rings(draw: &mut Draw, limits: Limits) -> Case {
     let (p, k) = (draw.between(1, 4), draw.between(2, 3));
-    let full = p * (k - 1);
+    let full = p * k;
     let root = vec![Vec::new()];
     let successors = vec![vec![0]; full + draw.between(1, 3)];
     let graph = graphs::weighed(draw, &[root, successors].concat());
@@ -131,6 +132,21 @@ fn large_counters(draw: &mut Draw, recorder: &mut Recorder) -> Vec<Old> {
     places.filter_map(&mut write).collect()
 }
 
+/// The ends of a ring as they would be after other appends and takes: any head, any count up to K, and the tail they lead to.
+fn sound_ends(draw: &mut Draw, recorder: &mut Recorder) -> Vec<Old> {
+    let k = recorder.k;
+    let ring = draw.below(recorder.p * recorder.p);
+    let (head, some) = (draw.below(k), draw.below(k + 1));
+    let count = draw.pick(&[0, k, some]);
+    let words = [(HEAD, head), (TAIL, (head + count) % k), (COUNT, count)];
+    let mut write = |(place, word): (usize, usize)| {
+        let place = END_WORDS * ring + place;
+        let old = recorder.write(List::Ends, place, word as u32)?;
+        Some((List::Ends, place, old))
+    };
+    words.into_iter().filter_map(&mut write).collect()
+}
+
 /// Writes one word, and answers where it stands and the one that was there.
 fn damage(draw: &mut Draw, recorder: &mut Recorder) -> Option<Old> {
     let list = draw.pick(&LISTS);
@@ -187,11 +203,11 @@ fn held(memory: &Memory, worker: usize) -> Option<usize> {
 
 /// The head's slot of some ring, mostly of one that isn't empty.
 fn head_slot(draw: &mut Draw, memory: &Memory, k: usize) -> Option<usize> {
-    let rings = memory.ends.len() / 2;
+    let rings = memory.ends.len() / END_WORDS;
     let first = draw.below(rings.max(1));
-    let waiting = |ring: &usize| memory.ends[2 * ring] != memory.ends[2 * ring + 1];
+    let waiting = |ring: &usize| memory.ends[END_WORDS * ring + COUNT] > 0;
     let ring = (0..rings).map(|passed| (first + passed) % rings).find(waiting)?;
-    Some(ring * k + memory.ends[2 * ring] as usize)
+    Some(ring * k + memory.ends[END_WORDS * ring + HEAD] as usize)
 }
 
 /// The place of the successor that the worker would release next.
@@ -209,6 +225,7 @@ fn word_for(draw: &mut Draw, list: List, place: usize, memory: &Memory, p: usize
     match list {
         List::Weights => draw.pick(&[0, 1, 65_535, 65_536, 1 << 31, u32::MAX]),
         List::Counters => counter(draw) as u32,
+        List::Ends if place % END_WORDS == COUNT => near(draw, k + 1),
         List::Ends => near(draw, k),
         List::Degrees => draw.pick(&[0, 1, 1, 2, n as u32, n as u32 + 1, u32::MAX]),
         List::SuccStarts | List::PredStarts => near(draw, e + 1),
@@ -268,7 +285,13 @@ fn draw_all(draw: &mut Draw, memory: &mut Memory, p: usize, k: usize) {
     below(draw, &mut memory.succs, n);
     below(draw, &mut memory.degrees, 4);
     below(draw, &mut memory.rings, n);
-    below(draw, &mut memory.ends, k);
+    for ends in memory.ends.chunks_exact_mut(END_WORDS) {
+        // head = tail is an empty ring or a full one
+        let (head, count) = (draw.below(k), draw.below(k + 1));
+        ends[HEAD] = head as u32;
+        ends[TAIL] = ((head + count) % k) as u32;
+        ends[COUNT] = count as u32;
+    }
     below(draw, &mut memory.buffers, n);
     below(draw, &mut memory.executed, n);
     memory.run = vec![draw.below(n) as u32, draw.below(3 * n + e) as u32];

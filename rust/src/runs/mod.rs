@@ -126,7 +126,7 @@ fn enlarged(draw: &mut Draw, limits: Limits, graph: &Graph, (mut p, mut k): (usi
     if draw.below(8) == 0 {
         return (p, k);
     }
-    while roots > p * (k - 1) && (p, k) != (limits.workers, limits.slots) {
+    while roots > p * k && (p, k) != (limits.workers, limits.slots) {
         p = (p + 1).min(limits.workers);
         k = (k + 1).min(limits.slots);
     }

@@ -11,7 +11,7 @@ use crate::script::{Command, Line, Order, Script, Sizes, Told};
 fn any_sizes(draw: &mut Draw, graph: &Graph) -> Sizes {
     let (mut p, mut k) = (draw.pick(&WORKERS), draw.pick(&SLOTS));
     let roots = graph.preds.starts.windows(2).filter(|pair| pair[0] == pair[1]).count();
-    while roots > p * (k - 1) && draw.below(8) > 0 {
+    while roots > p * k && draw.below(8) > 0 {
         p = (p + 1).min(MAX_WORKERS);
         k = (k + 1).min(MAX_SLOTS);
     }

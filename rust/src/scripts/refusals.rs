@@ -20,27 +20,27 @@ fn refused_begin(graph: Graph, sizes: Sizes) -> Script {
     script(graph, sizes, 70_000, commands)
 }
 
-/// "more than P·(K−1) roots", "all P rings empty", "degree would be 0 and all P rings filled by this worker are full", …
+/// "The roots' limit becomes P·K", "all P rings empty", "degree would be 0 and all P rings filled by this worker are full", …
 pub fn examples() -> Vec<Line> {
     let two = Sizes { p: 2, k: 2 };
     let one = Sizes { p: 1, k: 2 };
     let step = Command::Step;
     let first_task = [Step::Fetch, Step::Start, Step::Complete].map(|what| step(one, 0, what));
-    let three = graph_of(&[1, 1, 1], &[&[], &[], &[]]);
     let one_root = graph_of(&[1, 1], &[&[], &[0]]);
-    let fork = graph_of(&[1, 2, 3], &[&[], &[0], &[0]]);
+    let fork = graph_of(&[1, 2, 3, 4], &[&[], &[0], &[0], &[0]]);
     let begun = |sizes, commands: &[Command]| [&[Command::Begin(sizes)], commands, &[Command::Lists]].concat();
-    let fills = [&first_task[..], &[step(one, 0, Step::Release); 2]].concat();
+    let fills = [&first_task[..], &[step(one, 0, Step::Release); 3]].concat();
     [
-        noted("example 6: P 2, K 2, three roots", [refused_begin(three, two)]),
         noted(
-            "two roots, P 2, K 2",
-            [script(
-                graph_of(&[1, 1], &[&[], &[]]),
-                two,
-                7,
-                whole_run(two, ROUND, Told::All),
-            )],
+            "example 6: P 2, K 2, five roots",
+            [refused_begin(graph_of(&[1; 5], &[&[][..]; 5]), two)],
+        ),
+        noted(
+            "two, three and four roots, P 2, K 2",
+            [2, 3, 4].map(|roots| {
+                let graph = graph_of(&vec![1; roots], &vec![&[][..]; roots]);
+                script(graph, two, 7, whole_run(two, ROUND, Told::All))
+            }),
         ),
         noted(
             "example 7: P 2, worker 2",
@@ -55,7 +55,7 @@ pub fn examples() -> Vec<Line> {
             [script(one_root, two, 7, begun(two, &[step(two, 1, Step::Fetch)]))],
         ),
         noted(
-            "example 11: P 1, K 2, edges 0→1, 0→2: second Release",
+            "example 11: P 1, K 2, edges 0→1, 0→2, 0→3: third Release",
             [script(fork, one, 7, begun(one, &fills))],
         ),
     ]
@@ -119,7 +119,7 @@ pub fn begins() -> Vec<Line> {
                 graph_of(&[0; 4], &[&[], &[0], &[0], &[1, 1]]),
                 graph_of(&[0; 3], &[&[], &[2], &[1]]),
                 graph_of(&[0; 3], &[&[], &[1], &[1]]),
-                Graph::of_lists(&vec![Vec::new(); 7]),
+                Graph::of_lists(&vec![Vec::new(); 9]),
             ]
             .map(|graph| refused_begin(graph, sizes)),
         ),
@@ -166,7 +166,7 @@ fn lend_otherwise(memory: &mut Memory, list: List, more: bool, fill: u32) {
 pub fn full_rings() -> Vec<Line> {
     let sizes = [1, 2, 3, 5].into_iter().flat_map(|p| [2, 3, 4].map(|k| Sizes { p, k }));
     let scripts = sizes.map(|sizes| {
-        let lists = [vec![Vec::new()], vec![vec![0]; sizes.p * (sizes.k - 1) + 3]].concat();
+        let lists = [vec![Vec::new()], vec![vec![0]; sizes.p * sizes.k + 3]].concat();
         let commands = vec![
             Command::Begin(sizes),
             Command::Turns(sizes, ALONE, UNTIL_IDLE, Told::All),

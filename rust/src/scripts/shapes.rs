@@ -103,14 +103,18 @@ fn every_size_of(draw: &mut Draw, name: &str, lists: &Lists) -> Vec<Line> {
     noted(name, scripts.collect::<Vec<_>>())
 }
 
-/// As many roots as there is room for, P·(K−1), and one more, with the most workers and slots.
+/// As many roots as there is room for, P·K, and one more, with the most workers; with the most slots there is room for the most
+/// tasks.
 pub fn most_roots() -> Vec<Line> {
-    let sizes = Sizes { p: 16, k: 64 };
-    let run_of = |roots| {
+    let run_of = |(roots, k)| {
+        let sizes = Sizes { p: 16, k };
         let graph = Graph::of_lists(&vec![Vec::new(); roots]);
         script(graph, sizes, 7, whole_run(sizes, ROUND, Told::Nothing))
     };
-    noted("1,008 roots, 1,009", [1_008, 1_009].map(run_of))
+    noted(
+        "K 63: 1,008 roots, 1,009; K 64: 1,024 roots",
+        [(1_008, 63), (1_009, 63), (1_024, 64)].map(run_of),
+    )
 }
 
 /// 1,024 tasks and 8,192 edges, with the lists printed on the way.

@@ -12,7 +12,8 @@ pub fn begun() -> Memory {
         succs: vec![1, 2, 3, 3],
         degrees: vec![0, 1, 1, 2],
         rings: vec![0; 16],
-        ends: vec![0, 1, 0, 0, 0, 0, 0, 0],
+        // head, tail and count of each ring
+        ends: vec![0, 1, 1, 0, 0, 0, 0, 0, 0, 0, 0, 0],
         counters: vec![0; 4],
         buffers: vec![0; 8],
         executed: vec![0; 8],
@@ -27,7 +28,7 @@ pub fn finished() -> Memory {
         degrees: vec![0; 4],
         // owner 0: filled by 0 with tasks 0, 1, 3; owner 1: filled by 0 with task 2
         rings: vec![0, 1, 3, 0, 0, 0, 0, 0, 2, 0, 0, 0, 0, 0, 0, 0],
-        ends: vec![3, 3, 0, 0, 1, 1, 0, 0],
+        ends: vec![3, 3, 0, 0, 0, 0, 1, 1, 0, 0, 0, 0],
         counters: vec![0, 0, 3, -3],
         buffers: vec![0, 1, 0, 0, 2, 0, 0, 0],
         executed: vec![0, 0, 2, 1, 1, 0, 3, 0],

@@ -15,6 +15,58 @@ fn the_buffer_of_a_worker_begins_at_its_number_times_n() {
     assert_eq!(board.memory.rows, [[0, NIL, 1, 0, 1, 0], [0, NIL, 0, 0, 1, 0]]);
 }
 
+/// "The roots' limit becomes P·K": P·K roots fill each worker's own ring, whose tail comes round to its head; one more is refused
+/// with their number. With P 16 and K 64 the most tasks there may be have room.
+#[test]
+fn as_many_roots_as_there_are_slots() {
+    let roots = |count: usize, p, k| Board::new(&vec![1; count], &vec![&[][..]; count], p, k);
+    for (p, k) in [
+        (1, 2),
+        (1, 3),
+        (2, 2),
+        (2, 4),
+        (3, 2),
+        (5, 7),
+        (1, 64),
+        (16, 2),
+        (16, 63),
+    ] {
+        let mut board = roots(p * k, p, k);
+        assert_eq!(board.begin(), Ok(()), "P {p} K {k}");
+        for ring in 0..p * p {
+            let own = ring % (p + 1) == 0;
+            let expected = if own { [0, 0, k as u32] } else { [0; 3] };
+            assert_eq!(board.memory.ends[3 * ring..][..3], expected, "P {p} K {k}");
+            let filler = (ring % p) as u32;
+            let dealt = (0..k as u32).map(|turn| if own { filler + turn * p as u32 } else { 0 });
+            assert!(
+                board.memory.rings[ring * k..][..k].iter().copied().eq(dealt),
+                "P {p} K {k}"
+            );
+        }
+        // one root less leaves the last slot of the last worker free
+        let mut board = roots(p * k - 1, p, k);
+        assert_eq!(board.begin(), Ok(()), "P {p} K {k}");
+        let last = [0, k as u32 - 1, k as u32 - 1];
+        assert_eq!(board.memory.ends[3 * (p * p - 1)..], last, "P {p} K {k}");
+        let more = p * k + 1;
+        assert_eq!(roots(more, p, k).begin(), refused(6, more as u32), "P {p} K {k}");
+    }
+    assert_eq!(roots(1_024, 16, 64).begin(), Ok(()));
+    assert_eq!(roots(1_025, 16, 64).begin(), refused(2, 0));
+}
+
+/// All roots of full rings are fetched, each worker's in the order in which they were dealt.
+#[test]
+fn full_rings_are_fetched_from() {
+    let mut board = Board::begun(&[1; 8], &[&[][..]; 8], 2, 4);
+    for task in 0..8 {
+        board.execute(task % 2, task);
+    }
+    assert_eq!(board.memory.run, [8, 24]);
+    assert_eq!(board.memory.ends, [0; 12]);
+}
+
 /// Every begin and step checks the exact length of every list.
 #[test]
 fn every_length_is_exact() {
@@ -174,9 +226,9 @@ fn detail_of_5_is_on_the_cycle() {
 /// "Order in begin: 2, 1, 3, 4, 5, 6."
 #[test]
 fn order_in_begin() {
-    // task 0 loops on itself, 1 has a predecessor twice, 2 has one that is no task; 3 and 4 are too many roots
-    let lists: [&[u32]; 5] = [&[0], &[3, 3], &[5], &[], &[]];
-    let mut board = Board::new(&[0, 0, 0, 0, 65_536], &lists, 1, 2);
+    // task 0 loops on itself, 1 has a predecessor twice, 2 has one that is no task; 3, 4 and 5 are too many roots
+    let lists: [&[u32]; 6] = [&[0], &[3, 3], &[6], &[], &[], &[]];
+    let mut board = Board::new(&[0, 0, 0, 0, 65_536, 0], &lists, 1, 2);
     board.memory.rows.pop();
     assert_eq!(board.begin(), refused(2, 0));
     board.memory.weights[4] = 0;
@@ -188,7 +240,7 @@ fn order_in_begin() {
     board.memory.preds[2] = 4;
     assert_eq!(board.begin(), refused(5, 0));
     board.memory.preds[0] = 3;
-    assert_eq!(board.begin(), refused(6, 2));
+    assert_eq!(board.begin(), refused(6, 3));
 }
 
 /// "A run starts at an accepted begin, whatever its lists held outside weights and predecessor tables."

@@ -2,7 +2,7 @@
 
 use engine_model::engine::Engine;
 use engine_model::engines;
-use engine_model::memory::{List, Memory, Outcome, Step, ROW_WORDS};
+use engine_model::memory::{List, Memory, Outcome, Step, COUNT, END_WORDS, HEAD, ROW_WORDS, TAIL};
 use engine_model::model::{Answer, Refusal, Table};
 
 /// A word that stands in the lists before begin.
@@ -141,6 +141,14 @@ impl Board {
         self.with(List::Rows, worker * ROW_WORDS + field, word)
     }
 
+    /// The same board with head, tail and count of a ring written.
+    pub fn with_ends(&self, ring: usize, [head, tail, count]: [u32; END_WORDS]) -> Board {
+        let words = [(HEAD, head), (TAIL, tail), (COUNT, count)];
+        words.into_iter().fold(self.clone(), |board, (place, word)| {
+            board.with(List::Ends, END_WORDS * ring + place, word)
+        })
+    }
+
     /// The same board with one counter written.
     pub fn with_counter(&self, owner: usize, filler: usize, value: i32) -> Board {
         self.with(List::Counters, owner * self.p + filler, value as u32)
@@ -157,7 +165,7 @@ pub fn diamond(p: usize, k: usize) -> Board {
     Board::begun(&[0, 5, 3, 0], &DIAMOND, p, k)
 }
 
-/// Tasks 1 and 2 after 0, as in the table's example of 11: 3 tasks, 2 edges.
+/// Tasks 1 and 2 after 0: 3 tasks, 2 edges.
 pub const FORK: [&[u32]; 3] = [&[], &[0], &[0]];
 
 pub fn fork(p: usize, k: usize) -> Board {
@@ -167,6 +175,13 @@ pub fn fork(p: usize, k: usize) -> Board {
 /// The fork after Fetch, Start and Complete of task 0 by worker 0, which can now release 1 and 2.
 pub fn fork_to_release(p: usize, k: usize) -> Board {
     let mut board = fork(p, k);
+    board.execute(0, 0);
+    board
+}
+
+/// Tasks 1, 2 and 3 after 0, as in the example of 11, which "gains an edge 0→3": worker 0 has completed task 0.
+pub fn trident_to_release(p: usize, k: usize) -> Board {
+    let mut board = Board::begun(&[4, 5, 6, 7], &[&[], &[0], &[0], &[0]], p, k);
     board.execute(0, 0);
     board
 }

@@ -6,19 +6,106 @@ use engine_model::memory::{List, Step, ACCEPTED, CURSOR, ENTRIES, HELD, NIL, PHA
 /// "head or tail ≥ K"
 #[test]
 fn damaged_head_or_tail() {
-    let board = fork(2, 4);
+    // both sums are 0, so the target of the Release is worker 0
+    let (to_fetch, to_release) = (fork(2, 4), fork_to_release(2, 4));
     for end in [0, 1] {
         for word in [4, 5, HUGE] {
-            assert_eq!(board.with(List::Ends, end, word).fetch(0), refused(8, 0));
+            assert_eq!(to_fetch.with(List::Ends, end, word).fetch(0), refused(8, 0));
+            assert_eq!(to_release.with(List::Ends, end, word).release(0), refused(8, 0));
         }
     }
-    // head 0, tail 3: three tasks wait
-    assert_eq!(board.with(List::Ends, 1, 3).fetch(0), fetched(0));
-    // both sums are 0, so the target is worker 0
-    let board = fork_to_release(2, 4);
-    for end in [0, 1] {
-        assert_eq!(board.with(List::Ends, end, 4).release(0), refused(8, 0));
-        assert_eq!(board.with(List::Ends, end, 3).release(0), placed(1, 0));
+    // head plus count leads to tail, and one of them is no slot
+    for ends in [[4, 1, 1], [5, 2, 1], [0, 4, 4], [3, 4, 1], [4, 4, 0]] {
+        assert_eq!(to_fetch.with_ends(0, ends).fetch(0), refused(8, 0), "{ends:?}");
+        assert_eq!(to_release.with_ends(0, ends).release(0), refused(8, 0), "{ends:?}");
+    }
+    // head 0, tail 3: three tasks wait; head 3, tail 3: none
+    assert_eq!(to_fetch.with_ends(0, [0, 3, 3]).fetch(0), fetched(0));
+    assert_eq!(to_release.with_ends(0, [0, 3, 3]).release(0), placed(1, 0));
+    assert_eq!(to_release.with_ends(0, [3, 3, 0]).release(0), placed(1, 0));
+}
+
+/// The slot that this many slots lead to, one after the other, of the four of a ring.
+fn led_to(head: u32, count: u32) -> u32 {
+    (0..count).fold(head, |slot, _| if slot == 3 { 0 } else { slot + 1 })
+}
+
+/// "A count over K, or head plus count not leading to tail modulo K, is damaged": each head and tail below K, 4 here, with counts
+/// up to K and over it. "empty is count 0, full is count K".
+#[test]
+fn damaged_count() {
+    let to_fetch = [1, 2, 1]
+        .into_iter()
+        .zip(1..)
+        .fold(fork(2, 4), |board, (task, slot)| board.with(List::Rings, slot, task));
+    let slots = [0, 1, 2, 1];
+    for (head, tail) in (0..4).flat_map(|head| (0..4).map(move |tail| (head, tail))) {
+        for count in [0, 1, 2, 3, 4, 5, 6, 7, 8, 65_535, 65_536, HUGE - 1, HUGE] {
+            let ends = [head, tail, count];
+            let sound = count <= 4 && led_to(head, count) == tail;
+            let (mut fetching, mut releasing) = (to_fetch.with_ends(0, ends), fork_to_release(2, 4).with_ends(0, ends));
+            let (first, placed_at) = (fetching.fetch(0), releasing.release(0));
+            match count {
+                _ if !sound => assert_eq!((first, placed_at), (refused(8, 0), refused(8, 0)), "{ends:?}"),
+                // the other ring of worker 0 is empty too
+                0 => assert_eq!((first, placed_at), (refused(10, 0), placed(1, 0)), "{ends:?}"),
+                // the ring of the next owner takes the task
+                4 => assert_eq!(
+                    (first, placed_at),
+                    (fetched(slots[head as usize]), placed(1, 1)),
+                    "{ends:?}"
+                ),
+                _ => assert_eq!(
+                    (first, placed_at),
+                    (fetched(slots[head as usize]), placed(1, 0)),
+                    "{ends:?}"
+                ),
+            }
+            if sound && count > 0 {
+                assert_eq!(
+                    fetching.memory.ends[..3],
+                    [led_to(head, 1), tail, count - 1],
+                    "{ends:?}"
+                );
+            }
+            if sound && count < 4 {
+                assert_eq!(
+                    releasing.memory.ends[..3],
+                    [head, led_to(tail, 1), count + 1],
+                    "{ends:?}"
+                );
+                assert_eq!(releasing.memory.rings[tail as usize], 1, "{ends:?}");
+            }
+        }
+    }
+}
+
+/// Head and tail at one slot: a count of 0 or K is sound, and no other. Where they differ, neither is.
+#[test]
+fn damaged_count_of_an_empty_or_a_full_ring() {
+    for count in [0, 2] {
+        for (head, tail) in [(0, 1), (1, 0)] {
+            assert_eq!(fork(1, 2).with_ends(0, [head, tail, count]).fetch(0), refused(8, 0));
+            let mut board = fork_to_release(1, 2).with_ends(0, [head, tail, count]);
+            assert_eq!(board.release(0), refused(8, 0));
+        }
+    }
+    for slot in [0, 1] {
+        for count in [1, 3, 4, HUGE] {
+            assert_eq!(fork(1, 2).with_ends(0, [slot, slot, count]).fetch(0), refused(8, 0));
+            let mut board = fork_to_release(1, 2).with_ends(0, [slot, slot, count]);
+            assert_eq!(board.release(0), refused(8, 0));
+        }
+        assert_eq!(fork(1, 2).with_ends(0, [slot, slot, 0]).fetch(0), refused(10, 0));
+        assert_eq!(fork(1, 2).with_ends(0, [slot, slot, 2]).fetch(0), fetched(0));
+        assert_eq!(
+            fork_to_release(1, 2).with_ends(0, [slot, slot, 0]).release(0),
+            placed(1, 0)
+        );
+        assert_eq!(
+            fork_to_release(1, 2).with_ends(0, [slot, slot, 2]).release(0),
+            refused(11, 1)
+        );
     }
 }
 

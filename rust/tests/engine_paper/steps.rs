@@ -1,7 +1,8 @@
 //! The readings of docs/DECISIONS.md on the steps.
 
 use crate::board::{
-    degree_left, diamond, fetched, fork, fork_to_release, join_to_release, placed, refused, Board, HUGE, LIMIT, MOVED,
+    degree_left, diamond, fetched, fork, fork_to_release, join_to_release, placed, refused, trident_to_release, Board,
+    HUGE, LIMIT, MOVED,
 };
 use engine_model::memory::{List, Step, ACCEPTED, CURSOR, ENTRIES, HELD, NIL, PHASE, POINTER, READ, WRITE};
 
@@ -15,7 +16,8 @@ fn what_fetch_writes() {
     let before = board.memory.clone();
     assert_eq!(board.fetch(1), fetched(1));
     let mut expected = before;
-    expected.ends[4] = 1;
+    // ring 2: the head goes from 0 to 1, the count from 1 to 0
+    expected.ends[6..9].copy_from_slice(&[1, 1, 0]);
     expected.run[ACCEPTED] += 1;
     expected.rows[1] = [1, 1, 1, 0, 0, 0];
     assert_eq!(board.memory, expected);
@@ -28,8 +30,11 @@ fn fetch_with_all_rings_empty() {
     assert_eq!(board.with_row(1, POINTER, 2).fetch(1), refused(8, 0));
     assert_eq!(board.with(List::Run, ACCEPTED, HUGE).fetch(1), refused(10, 0));
     assert_eq!(board.with(List::Rings, 8, HUGE).fetch(1), refused(10, 0));
-    // a bad end of a ring that is scanned
-    assert_eq!(board.with(List::Ends, 7, 4).fetch(1), refused(8, 0));
+    // a bad head, tail or count of a ring that is scanned, and of the rings of worker 0, which aren't
+    for place in 0..12 {
+        let expected = if place < 6 { refused(10, 0) } else { refused(8, 0) };
+        assert_eq!(board.with(List::Ends, place, 5).fetch(1), expected, "{place}");
+    }
 }
 
 /// The scan goes from the pointer upward, modulo P, and reads no ends behind the first ring that isn't empty.
@@ -39,29 +44,31 @@ fn fetch_scans_from_the_pointer() {
     let mut board = Board::begun(&[1; 6], &[&[][..]; 6], 3, 4);
     board.memory.rings[4] = 4;
     board.memory.rings[8] = 5;
-    board.memory.ends[3] = 1;
-    board.memory.ends[5] = 1;
+    let board = board.with_ends(1, [0, 1, 1]).with_ends(2, [0, 1, 1]);
     for (pointer, task, next) in [(0, 0, 1), (1, 4, 2), (2, 5, 0)] {
         let mut each = board.with_row(0, POINTER, pointer);
         assert_eq!(each.fetch(0), fetched(task));
         assert_eq!(each.memory.rows[0][POINTER], next);
-        let behind = 2 * ((pointer as usize + 1) % 3);
+        let behind = (pointer as usize + 1) % 3;
         assert_eq!(
             board
                 .with_row(0, POINTER, pointer)
-                .with(List::Ends, behind, HUGE)
+                .with_ends(behind, [HUGE; 3])
                 .fetch(0),
             fetched(task)
         );
     }
     // ring 2 empty: from pointer 2 on to ring 0
-    let empty = board.with(List::Ends, 5, 0).with_row(0, POINTER, 2);
+    let empty = board.with_ends(2, [1, 1, 0]).with_row(0, POINTER, 2);
     let mut wrapped = empty.clone();
     assert_eq!(wrapped.fetch(0), fetched(0));
     assert_eq!(wrapped.memory.rows[0][POINTER], 1);
-    // its ends are read, those of ring 1 aren't
-    assert_eq!(empty.with(List::Ends, 0, 4).fetch(0), refused(8, 0));
-    assert_eq!(empty.with(List::Ends, 2, HUGE).fetch(0), fetched(0));
+    // its ends and those of ring 2 are read, those of ring 1 aren't
+    for word in 0..3 {
+        assert_eq!(empty.with(List::Ends, word, HUGE).fetch(0), refused(8, 0));
+        assert_eq!(empty.with(List::Ends, 6 + word, HUGE).fetch(0), refused(8, 0));
+        assert_eq!(empty.with(List::Ends, 3 + word, HUGE).fetch(0), fetched(0));
+    }
 }
 
 /// "A task with p tasks ahead of it in its ring is therefore taken within (p+1)·P accepted fetches of its owner."
@@ -71,7 +78,7 @@ fn fetch_goes_round_the_rings() {
     // the rings of owner 0 hold 0, 3, 6; 1, 4, 7; 2, 5, 8
     board.memory.rings[4..7].copy_from_slice(&[1, 4, 7]);
     board.memory.rings[8..11].copy_from_slice(&[2, 5, 8]);
-    board.memory.ends[..6].copy_from_slice(&[0, 3, 0, 3, 0, 3]);
+    board.memory.ends[..9].copy_from_slice(&[0, 3, 3, 0, 3, 3, 0, 3, 3]);
     for task in 0..9 {
         assert_eq!(board.with_row(0, HELD, HUGE).fetch(0), fetched(task));
         board.execute(0, task);
@@ -86,7 +93,7 @@ fn fetch_reads_no_weight_and_no_counter() {
     board.memory.counters.fill(i32::MIN);
     let mut expected = board.memory.clone();
     assert_eq!(board.fetch(0), fetched(0));
-    expected.ends[0] = 1;
+    expected.ends[..3].copy_from_slice(&[1, 1, 0]);
     expected.run[ACCEPTED] = 1;
     expected.rows[0] = [1, 0, 1, 0, 0, 0];
     assert_eq!(board.memory, expected);
@@ -264,33 +271,44 @@ fn release_that_leaves_a_degree_reads_no_counter() {
 /// with all rings full is 11, since no ring is used.
 #[test]
 fn release_with_all_rings_full() {
-    let mut board = fork_to_release(1, 2);
+    let mut board = trident_to_release(1, 2);
     assert_eq!(board.release(0), placed(1, 0));
+    assert_eq!(board.release(0), placed(2, 0));
+    assert_eq!(board.release(0), refused(11, 3));
     assert_eq!(board.with_counter(0, 0, LIMIT + 1).release(0), refused(8, 0));
-    assert_eq!(board.with(List::Ends, 0, 2).release(0), refused(8, 0));
-    assert_eq!(board.with(List::Degrees, 2, 0).release(0), refused(8, 0));
-    assert_eq!(board.with(List::Weights, 2, HUGE).release(0), refused(11, 2));
-    assert_eq!(board.with(List::Run, ACCEPTED, HUGE).release(0), refused(11, 2));
-    assert_eq!(board.with(List::Degrees, 2, 2).release(0), degree_left(1));
+    for (place, word) in [(0, 2), (1, 2), (2, 3)] {
+        assert_eq!(board.with(List::Ends, place, word).release(0), refused(8, 0));
+    }
+    assert_eq!(board.with(List::Degrees, 3, 0).release(0), refused(8, 0));
+    assert_eq!(board.with(List::Weights, 3, HUGE).release(0), refused(11, 3));
+    assert_eq!(board.with(List::Run, ACCEPTED, HUGE).release(0), refused(11, 3));
+    assert_eq!(board.with(List::Degrees, 3, 2).release(0), degree_left(1));
 }
 
-/// All P pairs have been read for 11; else ends behind the first ring that isn't full aren't read.
+/// All P rings' ends have been read for 11; else ends behind the first ring that isn't full aren't read.
 #[test]
 fn release_reads_ends_up_to_the_ring_used() {
     // worker 0 fills rings 0, 3 and 6 of the owners 0, 1 and 2; the sums are 0, 7 and 0, so the target is 0
     let board = fork_to_release(3, 2).with_counter(1, 1, 7);
-    assert_eq!(board.with(List::Ends, 0, 2).release(0), refused(8, 0));
-    assert_eq!(board.with(List::Ends, 6, 2).release(0), placed(1, 0));
-    assert_eq!(board.with(List::Ends, 12, 2).release(0), placed(1, 0));
-    let first_full = board.with(List::Ends, 0, 1).with(List::Ends, 1, 0);
-    assert_eq!(first_full.clone().release(0), placed(1, 1));
-    assert_eq!(first_full.with(List::Ends, 6, 2).release(0), refused(8, 0));
-    assert_eq!(first_full.with(List::Ends, 12, 2).release(0), placed(1, 1));
-    let two_full = first_full.with(List::Ends, 7, 1);
-    assert_eq!(two_full.clone().release(0), placed(1, 2));
-    let all_full = two_full.with(List::Ends, 13, 1);
-    assert_eq!(all_full.clone().release(0), refused(11, 1));
-    assert_eq!(all_full.with(List::Ends, 13, 2).release(0), refused(8, 0));
+    let first_full = board.with_ends(0, [1, 1, 2]);
+    let two_full = first_full.with_ends(3, [0, 0, 2]);
+    let all_full = two_full.with_ends(6, [1, 1, 2]);
+    let boards = [board, first_full, two_full, all_full];
+    for (full, board) in boards.into_iter().enumerate() {
+        let answer = [placed(1, 0), placed(1, 1), placed(1, 2), refused(11, 1)][full];
+        assert_eq!(board.clone().release(0), answer);
+        for (passed, ring) in [0, 3, 6].into_iter().enumerate() {
+            let expected = if passed <= full { refused(8, 0) } else { answer };
+            // each word alone: a head, a tail or a count over K
+            for word in 0..3 {
+                assert_eq!(
+                    board.with(List::Ends, 3 * ring + word, 3).release(0),
+                    expected,
+                    "{full} full, {ring}"
+                );
+            }
+        }
+    }
 }
 
 /// The slot at the tail is only written.
@@ -307,13 +325,13 @@ fn release_does_not_read_the_slot_at_the_tail() {
 #[test]
 fn the_weight_joins_the_counter_of_the_ring_used() {
     // the target is worker 2 with −1; its ring filled by 0, number 6, is full, and that of the next owner, 0, isn't
-    let board = fork_to_release(3, 2).with_counter(2, 1, -1).with(List::Ends, 13, 1);
+    let board = fork_to_release(3, 2).with_counter(2, 1, -1).with_ends(6, [0, 0, 2]);
     let mut wrapped = board.clone();
     let mut expected = board.memory.clone();
     assert_eq!(wrapped.release(0), placed(1, 0));
     expected.degrees[1] = 0;
     expected.rings[1] = 1;
-    expected.ends[1] = 0;
+    expected.ends[..3].copy_from_slice(&[1, 0, 1]);
     expected.counters[0] += 5;
     expected.run[ACCEPTED] += 1;
     expected.rows[0][CURSOR] = 1;
