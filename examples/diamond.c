@@ -27,7 +27,7 @@ static uint32_t weights[YOLLUVEK_MAX_TASKS];
 static uint32_t pred_starts[YOLLUVEK_MAX_TASKS + 1], preds[YOLLUVEK_MAX_EDGES];
 static uint32_t succ_starts[YOLLUVEK_MAX_TASKS + 1], succs[YOLLUVEK_MAX_EDGES];
 static uint32_t degrees[YOLLUVEK_MAX_TASKS];
-static uint32_t rings[P * P * K], ends[2 * P * P];
+static uint32_t rings[P * P * K], ends[3 * P * P];
 static int32_t counters[P * P];
 static uint32_t buffers[P * YOLLUVEK_MAX_TASKS];
 static uint32_t executed[2 * YOLLUVEK_MAX_TASKS], run[2];
@@ -36,7 +36,7 @@ static yolluvek_row rows[P];
 /* The lists of the run, each with its exact length, then P and K. */
 #define RUN                                                                                                \
     weights, n, pred_starts, n + 1, preds, e, succ_starts, n + 1, succs, e, degrees, n,                    \
-    rings, P * P * K, ends, 2 * P * P, counters, P * P, buffers, P * n, executed, 2 * n, run, 2, rows, P, \
+    rings, P * P * K, ends, 3 * P * P, counters, P * P, buffers, P * n, executed, 2 * n, run, 2, rows, P, \
     P, K
 
 static int refused(uint32_t number, uint32_t detail)

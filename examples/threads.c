@@ -62,7 +62,7 @@ static void seam(uint32_t *task, uint32_t *edge, uint32_t first, uint32_t second
     job.pred_starts[++*task] = *edge;
 }
 
-/* The flight comes before every tile. Without it 300 tasks would have no predecessor, and begin has room for 4 * 63. */
+/* The flight comes before every tile. Without it 300 tasks would have no predecessor, and begin has room for 4 * 64. */
 static void fill(void)
 {
     uint32_t task = 0, edge = 0, tile;

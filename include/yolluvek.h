@@ -28,7 +28,7 @@
  * Nothing is assumed of the words, lengths and numbers: any are taken, and the wrong ones are refused.
  *
  * N is the number of tasks and E that of edges: the lengths of `weights` and of `preds`. Tasks are numbered 0 to N - 1.
- * P is the number of workers, numbered 0 to P - 1, and K that of the slots of a ring, which holds K - 1 tasks; they are
+ * P is the number of workers, numbered 0 to P - 1, and K that of the slots of a ring, which holds K tasks; they are
  * handed over as `p` and `k`.
  */
 #ifndef YOLLUVEK_H
@@ -88,7 +88,7 @@ enum {
     /* the tasks form a cycle; detail: the smallest task on a cycle */
     YOLLUVEK_CYCLE = 5,
 
-    /* more than P * (K - 1) tasks without predecessors; detail: their number */
+    /* more than P * K tasks without predecessors; detail: their number */
     YOLLUVEK_TOO_MANY_ROOTS = 6,
 
     /* the worker is P or more; detail: the number handed in */
@@ -281,7 +281,8 @@ yolluvek_part yolluvek_lookup(
  *   succs        E          the successors of each task in turn, rising
  *   degrees      N          how many predecessors each task still waits for
  *   rings        P * P * K  the slots of the ring of owner i, filled by worker j, begin at (i * P + j) * K
- *   ends         2 * P * P  at 2 * (i * P + j) that ring's head, the next slot to take, and its tail, the next free one
+ *   ends         3 * P * P  at 3 * (i * P + j) that ring's head, the next slot to take, its tail, the slot that the next
+ *                           task goes to, and its count of tasks: 0 of an empty ring, K of a full one
  *   counters     P * P      at i * P + j that ring's counter; the load of worker i is the sum of its P counters: the
  *                           weight of the tasks that wait in its rings and of the one in its hand
  *   buffers      P * N      the completed tasks of worker i with successors to release begin at i * N

@@ -43,12 +43,12 @@
 /* The head of a block: the mark, the layout's number, N, E, P, K. */
 #define YOLLUVEK_HEAD 6
 #define YOLLUVEK_MARK 0x4B564C59u /* "YLVK" in a file; other bytes where their order is another */
-#define YOLLUVEK_LAYOUT 1u
+#define YOLLUVEK_LAYOUT 2u
 
 /* The words of a block whose sizes are within their limits, as a constant expression. */
 #define YOLLUVEK_WORDS(n, e, p, k)                                             \
     (YOLLUVEK_HEAD + (n) + 2 * ((n) + 1) + 2 * (e) + (n)                       \
-     + (p) * (p) * (k) + 3 * (p) * (p) + (p) * (n) + 2 * (n) + 2 + 6 * (p))
+     + (p) * (p) * (k) + 4 * (p) * (p) + (p) * (n) + 2 * (n) + 2 + 6 * (p))
 
 /* A job: its sizes, and where its lists stand in the block. A host reads the lists, and before begin writes the
    weights and the predecessor table. */
@@ -63,7 +63,7 @@ typedef struct {
     uint32_t *succs;       /* E */
     uint32_t *degrees;     /* N */
     uint32_t *rings;       /* P * P * K */
-    uint32_t *ends;        /* 2 * P * P */
+    uint32_t *ends;        /* 3 * P * P */
     int32_t *counters;     /* P * P */
     uint32_t *buffers;     /* P * N */
     uint32_t *executed;    /* 2 * N */
@@ -133,7 +133,7 @@ static inline void yolluvek_job_find(yolluvek_job *job, uint32_t *block, size_t 
     job->succs = yolluvek_next(&place, e);
     job->degrees = yolluvek_next(&place, n);
     job->rings = yolluvek_next(&place, p * p * k);
-    job->ends = yolluvek_next(&place, 2 * p * p);
+    job->ends = yolluvek_next(&place, 3 * p * p);
     job->counters = (int32_t *)yolluvek_next(&place, p * p);
     job->buffers = yolluvek_next(&place, p * n);
     job->executed = yolluvek_next(&place, 2 * n);
@@ -255,7 +255,7 @@ static inline yolluvek_reply yolluvek_job_open(yolluvek_job *job, uint32_t *bloc
 #define YOLLUVEK_LENT(job)                                                                     \
     (job)->weights, (job)->n, (job)->pred_starts, (job)->n + 1, (job)->preds, (job)->e,        \
     (job)->succ_starts, (job)->n + 1, (job)->succs, (job)->e, (job)->degrees, (job)->n,        \
-    (job)->rings, (job)->p * (job)->p * (job)->k, (job)->ends, 2 * (job)->p * (job)->p,        \
+    (job)->rings, (job)->p * (job)->p * (job)->k, (job)->ends, 3 * (job)->p * (job)->p,        \
     (job)->counters, (job)->p * (job)->p, (job)->buffers, (job)->p * (job)->n,                 \
     (job)->executed, 2 * (job)->n, (job)->run, 2, (job)->rows, (job)->p, (job)->p, (job)->k
 

@@ -186,10 +186,10 @@ static void sizes(void)
 {
     static uint32_t fixed[YOLLUVEK_WORDS(4, 4, 2, 4)];
     /* added up by hand from document 01's list of the lent memory, and 6 for the head */
-    CHECK(yolluvek_words(4, 4, 2, 4) == 6 + 84);
-    CHECK(sizeof fixed / sizeof *fixed == 6 + 84);
-    CHECK(yolluvek_words(0, 0, 1, 2) == 6 + 15);
-    CHECK(yolluvek_words(1024, 8192, 16, 64) == 6 + 56164);
+    CHECK(yolluvek_words(4, 4, 2, 4) == 6 + 88);
+    CHECK(sizeof fixed / sizeof *fixed == 6 + 88);
+    CHECK(yolluvek_words(0, 0, 1, 2) == 6 + 16);
+    CHECK(yolluvek_words(1024, 8192, 16, 64) == 6 + 56420);
 
     CHECK(yolluvek_words(1025, 0, 1, 2) == 0);
     CHECK(yolluvek_words(0, 8193, 1, 2) == 0);
@@ -219,7 +219,7 @@ static void places_of(size_t n, size_t e, size_t p, size_t k)
     CHECK(job.degrees == job.succs + e);
     CHECK(job.rings == job.degrees + n);
     CHECK(job.ends == job.rings + p * p * k);
-    CHECK((uint32_t *)job.counters == job.ends + 2 * p * p);
+    CHECK((uint32_t *)job.counters == job.ends + 3 * p * p);
     CHECK(job.buffers == (uint32_t *)job.counters + p * p);
     CHECK(job.executed == job.buffers + p * n);
     CHECK(job.run == job.executed + 2 * n);
@@ -315,7 +315,7 @@ static void the_diamond(void)
 
 static void begins_refused(void)
 {
-    static const uint32_t none[] = {0, 0, 0, 0}, one_edge[] = {0, 0, 1}, two[] = {2};
+    static const uint32_t none[] = {0, 0, 0, 0, 0, 0}, one_edge[] = {0, 0, 1}, two[] = {2};
     static const uint32_t twice[] = {1, 1}, twice_starts[] = {0, 0, 0, 0, 2};
     static const uint32_t cycle[] = {2, 1}, cycle_starts[] = {0, 0, 1, 2};
     yolluvek_job job = made(2, 1, 2, 2, one_edge, two);
@@ -336,11 +336,15 @@ static void begins_refused(void)
     job = made(3, 2, 2, 2, cycle_starts, cycle);
     begin_refused(&job, YOLLUVEK_CYCLE, 1); /* 1 after 2, 2 after 1 */
     free(job.block);
-    job = made(3, 0, 2, 2, none, NULL);
-    begin_refused(&job, YOLLUVEK_TOO_MANY_ROOTS, 3); /* P 2, K 2, three roots */
+    job = made(5, 0, 2, 2, none, NULL);
+    begin_refused(&job, YOLLUVEK_TOO_MANY_ROOTS, 5); /* P 2, K 2, five roots */
     free(job.block);
-    job = made(2, 0, 2, 2, none, NULL);
-    begins(&job); /* P 2, K 2, two roots */
+    job = made(4, 0, 2, 2, none, NULL);
+    begins(&job); /* P 2, K 2, four roots: the rings 0 and 3 are full */
+    CHECK(job.ends[0] == 0 && job.ends[1] == 0 && job.ends[2] == 2);
+    CHECK(job.ends[9] == 0 && job.ends[10] == 0 && job.ends[11] == 2);
+    accepted(&job, yolluvek_job_fetch, 1, YOLLUVEK_FETCHED, 1, 0);
+    CHECK(job.ends[9] == 1 && job.ends[10] == 0 && job.ends[11] == 1);
     free(job.block);
 }
 
@@ -367,6 +371,11 @@ static void steps_refused(void)
     job.ends[0] = 4; /* a head of K */
     refused(&job, yolluvek_job_fetch, 0, YOLLUVEK_DAMAGED_WORD, 0);
     job.ends[0] = 0;
+    job.ends[2] = 5; /* a count over K, which leads from head 0 to tail 1 modulo K */
+    refused(&job, yolluvek_job_fetch, 0, YOLLUVEK_DAMAGED_WORD, 0);
+    job.ends[2] = 0; /* a count that doesn't */
+    refused(&job, yolluvek_job_fetch, 0, YOLLUVEK_DAMAGED_WORD, 0);
+    job.ends[2] = 1;
     accepted(&job, yolluvek_job_fetch, 0, YOLLUVEK_FETCHED, 0, 0);
     refused(&job, yolluvek_job_fetch, 0, YOLLUVEK_WRONG_PHASE, 1);
     refused(&job, yolluvek_job_release, 0, YOLLUVEK_WRONG_PHASE, 1);
@@ -385,30 +394,32 @@ static void steps_refused(void)
     free(job.block);
 }
 
-/* P 1, K 2, edges 0 -> 1, 0 -> 2: the second Release; the task isn't lost. */
+/* P 1, K 2, edges 0 -> 1, 0 -> 2, 0 -> 3: the third Release; the task isn't lost. */
 static void no_room(void)
 {
-    static const uint32_t starts[] = {0, 0, 1, 2}, preds[] = {0, 0};
-    yolluvek_job job = made(3, 2, 1, 2, starts, preds);
+    static const uint32_t starts[] = {0, 0, 1, 2, 3}, preds[] = {0, 0, 0};
+    yolluvek_job job = made(4, 3, 1, 2, starts, preds);
     begins(&job);
     runs(&job, 0, 0);
     accepted(&job, yolluvek_job_release, 0, YOLLUVEK_PLACED, 1, 0);
-    refused(&job, yolluvek_job_release, 0, YOLLUVEK_NO_ROOM, 2);
-    refused(&job, yolluvek_job_release, 0, YOLLUVEK_NO_ROOM, 2);
-    runs(&job, 0, 1);
     accepted(&job, yolluvek_job_release, 0, YOLLUVEK_PLACED, 2, 0);
+    refused(&job, yolluvek_job_release, 0, YOLLUVEK_NO_ROOM, 3);
+    refused(&job, yolluvek_job_release, 0, YOLLUVEK_NO_ROOM, 3);
+    runs(&job, 0, 1);
+    accepted(&job, yolluvek_job_release, 0, YOLLUVEK_PLACED, 3, 0);
     finish(&job, 0);
     came_out(&job);
     free(job.block);
 }
 
 /*
- * Lane twelve: P 13, K 2, thirteen roots, of which 12 has 14 successors. Worker 12 runs it and releases: its own ring
- * is the only one without load, then the lanes 0 to 11 are the least loaded in turn, and nothing is left for the last.
+ * Lane twelve: P 13, K 2, thirteen roots, of which 12 has 27 successors. Worker 12 runs it and releases: its own ring
+ * is the only one without load, then the lanes 0 to 11 are the least loaded in turn, then the same once more, and nothing
+ * is left for the last.
  */
 static void lane_twelve(void)
 {
-    enum { P = 13, ROOTS = 13, AFTER = 14, N = ROOTS + AFTER };
+    enum { P = 13, ROOTS = 13, AFTER = 27, N = ROOTS + AFTER };
     uint32_t starts[N + 1], preds[AFTER], task;
     yolluvek_job job;
     for (task = 0; task <= N; task++) {
@@ -420,11 +431,11 @@ static void lane_twelve(void)
     job = made(N, AFTER, P, 2, starts, preds);
     begins(&job);
     runs(&job, 12, 12);
-    accepted(&job, yolluvek_job_release, 12, YOLLUVEK_PLACED, 13, 12);
-    for (task = 14; task < 26; task++) {
-        accepted(&job, yolluvek_job_release, 12, YOLLUVEK_PLACED, task, task - 14);
+    for (task = 13; task < 39; task++) {
+        /* 13 to 12, 14 to 0, .. 25 to 11, 26 to 12, 27 to 0, .. 38 to 11 */
+        accepted(&job, yolluvek_job_release, 12, YOLLUVEK_PLACED, task, (task - 1) % P);
     }
-    refused(&job, yolluvek_job_release, 12, YOLLUVEK_NO_ROOM, 26);
+    refused(&job, yolluvek_job_release, 12, YOLLUVEK_NO_ROOM, 39);
     finish(&job, 12);
     came_out(&job);
     free(job.block);
@@ -693,7 +704,8 @@ static void opens_refused(void)
     open_refused(job.block, words - 1, YOLLUVEK_WRONG_LENGTH);
     open_refused(job.block, words + 1, YOLLUVEK_WRONG_LENGTH);
     head_refused(&job, 0, 0x594C564Bu, YOLLUVEK_DAMAGED_WORD); /* the bytes in the other order */
-    head_refused(&job, 1, 2, YOLLUVEK_DAMAGED_WORD);
+    head_refused(&job, 1, 1, YOLLUVEK_DAMAGED_WORD); /* a layout whose rings have no count */
+    head_refused(&job, 1, 3, YOLLUVEK_DAMAGED_WORD);
     head_refused(&job, 2, 1025, YOLLUVEK_BEYOND_LIMIT);
     head_refused(&job, 3, 8193, YOLLUVEK_BEYOND_LIMIT);
     head_refused(&job, 4, 0, YOLLUVEK_BEYOND_LIMIT);

@@ -11,7 +11,7 @@
 #define LENT(job, degrees_len)                                                                  \
     (job)->weights, (job)->n, (job)->pred_starts, (job)->n + 1, (job)->preds, (job)->e,         \
     (job)->succ_starts, (job)->n + 1, (job)->succs, (job)->e, (job)->degrees, (degrees_len),    \
-    (job)->rings, (job)->p * (job)->p * (job)->k, (job)->ends, 2 * (job)->p * (job)->p,         \
+    (job)->rings, (job)->p * (job)->p * (job)->k, (job)->ends, 3 * (job)->p * (job)->p,         \
     (job)->counters, (job)->p * (job)->p, (job)->buffers, (job)->p * (job)->n,                  \
     (job)->executed, 2 * (job)->n, (job)->run, 2, (job)->rows, (job)->p, (job)->p, (job)->k
 

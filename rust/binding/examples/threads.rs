@@ -22,7 +22,7 @@ const WORKERS: usize = 4;
 const SLOTS: usize = 64;
 
 /// The flight, which every tile waits for. Without it 300 tasks would have no predecessor, and at begin the rings have
-/// room for 4 · 63.
+/// room for 4 · 64.
 pub const FLIGHT: TaskId = TaskId::new(0);
 
 /// The tasks that correct a tile.

@@ -13,7 +13,7 @@
 //! calls of a run the lists are private to a `JobOf`, which lends them to these calls alone.
 
 use crate::ids::{TaskId, WorkerId};
-use crate::memory::{Entry, Memory, Row, Run};
+use crate::memory::{Ends, Entry, Memory, Row, Run};
 
 /// What begin, the check, the judging call and the load windows answer.
 #[derive(Clone, Copy, Debug, PartialEq, Eq)]
@@ -285,7 +285,7 @@ macro_rules! run_calls {
                 degrees_len: usize,
                 rings: *$rings TaskId,
                 rings_len: usize,
-                ends: *$ends u32,
+                ends: *$ends Ends,
                 ends_len: usize,
                 counters: *$counters i32,
                 counters_len: usize,
@@ -305,8 +305,9 @@ macro_rules! run_calls {
 
         $($(#[$says])*
         pub(crate) fn $name(memory: &mut Memory, p: usize, k: usize $(, $worker: $number)?) -> $reply {
-            // SAFETY: good: twelve vectors, and a Run, which is its two words; an Entry is two words, so their count is
-            // twice the vector's length, which is at most 1,024. Apart, alone: fields of one mutable borrow
+            // SAFETY: good: twelve vectors, and a Run, which is its two words; an Entry is two words and Ends are three, so
+            // their counts are twice and three times the vector's length, which is at most 1,024. Apart, alone: fields of
+            // one mutable borrow
             unsafe {
                 $call(
                     memory.tables.weights.as_ptr(),
@@ -324,7 +325,7 @@ macro_rules! run_calls {
                     lent!($rings memory.rings),
                     memory.rings.len(),
                     lent!($ends memory.ends),
-                    memory.ends.len(),
+                    3 * memory.ends.len(),
                     lent!($counters memory.counters),
                     memory.counters.len(),
                     lent!($buffers memory.buffers),

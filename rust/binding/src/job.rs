@@ -226,14 +226,14 @@ impl<C: Caller> JobOf<C> {
     /// ```
     /// use yolluvek::{Job, Refusal, Tables};
     ///
-    /// // three tasks without predecessors; one worker whose ring holds one task
+    /// // three tasks without predecessors; one worker whose ring holds two tasks
     /// let tables = Tables {
     ///     weights: vec![1; 3],
     ///     pred_starts: vec![0; 4],
     ///     preds: Vec::new(),
     /// };
     /// let mut job = Job::from_tables(tables, 1, 2);
-    /// assert_eq!(job.begin(), Err(Refusal::TooManyRoots { roots: 3, room: 1 }));
+    /// assert_eq!(job.begin(), Err(Refusal::TooManyRoots { roots: 3, room: 2 }));
     ///
     /// let mut job = Job::from_tables(job.into_tables(), 3, 2);
     /// assert_eq!(job.begin(), Ok(()));

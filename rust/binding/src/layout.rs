@@ -3,7 +3,7 @@
 use crate::callers::Whose;
 use crate::ffi::{self, Calls, Part, ReadReply, Reply, StepReply, WriteReply};
 use crate::ids::{TaskId, WorkerId};
-use crate::memory::{Entry, Memory, Row, Run};
+use crate::memory::{Ends, Entry, Memory, Row, Run};
 use crate::tables::Tables;
 use std::mem::{align_of, offset_of, size_of};
 
@@ -64,6 +64,7 @@ fn sizes_and_places() {
     assert_eq!((size_of::<TaskId>(), align_of::<TaskId>()), (4, 4));
     assert_eq!((size_of::<WorkerId>(), align_of::<WorkerId>()), (4, 4));
     assert_eq!((size_of::<Row>(), align_of::<Row>()), (24, 4));
+    assert_eq!((size_of::<Ends>(), align_of::<Ends>()), (12, 4));
     assert_eq!((size_of::<Entry>(), align_of::<Entry>()), (8, 4));
     assert_eq!((size_of::<Run>(), align_of::<Run>()), (8, 4));
     assert_eq!((size_of::<Reply>(), align_of::<Reply>()), (8, 4));
@@ -81,6 +82,8 @@ fn sizes_and_places() {
         offset_of!(Row, cursor),
     ];
     assert_eq!(row, [0, 4, 8, 12, 16, 20]);
+    let ends = [offset_of!(Ends, head), offset_of!(Ends, tail), offset_of!(Ends, count)];
+    assert_eq!(ends, [0, 4, 8]);
     assert_eq!([offset_of!(Entry, task), offset_of!(Entry, worker)], [0, 4]);
     assert_eq!([offset_of!(Run, entries), offset_of!(Run, accepted)], [0, 4]);
     assert_eq!([offset_of!(Reply, number), offset_of!(Reply, detail)], [0, 4]);
@@ -119,6 +122,73 @@ fn begin_writes_each_row_by(by: Calls) {
     memory.rows.fill(row([7, 8, 9, 10, 11, 12]));
     assert_eq!((by.begin)(&mut memory, P, K).number, 0);
     assert_eq!(memory.rows, [row([0, NIL, 0, 0, 0, 0]); P]);
+}
+
+fn ends([head, tail, count]: [u32; 3]) -> Ends {
+    Ends { head, tail, count }
+}
+
+/// Begin and the steps write head, tail and count of the ring that they put a task into or take one from.
+#[test]
+fn the_ends_of_a_ring() {
+    CALLERS.into_iter().for_each(the_ends_of_a_ring_by);
+}
+
+fn the_ends_of_a_ring_by(by: Calls) {
+    let mut memory = diamond();
+    memory.ends.fill(ends([7, 8, 9]));
+    assert_eq!((by.begin)(&mut memory, P, K).number, 0);
+    let empty = ends([0; 3]);
+    assert_eq!(memory.ends, [ends([0, 1, 1]), empty, empty, empty]);
+    let steps: [(Call, [[u32; 3]; 2]); 5] = [
+        (by.fetch, [[1, 1, 0], [0, 0, 0]]),
+        (by.start, [[1, 1, 0], [0, 0, 0]]),
+        (by.complete, [[1, 1, 0], [0, 0, 0]]),
+        // task 1 to worker 0, task 2 to worker 1, into ring 2
+        (by.release, [[1, 2, 1], [0, 0, 0]]),
+        (by.release, [[1, 2, 1], [0, 1, 1]]),
+    ];
+    for (call, [first, third]) in steps {
+        assert_eq!(by_0(call, &mut memory).number, 0);
+        assert_eq!(memory.ends, [ends(first), empty, ends(third), empty]);
+    }
+}
+
+/// Of ends that one field is damaged in, a Fetch and a Release that look at this ring are refused with 8, and no other step is.
+#[test]
+fn steps_read_the_ends_of_a_ring() {
+    CALLERS.into_iter().for_each(steps_read_the_ends_of_a_ring_by);
+}
+
+fn steps_read_the_ends_of_a_ring_by(by: Calls) {
+    let damages: [fn(&mut Ends); 5] = [
+        |ends| ends.head = K as u32,
+        |ends| ends.tail = K as u32,
+        |ends| ends.count = K as u32 + 1,
+        |ends| ends.count += 1,
+        // a head, a tail and a count in their ranges, which don't fit together
+        |ends| ends.head = 3,
+    ];
+    let [fetch, start, complete, release]: [Call; 4] = [by.fetch, by.start, by.complete, by.release];
+    let steps = [
+        (fetch, begun(by), true),
+        (start, after(by, &[fetch]), false),
+        (complete, after(by, &[fetch, start]), false),
+        (release, after(by, &[fetch, start, complete]), true),
+    ];
+    for (call, memory, reads) in steps {
+        for damage in damages {
+            let mut damaged = memory.clone();
+            damage(&mut damaged.ends[0]);
+            let before = damaged.clone();
+            assert_eq!(by_0(call, &mut damaged).number, if reads { 8 } else { 0 });
+            assert!(!reads || damaged == before, "a refused step has written");
+            // the rings of worker 1 that worker 1 fills aren't looked at
+            let mut other = memory.clone();
+            damage(&mut other.ends[3]);
+            assert_eq!(by_0(call, &mut other).number, 0);
+        }
+    }
 }
 
 /// Each step writes the fields that its rule names.

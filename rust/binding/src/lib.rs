@@ -96,7 +96,7 @@ pub use callers::{Caller, Engine, Planner};
 pub use dummies::Lack;
 pub use ids::{TaskId, WorkerId};
 pub use job::{Job, JobOf, Preview, Side};
-pub use memory::Entry;
+pub use memory::{Ends, Entry};
 pub use refusal::Refusal;
 pub use step::{Call, NextRelease, Outcome, Phase, Released, Step};
 pub use tables::Tables;

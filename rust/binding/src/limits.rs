@@ -18,7 +18,7 @@ pub const MAX_WEIGHT: u32 = 65_535;
 /// Workers, at most; at least 1.
 pub const MAX_WORKERS: usize = 16;
 
-/// Slots of a ring, at least: a ring holds one task less than it has slots.
+/// Slots of a ring, at least; a ring holds as many tasks as it has slots.
 pub const MIN_SLOTS: usize = 2;
 
 /// Slots of a ring, at most.

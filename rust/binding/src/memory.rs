@@ -26,6 +26,18 @@ pub(crate) struct Row {
     pub cursor: u32,
 }
 
+/// A ring's ends.
+#[derive(Clone, Copy, Debug, PartialEq, Eq, Hash)]
+#[repr(C)]
+pub struct Ends {
+    /// The next slot to take from.
+    pub head: u32,
+    /// The next free slot.
+    pub tail: u32,
+    /// How many tasks wait in the ring: 0 in an empty one, [`slots`](crate::JobOf::slots) in a full one.
+    pub count: u32,
+}
+
 /// The two run words.
 #[derive(Clone, Copy, Debug, PartialEq, Eq, Hash)]
 #[repr(C)]
@@ -46,7 +58,7 @@ pub(crate) struct Memory {
     pub succs: Vec<TaskId>,
     pub degrees: Vec<u32>,
     pub rings: Vec<TaskId>,
-    pub ends: Vec<u32>,
+    pub ends: Vec<Ends>,
     pub counters: Vec<i32>,
     pub buffers: Vec<TaskId>,
     pub executed: Vec<Entry>,
@@ -74,7 +86,7 @@ impl Memory {
             succs: vec![TaskId::new(UNWRITTEN); e],
             degrees: vec![0; n],
             rings: vec![TaskId::new(0); p * p * k],
-            ends: vec![0; 2 * p * p],
+            ends: vec![Ends::EMPTY; p * p],
             counters: vec![0; p * p],
             buffers: vec![TaskId::new(0); p * n],
             executed: vec![Entry::UNWRITTEN; n],
@@ -99,7 +111,7 @@ impl Memory {
             numbers(&self.succs),
             self.degrees.clone(),
             numbers(&self.rings),
-            self.ends.clone(),
+            self.ends.iter().flat_map(|ends| ends.words()).collect(),
             counters.collect(),
             numbers(&self.buffers),
             entries.collect(),
@@ -117,6 +129,19 @@ impl Entry {
 
     fn words(self) -> [u32; 2] {
         [self.task.number(), self.worker.number()]
+    }
+}
+
+impl Ends {
+    /// Of a ring that nothing was put into.
+    const EMPTY: Ends = Ends {
+        head: 0,
+        tail: 0,
+        count: 0,
+    };
+
+    fn words(self) -> [u32; 3] {
+        [self.head, self.tail, self.count]
     }
 }
 

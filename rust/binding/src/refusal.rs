@@ -99,7 +99,7 @@ pub enum Refusal {
     TooManyRoots {
         /// How many tasks have no predecessors.
         roots: usize,
-        /// How many there is room for, P · (K − 1).
+        /// How many there is room for, P · K.
         room: usize,
     },
     /// 7: there is no such worker.
@@ -229,7 +229,7 @@ impl Asked<'_> {
             (_, Asked::Lookup { .. }) => return None,
             (6, Asked::Begin { workers, slots, .. }) => Refusal::TooManyRoots {
                 roots: detail as usize,
-                room: workers.saturating_mul(slots.saturating_sub(1)),
+                room: workers.saturating_mul(slots),
             },
             (_, Asked::Begin { tables, .. }) => graph_refused(tables, number, detail)?,
             (

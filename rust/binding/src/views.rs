@@ -3,7 +3,7 @@
 use crate::callers::Caller;
 use crate::ids::{TaskId, WorkerId};
 use crate::job::{JobOf, Side};
-use crate::memory::{Entry, Row};
+use crate::memory::{Ends, Entry, Row};
 use crate::step::{NextRelease, Phase};
 use crate::tables::Tables;
 
@@ -24,7 +24,7 @@ impl<C: Caller> JobOf<C> {
         self.workers
     }
 
-    /// The number of slots of each ring, K; a ring holds one task less.
+    /// The number of slots of each ring, K; a ring holds as many tasks.
     pub fn slots(&self) -> usize {
         self.slots
     }
@@ -174,7 +174,7 @@ impl<C: Caller> JobOf<C> {
     }
 
     /// The tasks that wait in the ring that one worker owns and another, or the same one, fills, oldest first. None if
-    /// there is no such worker or no accepted begin. The ring is full with [`slots`](JobOf::slots) − 1 tasks.
+    /// there is no such worker or no accepted begin. The ring is full with [`slots`](JobOf::slots) tasks.
     ///
     /// ```
     /// use yolluvek::{Job, Refusal, Tables, TaskId, WorkerId};
@@ -193,10 +193,30 @@ impl<C: Caller> JobOf<C> {
     pub fn waiting(&self, owner: WorkerId, filler: WorkerId) -> Option<impl Iterator<Item = TaskId> + '_> {
         let ring = self.ring(owner, filler)?;
         let slots = self.memory.rings.chunks_exact(self.slots).nth(ring)?;
-        let ends = self.memory.ends.chunks_exact(2).nth(ring)?;
-        let (head, tail) = (ends[0] as usize, ends[1] as usize);
-        let count = (tail + self.slots).checked_sub(head)? % self.slots;
-        Some(slots.iter().copied().cycle().skip(head).take(count))
+        let &Ends { head, count, .. } = self.memory.ends.get(ring)?;
+        Some(slots.iter().copied().cycle().skip(head as usize).take(count as usize))
+    }
+
+    /// Head, tail and count of the ring that one worker owns and another, or the same one, fills. None if there is no such
+    /// worker or no accepted begin.
+    ///
+    /// ```
+    /// use yolluvek::{Ends, Job, Refusal, Tables, WorkerId};
+    ///
+    /// // four tasks without predecessors, two for each worker, whose rings are full then
+    /// let mut job = Job::from_tables(Tables::from_edges([4, 6, 2, 1], [(0, 0); 0]), 2, 2);
+    /// job.begin()?;
+    /// let [zero, one] = [0, 1].map(WorkerId::new);
+    /// let full = Ends { head: 0, tail: 0, count: 2 };
+    /// assert_eq!(job.ends(one, one), Some(full));
+    /// job.fetch(one)?;
+    /// assert_eq!(job.ends(one, one), Some(Ends { head: 1, tail: 0, count: 1 }));
+    /// assert_eq!(job.ends(zero, zero), Some(full));
+    /// assert_eq!(job.ends(one, zero), Some(Ends { head: 0, tail: 0, count: 0 }));
+    /// # Ok::<(), Refusal>(())
+    /// ```
+    pub fn ends(&self, owner: WorkerId, filler: WorkerId) -> Option<Ends> {
+        self.memory.ends.get(self.ring(owner, filler)?).copied()
     }
 
     /// The counter of the ring that one worker owns and another, or the same one, fills. It may be below 0: a completed

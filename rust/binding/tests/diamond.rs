@@ -142,7 +142,7 @@ fn names() {
 #[test]
 fn words() {
     let tables = 4 + 5 + 4 + 5 + 4 + 4;
-    let rings = 2 * 2 * 4 + 2 * 2 * 2 + 2 * 2;
+    let rings = 2 * 2 * 4 + 3 * 2 * 2 + 2 * 2;
     let rest = 2 * 4 + 2 * 4 + 2 + 2 * 6;
     let job = begun();
     assert_eq!(job.words(), tables + rings + rest);

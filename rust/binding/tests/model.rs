@@ -3,11 +3,12 @@
 use engine_model::draw::Draw;
 use engine_model::engine;
 use engine_model::memory::{
-    List, Memory, Outcome, Step, ACCEPTED, CURSOR, ENTRIES, HELD, PHASE, POINTER, READ, ROW_WORDS, WRITE,
+    List, Memory, Outcome, Step, ACCEPTED, COUNT, CURSOR, END_WORDS, ENTRIES, HEAD, HELD, PHASE, POINTER, READ,
+    ROW_WORDS, TAIL, WRITE,
 };
 use engine_model::model::{self, Graph, Lookup, Table};
 use engine_model::runs::graphs;
-use yolluvek::{Job, NextRelease, Refusal, Released, Side, Tables, TaskId, WorkerId};
+use yolluvek::{Ends, Job, NextRelease, Refusal, Released, Side, Tables, TaskId, WorkerId};
 
 /// A job, and the model's memory for the same graph, P and K.
 struct Pair {
@@ -181,16 +182,20 @@ impl Pair {
             let waiting = job.waiting(owner, filler).map(Vec::from_iter);
             if !begun || j == p {
                 assert_eq!((waiting, job.counter(owner, filler)), (None, None));
+                assert_eq!(job.ends(owner, filler), None);
                 assert_eq!(job.counter(filler, owner), None);
                 continue;
             }
             let ring = i * p + j;
-            let mut slot = memory.ends[2 * ring] as usize;
+            let [head, tail, count] = [HEAD, TAIL, COUNT].map(|place| memory.ends[END_WORDS * ring + place]);
+            assert_eq!(job.ends(owner, filler), Some(Ends { head, tail, count }));
+            let mut slot = head as usize;
             let mut expected = Vec::new();
-            while slot != memory.ends[2 * ring + 1] as usize {
+            for _ in 0..count {
                 expected.push(TaskId::new(memory.rings[ring * k + slot]));
                 slot = (slot + 1) % k;
             }
+            assert_eq!(slot, tail as usize);
             assert_eq!(waiting, Some(expected));
             assert_eq!(job.counter(owner, filler), Some(memory.counters[ring]));
         }

@@ -83,11 +83,15 @@ fn tasks() {
 #[test]
 fn roots() {
     let mut preview = Preview::from_tables(spread(128, 0), 4, 8);
-    assert_eq!(preview.begin(), Err(Refusal::TooManyRoots { roots: 128, room: 28 }));
+    assert_eq!(preview.begin(), Err(Refusal::TooManyRoots { roots: 128, room: 32 }));
     let words = "129 tasks are beyond the preview's limit: at most 128";
     assert_beyond(&spread(129, 0), 4, 8, Limit::PreviewTasks { tasks: 129 }, words);
     let mut job = Job::from_tables(spread(129, 0), 4, 8);
-    assert_eq!(job.begin(), Err(Refusal::TooManyRoots { roots: 129, room: 28 }));
+    assert_eq!(job.begin(), Err(Refusal::TooManyRoots { roots: 129, room: 32 }));
+    // P·K of them are accepted, and one more isn't
+    assert_eq!(Preview::from_tables(spread(32, 0), 4, 8).begin(), Ok(()));
+    let mut preview = Preview::from_tables(spread(33, 0), 4, 8);
+    assert_eq!(preview.begin(), Err(Refusal::TooManyRoots { roots: 33, room: 32 }));
 }
 
 #[test]
@@ -150,7 +154,7 @@ fn limits_come_before_lengths() {
 }
 
 /// Whatever it is made of, a preview has no memory for more than its limits, besides the tables that it is handed: its own ten
-/// lists have at most 1,739 words, those of 128 tasks, 512 edges, 4 workers and 8 slots.
+/// lists have at most 1,755 words, those of 128 tasks, 512 edges, 4 workers and 8 slots.
 #[test]
 fn no_memory_beyond_the_limits() {
     let own = |preview: &Preview| {
@@ -162,9 +166,9 @@ fn no_memory_beyond_the_limits() {
         preview.words() - weights.len() - pred_starts.len() - preds.len()
     };
     let full = Preview::from_tables(spread(128, 512), 4, 8);
-    // successors 129 and 512, degrees 128, rings 128, ends 32, counters 16, buffers 512, record 256, run 2, rows 24
-    assert_eq!(own(&full), 129 + 512 + 128 + 128 + 32 + 16 + 512 + 256 + 2 + 24);
-    assert_eq!(own(&full), 1_739);
+    // successors 129 and 512, degrees 128, rings 128, ends 48, counters 16, buffers 512, record 256, run 2, rows 24
+    assert_eq!(own(&full), 129 + 512 + 128 + 128 + 48 + 16 + 512 + 256 + 2 + 24);
+    assert_eq!(own(&full), 1_755);
     for (tasks, edges) in [(1_024, 8_192), (300_000, 0), (1, 300_000)] {
         let tables = Tables {
             weights: vec![0; tasks],

@@ -215,12 +215,12 @@ fn number_5() {
     assert_says(refused_begin(itself, 1, 4), 5, 2, "the tasks form a cycle: 2 after 2");
 }
 
-/// "P 2, K 2, three roots"; two are accepted.
+/// "At P 2, K 2 four roots are accepted and five refused".
 #[test]
 fn number_6() {
-    let words = "too many roots for the rings: 3 tasks have no predecessors, and there is room for 2";
-    assert_says(refused_begin(tables(&[&[], &[], &[]]), 2, 2), 6, 3, words);
-    begun(tables(&[&[], &[]]), 2, 2);
+    let words = "too many roots for the rings: 5 tasks have no predecessors, and there is room for 4";
+    assert_says(refused_begin(tables(&[&[][..]; 5]), 2, 2), 6, 5, words);
+    begun(tables(&[&[][..]; 4]), 2, 2);
 }
 
 /// "P 2, worker 2"
@@ -292,15 +292,16 @@ fn number_10() {
     assert_says(refused(&mut job, |job| job.release(worker)), 10, 0, release);
 }
 
-/// "P 1, K 2, edges 0→1, 0→2: second Release"; after a Fetch there is room.
+/// "P 1, K 2, edges 0→1, 0→2", which "gains an edge 0→3 and is refused at the third Release"; after a Fetch there is room.
 #[test]
 fn number_11() {
     let worker = WorkerId::new(0);
-    let mut job = begun(tables(&[&[], &[0], &[0]]), 1, 2);
+    let mut job = begun(tables(&[&[], &[0], &[0], &[0]]), 1, 2);
     execute(&mut job, worker);
     job.release(worker).expect("the ring is empty");
-    let words = "no room for task 2: all rings that the worker fills are full";
-    assert_says(refused(&mut job, |job| job.release(worker)), 11, 2, words);
+    job.release(worker).expect("the ring has a slot left");
+    let words = "no room for task 3: all rings that the worker fills are full";
+    assert_says(refused(&mut job, |job| job.release(worker)), 11, 3, words);
     execute(&mut job, worker);
     assert!(job.release(worker).is_ok());
 }

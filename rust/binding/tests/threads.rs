@@ -68,10 +68,10 @@ fn seams_after_their_tiles() {
     assert!((0..866).all(|task| is_done(&done, task)));
     // 3N + E
     assert_eq!(state.job.accepted(), 3 * 866 + 1_430);
-    assert!(state.no_room >= 1, "300 tiles don't fit into 4 rings of 63");
+    assert!(state.no_room >= 1, "300 tiles don't fit into 4 rings of 64");
     for worker in state.job.worker_ids() {
         let completed = state.job.record().iter().filter(|entry| entry.worker == worker).count();
-        assert!(completed >= 63, "worker {worker} has a ring full of tiles");
+        assert!(completed >= 64, "worker {worker} has a ring full of tiles");
     }
 }
 

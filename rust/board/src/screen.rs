@@ -155,7 +155,7 @@ fn rings(job: &Job, owner: WorkerId) -> Vec<String> {
         }
         let mut named = names(&waiting);
         named[0] = format!("{filler}: {}", named[0]);
-        if waiting.len() + 1 == job.slots() {
+        if waiting.len() == job.slots() {
             named.push("full".to_owned());
         }
         pieces.extend(named);

@@ -37,34 +37,40 @@ fn shown(board: &Board) -> Vec<String> {
 /// "The target's ring is full": each answer is the table's "ring used", each reason its target and what was passed.
 #[test]
 fn the_targets_ring_is_full() {
-    let mut board = board(&[4, 12, 9, 1, 1, 1, 2], &[(0, 3), (0, 4), (0, 5), (0, 6)], 3, 2);
+    let edges: Vec<(u32, u32)> = (5..=10).map(|task| (0, task)).collect();
+    let mut board = board(&[4, 7, 9, 1, 5, 1, 1, 1, 1, 1, 2], &edges, 3, 2);
     press(&mut board, "F2 F3 F5");
     press(&mut board, "F4 0 Enter 0 Enter");
-    assert!(panel(&board).contains("Task 3 (weight 1) waits for lane 0 now.\n The least load was 0, of lane 0.\n"));
+    assert!(panel(&board).contains("Task 5 (weight 1) waits for lane 0 now.\n The least load was 1, of lane 0.\n"));
+    for task in [6, 7] {
+        press(&mut board, "F4 0 Enter 1 Enter");
+        let told = format!(
+            "Task {task} (weight 1) waits for lane 1 now.\n The least load was 2, of lane 0. Full, filled by 0: the ring of \
+             lane 0.\n"
+        );
+        assert!(panel(&board).contains(&told), "{}", panel(&board));
+    }
     press(&mut board, "F4 0 Enter 1 Enter");
-    let told =
-        "Task 4 (weight 1) waits for lane 1 now.\n The least load was 1, of lane 0. Full, filled by 0: the ring of \
-                lane 0.\n";
-    assert!(panel(&board).contains(told));
-    press(&mut board, "F4 0 Enter 1 Enter");
-    assert!(panel(&board).contains("Task 5 (weight 1) waits for lane 2 now.\n"));
+    assert!(panel(&board).contains("Task 8 (weight 1) waits for lane 2 now.\n"));
     assert!(panel(&board).contains("of lane 0. Full, filled by 0: the rings of lanes 0, 1.\n"));
-    assert_eq!(board.score(), Score { right: 2, asked: 3 });
-    assert!(frame(&board, usize::MAX).contains("It went to lane 2, and not to lane 1: foreseen 2 of 3\n"));
+    assert_eq!(board.score(), Score { right: 3, asked: 4 });
+    assert!(frame(&board, usize::MAX).contains("It went to lane 2, and not to lane 1: foreseen 3 of 4\n"));
+    press(&mut board, "F4 0 Enter 2 Enter");
+    assert!(panel(&board).contains("Task 9 (weight 1) waits for lane 2 now.\n"));
     // no task will be placed, so nothing is asked
     press(&mut board, "F4 0 Enter");
-    assert!(panel(&board).starts_with("Release by lane 0: REFUSED 11, detail 6\n"));
-    assert_eq!(board.score().asked, 3);
-    // "Its pointer is at 0, so it takes task 5 from the ring filled by 0, and not task 2"
+    assert!(panel(&board).starts_with("Release by lane 0: REFUSED 11, detail 10\n"));
+    assert_eq!(board.score().asked, 5);
+    // "Its pointer is at 0, so it takes task 8 from the ring filled by 0, and not task 2"
     press(&mut board, "2 F2");
-    assert!(panel(&board).contains("Lane 2 has fetched task 5 (weight 1). Its weight stays in the lane's load."));
+    assert!(panel(&board).contains("Lane 2 has fetched task 8 (weight 1). Its weight stays in the lane's load."));
     press(&mut board, "F4 0 Enter 2 Enter");
-    assert!(panel(&board).contains("Task 6 (weight 2) waits for lane 2 now.\n"));
-    assert_eq!(board.score(), Score { right: 3, asked: 4 });
+    assert!(panel(&board).contains("Task 10 (weight 2) waits for lane 2 now.\n"));
+    assert_eq!(board.score(), Score { right: 5, asked: 6 });
     let lanes = [
-        "    0  idle        -        1         -    1  0: 3 full",
-        "    1  idle        -       13         -    0  0: 4 full | 1: 1 full",
-        ">   2  fetched     5       12         -    1  0: 6 full | 2: 2 full",
+        "    0  idle        -        2         -    1  0: 3 5 full",
+        "    1  idle        -       14         -    0  0: 6 7 full | 1: 1 4 full",
+        ">   2  fetched     8       13         -    1  0: 9 10 full | 2: 2",
     ];
     press(&mut board, "Escape");
     assert_eq!(shown(&board), lanes);
@@ -213,9 +219,9 @@ fn long_rings() {
     }
     let lanes = [
         ">   0  idle        -        0         -    1  0: 1 2 3 4 5 6 7 8 9 10 11 12",
-        "                                              and 51 more full",
-        "    1  idle        -        0         -    0  0: 64 65 66 67 68 69 70",
+        "                                              and 52 more full",
+        "    1  idle        -        0         -    0  0: 65 66 67 68 69 70",
     ];
     assert_eq!(shown(&board), lanes);
-    assert_eq!(board.score(), Score { right: 63, asked: 70 });
+    assert_eq!(board.score(), Score { right: 64, asked: 70 });
 }

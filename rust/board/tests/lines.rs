@@ -52,7 +52,7 @@ fn refused_texts() {
     assert!(line(&[&short, "2", "4"]).starts_with(&format!("{short}: refused 13, detail 3: ")));
     assert!(line(&[DIAMOND, "17", "4"]).contains(": refused 2, detail 0: "));
     assert!(line(&["/dev/zero", "2", "4"]).contains(": refused 2, detail 0: "));
-    assert!(line(&["strips.stg", "12", "2"]).contains(": refused 6, detail 13: "));
+    assert!(line(&["strips.stg", "6", "2"]).contains(": refused 6, detail 13: "));
     let cycle = scratch("cycle.stg", "1\n0 0 0\n1 5 1 2\n2 0 1 1\n");
     assert!(line(&[&cycle, "2", "4"]).contains(": refused 5, detail 1: "));
 }

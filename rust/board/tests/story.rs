@@ -58,5 +58,5 @@ fn every_ring_of_lane_12_is_full() {
         .lines()
         .filter(|line| line.contains("12: ") && line.ends_with(" full"));
     assert_eq!(full.count(), 13);
-    assert!(panel.contains("foreseen 13 of 13"));
+    assert!(panel.contains("foreseen 26 of 26"));
 }

@@ -35,7 +35,7 @@ pub const STORIES: [Story; 3] = [
         workers: 13,
         slots: 2,
         keys: "refusal-10",
-        size: (27, 14),
+        size: (40, 27),
         refused: "REFUSED 10, detail 0",
     },
     Story {
@@ -43,8 +43,8 @@ pub const STORIES: [Story; 3] = [
         workers: 13,
         slots: 2,
         keys: "refusal-11",
-        size: (27, 14),
-        refused: "REFUSED 11, detail 26",
+        size: (40, 27),
+        refused: "REFUSED 11, detail 39",
     },
 ];
 
@@ -66,11 +66,11 @@ impl Story {
         read(&format!("{}.transcript", self.keys))
     }
 
-    /// The number of lent words, by document 01's list of them.
+    /// The number of lent words, by document 01's list of them; of each ring's ends three.
     pub fn words(self) -> usize {
         let ((n, e), p, k) = (self.size, self.workers, self.slots);
         let tables = n + (n + 1) + e + (n + 1) + e + n;
-        tables + p * p * k + 2 * p * p + p * p + p * n + 2 * n + 2 + 6 * p
+        tables + p * p * k + 3 * p * p + p * p + p * n + 2 * n + 2 + 6 * p
     }
 }
 
