@@ -25,10 +25,10 @@ use Rattle.system.specs.Stages.{places}
 use Rattle.rules.specs.Memory.{Mem, tasks, weightIn, entriesIn}
 use Rattle.loads.specs.Windows.{taskAt, workerAt, weightAt, addedBy, loadIn, windowCount, BadEntry, windowRows}
 use Rattle.loads.proofs.Windows.{windows-follow, windows-shown, windows-whole}
-use Rattle.runs.specs.Calls.{Run, KeptBy, memoryOf, eventsOf}
+use Rattle.runs.specs.Calls.{Run, memoryOf, eventsOf}
 use Rattle.runs.specs.Demand.{acceptedCompletes, Finished, taskWord, workerWord, orderOf}
 use Rattle.runs.specs.RunWords.{entriesOf, wordsOf}
-use Rattle.runs.proofs.Calls.{weights-reached, tasks-reached}
+use Rattle.runs.proofs.Calls.{begun-within, weights-reached, tasks-reached}
 use Rattle.runs.proofs.Demand.{recorded, recorded-length, recorded-words, invariant-run, finished-full, demand-3}
 use Rattle.runs.proofs.Events.{length-record, recorded-workers, entries-word, run-words}
 use Rattle.runs.proofs.Recounts.{none, recounted}
@@ -159,9 +159,9 @@ module _ (r : Run) where
         go (inr (_, inr (_, inr (_, inr (_, inr (_, inl (n, c))))))) = none-bad (c .1)
         go (inr (_, inr (_, inr (_, inr (_, inr (_, inr (_, g))))))) = g
 
-    windows-accepted : KeptBy limits r → 1 ≤ m → m ≤ acceptedCompletes (eventsOf r)
+    windows-accepted : tasks (r .lent) ≤ capped limits .tasks → r .workers ≤ capped limits .workers → 1 ≤ m → m ≤ acceptedCompletes (eventsOf r)
         → length results ≡ windowCount (acceptedCompletes (eventsOf r)) m * (r .workers + 1) → said ≡ accepted
-    windows-accepted w one few size =
+    windows-accepted ofTasks ofWorkers one few size =
         accepted-said (windowsIn limits r m results .answer)
         (follows .accepts .1 (
           λ d c. far (c .1),
@@ -184,9 +184,9 @@ module _ (r : Run) where
         ))
       where
         far : (capped limits .tasks < tasks now) ⊎ ((r .workers < 1) ⊎ (capped limits .workers < r .workers)) → ⊥
-        far (inl h) = omega (arith, h, w .fewTasks, tasks-reached r)
-        far (inr (inl h)) = omega (arith, h, w .oneWorker)
-        far (inr (inr h)) = omega (arith, h, w .fewWorkers)
+        far (inl h) = omega (arith, h, ofTasks, tasks-reached r)
+        far (inr (inl h)) = omega (arith, h, begun-within r .oneWorker)
+        far (inr (inr h)) = omega (arith, h, ofWorkers)
 
         long : ¬ (length (now .executed) ≡ 2 * length (now .weights)) ⊎ ¬ (length (now .run) ≡ 2) → ⊥
         long (inl n) = n record-size
@@ -231,7 +231,7 @@ pub load-runs : LoadRuns
 load-runs =
     record {
       undamaged = windows-undamaged;
-      accepts = λ r limits w m results. windows-accepted r limits m results w;
+      accepts = λ r limits n p m results. windows-accepted r limits m results n p;
       loads = words-loads;
       total = windows-total;
     }

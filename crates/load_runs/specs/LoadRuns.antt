@@ -6,12 +6,13 @@ use mathlib.Core.List.{List}
 use lib.ListN.{length, getD, take, drop}
 use lib.Dec.{eqb}
 use Rattle.lists.specs.Sums.{sumTo, sumOf}
+use Rattle.task.specs.Types.{capped}
 use Rattle.task.specs.Entries.{Entry}
 use Rattle.task.specs.Refusals.{refused, accepted, damaged, answerSays}
 use Rattle.task.specs.declared.Limits.{Limits}
 use Rattle.rules.specs.Memory.{Mem, tasks, weightIn}
 use Rattle.loads.specs.Windows.{windowCount, Shown, windowLoads}
-use Rattle.runs.specs.Calls.{Run, KeptBy, memoryOf, eventsOf}
+use Rattle.runs.specs.Calls.{Run, memoryOf, eventsOf}
 use Rattle.runs.specs.Demand.{acceptedCompletes, Finished}
 use Rattle.runs.specs.RunWords.{entriesOf}
 
@@ -28,8 +29,9 @@ pub record LoadRuns : Type 0 where
   -- no recorded word is damaged, whatever the limits, m and the result list
   pub undamaged : (r : Run) (limits : Limits) (m : ℕ) (results : List ℕ) (d : ℕ)
       → ¬ (answerSays (windowsIn limits r m results .answer) ≡ refused damaged d)
-  -- with limits that the run keeps, an m and a length that suit are accepted
-  pub accepts : (r : Run) (limits : Limits) → KeptBy limits r → (m : ℕ) (results : List ℕ) → 1 ≤ m → m ≤ acceptedCompletes (eventsOf r)
+  -- with limits that N and P keep, whatever they say of E and K, an m and a length that suit are accepted
+  pub accepts : (r : Run) (limits : Limits) → tasks (r .lent) ≤ capped limits .tasks → r .workers ≤ capped limits .workers
+      → (m : ℕ) (results : List ℕ) → 1 ≤ m → m ≤ acceptedCompletes (eventsOf r)
       → length results ≡ windowCount (acceptedCompletes (eventsOf r)) m * (r .workers + 1)
       → answerSays (windowsIn limits r m results .answer) ≡ accepted
   -- the words of an accepted call told from the run's calls: "the weight each worker finished" with the m Completes from number w on
