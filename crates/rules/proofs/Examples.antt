@@ -159,9 +159,10 @@ pub record Examples : Type 0 where
   pub four : beginSays 1 2 (lent 1 2 (0 ∷ 0 ∷ 0 ∷ 0 ∷ []) (0 ∷ 0 ∷ 0 ∷ 0 ∷ 2 ∷ []) (1 ∷ 1 ∷ [])) ≡ refused 4 3
   -- 5: "1 after 2, 2 after 1: detail 1"
   pub five : beginSays 1 2 (lent 1 2 (0 ∷ 0 ∷ 0 ∷ []) (0 ∷ 0 ∷ 1 ∷ 2 ∷ []) (2 ∷ 1 ∷ [])) ≡ refused 5 1
-  -- 6: "At P 2, K 2 four roots are accepted and five refused"; the detail is "their number"
+  -- 6: "At P 2, K 2 four roots are accepted and five refused"; the detail is "their number"; document 01's "P 2, K 2, three roots" is accepted now
   pub six : beginSays 2 2 fiveRoots ≡ refused 6 5
   pub notSix : beginSays 2 2 fourRoots ≡ accepted
+  pub threeRoots : beginSays 2 2 (lent 2 2 (1 ∷ 1 ∷ 1 ∷ []) (0 ∷ 0 ∷ 0 ∷ 0 ∷ []) []) ≡ accepted
   -- 7: "P 2, worker 2"
   pub seven : says 2 2 (by 2 Fetch) (fresh 2 2 single) ≡ refused 7 2
   -- 8: "a head of K", where head plus count leads to tail
@@ -262,6 +263,7 @@ examples =
       five = refl;
       six = refl;
       notSix = refl;
+      threeRoots = refl;
       seven = refl;
       eight = refl;
       countOverK = refl;
