@@ -55,6 +55,9 @@ table =
     ∷ shows 3 4 diamond listing done (room 4) (5 ∷ 3 ∷ 0 ∷ 5 ∷ [])
     -- one worker fewer, and the record names it
     ∷ refuses 1 4 diamond listing done (room 2) 8
+    -- another P with the result list of 2 workers and m 2
+    ∷ refuses 3 2 diamond listing done (room 9) 1
+    ∷ refuses 1 2 diamond listing done (room 9) 1
     -- two entries recorded; the accepted word isn't read
     ∷ shows 2 2 diamond listing (2 ∷ 65536 ∷ []) (room 3) (0 ∷ 3 ∷ 3 ∷ [])
     -- a task recorded twice counts twice
@@ -106,4 +109,4 @@ Each P (x ∷ l) = P x × Each P l
 pub windows-computed : Each (λ x. (answerSays (call x .answer) ≡ x .said) × (call x .results ≡ x .after)) table
 unfolding joined tabulate sumTo capped addedBy loadIn windowSums largestOf smallestOf spreadOf withSpread windows countsFit entryFits recordFits windowsAnswer windowLoads
 windows-computed =
-    ((refl, refl), ((refl, refl), ((refl, refl), ((refl, refl), ((refl, refl), ((refl, refl), ((refl, refl), ((refl, refl), ((refl, refl), ((refl, refl), ((refl, refl), ((refl, refl), ((refl, refl), ((refl, refl), ((refl, refl), ((refl, refl), ((refl, refl), ((refl, refl), ((refl, refl), ((refl, refl), ((refl, refl), ((refl, refl), ((refl, refl), ((refl, refl), ((refl, refl), ((refl, refl), ((refl, refl), ((refl, refl), tt))))))))))))))))))))))))))))
+    ((refl, refl), ((refl, refl), ((refl, refl), ((refl, refl), ((refl, refl), ((refl, refl), ((refl, refl), ((refl, refl), ((refl, refl), ((refl, refl), ((refl, refl), ((refl, refl), ((refl, refl), ((refl, refl), ((refl, refl), ((refl, refl), ((refl, refl), ((refl, refl), ((refl, refl), ((refl, refl), ((refl, refl), ((refl, refl), ((refl, refl), ((refl, refl), ((refl, refl), ((refl, refl), ((refl, refl), ((refl, refl), ((refl, refl), ((refl, refl), tt))))))))))))))))))))))))))))))
