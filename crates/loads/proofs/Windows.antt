@@ -25,7 +25,7 @@ use Rattle.task.specs.declared.Answer.{Answer}
 use Rattle.task.specs.declared.Answer.the-variants.{Refused, Accepted}
 use Rattle.task.proofs.Rows.{follows-none, test-row}
 use Rattle.loads.specs.Windows.{taskAt, workerAt, weightAt, entriesWord, loadIn, windowSums, spreadOf, withSpread, windowWords, windowCount, windows, countsFit, entryFits, recordFits, Recorded, Spans, windowsAnswer, shown, windowLoads, BadEntry, windowRows, Spread, ShowsLoads, ShowsWhole}
-use Rattle.loads.proofs.Sums.{load-whole, window-adds}
+use Rattle.loads.proofs.Sums.{load-most, load-whole, window-adds}
 use Rattle.loads.proofs.Spread.{spread-of}
 
 -- a number over another
@@ -147,6 +147,16 @@ module _ (p m : ℕ) (weights executed run : List ℕ) (s : Spans p weights exec
     load-shown : (i : ℕ) → i < p → getD shown-words (w * (p + 1) + i) 0 ≡ loadIn weights executed m w i
     load-shown i l = sum-shown i l ∙ sum-at-place p weights executed m w i l
 
+    load-few : (i : ℕ) → i < p → getD shown-words (w * (p + 1) + i) 0 ≤ 67107840
+    load-few i l =
+        omega (
+          arith,
+          load-shown i l,
+          load-most weights executed m w i (λ k q. s .recorded (w + k) (omega (arith, h, q)) .light),
+          s .window,
+          s .fewEntries,
+        )
+
     spread-shown : Spread p (λ i. getD shown-words (w * (p + 1) + i) 0) (getD shown-words (w * (p + 1) + p) 0)
     spread-shown =
         subst (Spread p (λ i. getD shown-words (w * (p + 1) + i) 0))
@@ -158,6 +168,7 @@ module _ (p m : ℕ) (weights executed run : List ℕ) (s : Spans p weights exec
       record {
         size = windows-size p weights executed m (entriesWord run);
         load = λ w i h. load-shown w h i;
+        most = λ w i h. load-few w h i;
         spread = spread-shown;
         adds = λ w h.
             sum-same p _ _ (load-shown w h) ∙ window-adds weights executed p m w (λ k l. s .recorded (w + k) (omega (arith, h, l)) .worker);

@@ -164,6 +164,8 @@ pub record Spread (p : ℕ) (load : ℕ → ℕ) (spread : ℕ) : Type 0 where
 pub record ShowsLoads (p m : ℕ) (weights executed run words : List ℕ) : Type 0 where
   pub size : length words ≡ windowCount (entriesWord run) m * (p + 1)
   pub load : (w i : ℕ) → w + m ≤ entriesWord run → i < p → getD words (w * (p + 1) + i) 0 ≡ loadIn weights executed m w i
+  -- at most 1,024 · 65,535, also where a forged record names a task more than once
+  pub most : (w i : ℕ) → w + m ≤ entriesWord run → i < p → getD words (w * (p + 1) + i) 0 ≤ 67107840
   pub spread : (w : ℕ) → w + m ≤ entriesWord run → Spread p (λ i. getD words (w * (p + 1) + i) 0) (getD words (w * (p + 1) + p) 0)
   -- a window's P words add up to its m weights
   pub adds : (w : ℕ) → w + m ≤ entriesWord run
