@@ -90,7 +90,7 @@ queued k e = cond (sound k e) (e .count) 0
 unfoldable pub queue : {A : Type 0} → A → ℕ → Rings A → ℕ → List A
 queue default k r q = tabulate (queued k (endsAt (r .ends) q)) (λ n. getD (r .slots) (slotAt k q ((endsAt (r .ends) q .head + n) % k)) default)
 
--- an append to ring q: the item goes to the next free slot, the tail moves on, and the count is one more
+-- an append to ring q: tail is the slot that the item goes to; the tail moves on, and the count is one more
 unfoldable pub appendedAt : {A : Type 0} → ℕ → ℕ → A → Rings A → Rings A
 appendedAt k q a r =
     ringsOf (set (r .slots) (slotAt k q (endsAt (r .ends) q .tail)) a) (storeEnds (r .ends) q (tailOn k (endsAt (r .ends) q)))

@@ -32,7 +32,7 @@ pub(crate) struct Row {
 pub struct Ends {
     /// The next slot to take from.
     pub head: u32,
-    /// The next free slot.
+    /// The slot that the next task goes to.
     pub tail: u32,
     /// How many tasks wait in the ring: 0 in an empty one, [`slots`](crate::JobOf::slots) in a full one.
     pub count: u32,
