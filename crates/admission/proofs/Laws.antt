@@ -1,38 +1,29 @@
 -- The tests before a step's own rule, in their order.
 use Prim.Native.Nat.{ℕ, _+_, _*_, _≤_, _<_, min}
-use mathlib.Core.Path.{_≡_, refl, sym, ap, _∙_, subst}
-use mathlib.Core.Bool.{Bool, true, false, cond, not, _&&_}
+use mathlib.Core.Path.{_≡_, refl, sym, _∙_, subst}
+use mathlib.Core.Bool.{Bool, true, false, not, _&&_}
 use native.Mathlib.Nat.{mul-le-mul}
 use native.Mathlib.Omega.{arith}
 use lib.ListN.{length, replicate, length-replicate}
 use lib.Dec.{leb, eqb}
 use lib.IntN.{pos}
-use borrow.Author.Tests.{leb-true, le-ltb, le-leb, lt-leb, eqb-true, not-true, not-false}
-use Rattle.lists.proofs.Apart.{unequal}
+use borrow.Author.Tests.{leb-true, le-ltb, not-true, not-false}
 use Rattle.lists.proofs.Told.{and-true}
 use Rattle.task.specs.Types.{idle, engine, capped}
-use Rattle.task.specs.Phases.{suits, leadsTo, nextPhase}
 use Rattle.task.specs.declared.Limits.{Limits}
-use Rattle.task.specs.declared.Row.{Row}
-use Rattle.task.specs.declared.Step.{Step}
-use Rattle.task.specs.declared.Next.{Next}
-use Rattle.task.specs.declared.Next.the-variants as next
 use Rattle.graph.specs.Check.{sizesFit}
 use Rattle.memory.specs.Field.{Field}
 use Rattle.memory.specs.Field as list
 use Rattle.memory.specs.Memory.{get}
-use Rattle.memory.specs.Shape.{sizesIn, allFit}
+use Rattle.memory.specs.Shape.{lends, IfLent, sizesIn, allFit}
 use Rattle.memory.proofs.Shape.{shaped-same}
-use Rattle.rules.specs.Memory.{plain, Mem, memOf, tasks, edges, withHand}
+use Rattle.rules.specs.Memory.{plain, Mem, memOf, tasks, edges}
 use Rattle.rules.specs.Sizes.{Fits, numbersFit, othersFit, lengthsFit}
-use Rattle.rules.specs.Words.{phaseFits}
-use Rattle.rules.specs.Plans.{Plan, refuse, checked, suited}
 use Rattle.rules.specs.Steps.{stepPlan}
-use Rattle.rules.proofs.Headers.{fits-are}
-use Rattle.admission.specs.Admission.{sizesOf, sizeAt, Judges, Measured, Knows, Allows}
+use Rattle.plans.proofs.Headers.{fits-are}
+use Rattle.admission.specs.Admission.{sizesOf, sizeAt, Judges, Measured, Knows}
 use Rattle.admission.specs.declared.Sizes.{Sizes}
 use Rattle.admission.specs.declared.Judged.the-variants as judged
-use Rattle.admission.specs.declared.Admitted.the-variants.{To}
 
 pub numbers-are : (limits most : Limits) (p k : ℕ) → most ≡ capped limits
     → (leb 1 p && leb p (most .workers)) && (leb 2 k && leb k (most .slots)) ≡ numbersFit limits p k
@@ -79,26 +70,6 @@ module _ (sizes : Sizes) (p k : ℕ) (m : Mem) (e : sizesOf m ≡ sizes) where
   unfolding lengthsFit othersFit allFit
   lengths-are others o = rw (o, ← e) refl
 
-passed-to : (b : Bool) (a q : ℕ) → cond b (next.To a) next.Refused ≡ next.To q → (b ≡ true) × (q ≡ a)
-passed-to true a q e = (refl, cc)
-passed-to false a q e = unequal cc
-
--- the phase word, then whether the step suits it
-module _ (row : Row) (s : Step) where
-  pub phase-damaged : 2 < row .phase → (rest : Plan) → checked (phaseFits (row .phase)) (suited (nextPhase (row .phase) s) (row .phase) rest) ≡ refuse 8 0
-  phase-damaged h rest = rw (lt-leb (row .phase) 2 h)
-
-  module _ (h : row .phase ≤ 2) (to : Next) (e : to ≡ nextPhase (row .phase) s) where
-    pub phase-wrong : to ≡ next.Refused
-        → (rest : Plan) → checked (phaseFits (row .phase)) (suited (nextPhase (row .phase) s) (row .phase) rest) ≡ refuse 9 (row .phase)
-    phase-wrong w rest = rw (le-leb (row .phase) 2 h, ← e, w)
-
-    pub phase-suits : (q : ℕ) → to ≡ next.To q → Allows row s (To (withHand q (row .held) row))
-    unfolding nextPhase
-    phase-suits q w =
-        let (t, l) = passed-to (eqb (row .phase) (suits s)) (leadsTo s) q (sym e ∙ w) in
-        ((λ rest. rw (le-leb (row .phase) 2 h, t)), (eqb-true (row .phase) (suits s) t, ap (λ x. withHand x (row .held) row) l))
-
 -- a memory with lists of these lengths
 abbrev pub blank : Sizes → Mem
 blank z =
@@ -110,13 +81,14 @@ blank-sizes : (z : Sizes) → sizesOf (blank z) ≡ z
 blank-sizes z = simp length-replicate
 
 -- a memory's lengths, list by list
-sizes-at : (m : Mem) (f : Field) → sizeAt (sizesOf m) f ≡ length (get f m)
+sizes-at : (m : Mem) (f : Field) → IfLent (lends plain f) (sizeAt (sizesOf m) f ≡ length (get f m))
 sizes-at m list.weights = refl
 sizes-at m list.predStarts = refl
 sizes-at m list.preds = refl
 sizes-at m list.succStarts = refl
 sizes-at m list.succs = refl
 sizes-at m list.degrees = refl
+sizes-at m list.fixed = tt
 sizes-at m list.rings = refl
 sizes-at m list.ends = refl
 sizes-at m list.counters = refl

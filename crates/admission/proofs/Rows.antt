@@ -18,9 +18,9 @@ use Rattle.memory.specs.Updates.{written}
 use Rattle.rules.specs.Memory.{Mem, allSteps, rowIn, acceptedIn}
 use Rattle.rules.specs.Words.{phaseFits}
 use Rattle.rules.specs.Updates.{Update}
-use Rattle.rules.specs.Plans.{refuse, accept, checked, suited, withCount, counted, resultOf, carriedOut}
+use Rattle.rules.specs.Plans.{Plan, refuse, accept, checked, suited, withCount, counted, resultOf, carriedOut}
 use Rattle.rules.specs.Steps.{ruleOf, stepPlan, step}
-use Rattle.rules.proofs.Headers.{fits-are}
+use Rattle.plans.proofs.Headers.{headed-judged, fits-are}
 use Rattle.admission.specs.Admission.{sizesOf, Judges, Measured, Knows, entered, Allows, Admits, Enters, rowAfter, rowsAfter}
 use Rattle.admission.specs.declared.Sizes.{Sizes}
 use Rattle.admission.specs.declared.Judged.{Judged}
@@ -45,7 +45,9 @@ module _ (p k i : ℕ) (sizes : Sizes) (row : Row) (s : Step) where
     module _ (judges : Judges limits p k i sizes judged.Fit) where
       reached : stepPlan limits p k i s m ≡ checked (phaseFits (row .phase)) (suited (nextPhase (row .phase) s) (row .phase) (ruleOf s p k i m))
       unfolding stepPlan
-      reached = rw (judges .0 m e .0, judges .0 m e .1, lt-ltb i p (judges .1), h) refl
+      reached =
+          headed-judged limits p k i s m (ruleOf s p k i m) (judges .0 m e .0) (judges .0 m e .1) (judges .1)
+          ∙ ap (λ (x : Row). checked (phaseFits (x .phase)) (suited (nextPhase (x .phase) s) (x .phase) (ruleOf s p k i m))) h
 
       allowed-enters : (row′ : Row) → Allows row s (To row′) → Enters limits p k i s m row′
       allowed-enters row′ (a, (q, w)) =
@@ -61,7 +63,7 @@ module _ (p k i : ℕ) (sizes : Sizes) (row : Row) (s : Step) where
         → (n d : ℕ) → r ≡ Refused n d → stepPlan limits p k i s m ≡ refuse n d
     admission-refused (judged.Refused n′ d′) judges r told n d v = judges s m e ∙ same (sym told ∙ v)
       where
-        same : Refused n′ d′ ≡ Refused n d → refuse n′ d′ ≡ refuse n d
+        same : Refused n′ d′ ≡ Refused n d → _≡_ {A = Plan} (refuse n′ d′) (refuse n d)
         same q = cc
     admission-refused judged.Fit judges r told n d v = reached judges ∙ subst (Allows row s) v told (ruleOf s p k i m)
 

@@ -54,6 +54,8 @@ sizeAt z list.preds = z .preds
 sizeAt z list.succStarts = z .«succ_starts»
 sizeAt z list.succs = z .succs
 sizeAt z list.degrees = z .degrees
+-- a plain job isn't lent this list
+sizeAt z list.fixed = 0
 sizeAt z list.rings = z .rings
 sizeAt z list.ends = z .ends
 sizeAt z list.counters = z .counters

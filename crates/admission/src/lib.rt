@@ -5,7 +5,8 @@ ghost use Prim.Native.Nat.{_≤_};
 ghost use Rattle.task.specs.Types.{engine};
 ghost use Rattle.rules.specs.Memory.{Mem};
 ghost use Rattle.rules.specs.Sizes.{numbersFit, othersFit, lengthsFit};
-ghost use Rattle.admission.specs.Admission.{sizesOf, Judges, Knows, Allows, Admits, answerOf, rowAfter};
+ghost use Rattle.admission.specs.Phase.{phaseAfter};
+ghost use Rattle.admission.specs.Admission.{sizesOf, Judges, Knows, Admits, answerOf, rowAfter};
 use task::Limits;
 use task::Next;
 use task::Row;
@@ -89,44 +90,55 @@ pub fn judge(limits: Limits, sizes: Sizes, p: usize, k: usize, worker: WorkerId)
     Judged::Fit
 }
 
+// Refused, or the phase that a step leads to.
+pub enum Phased {
+    Refused(u32, u32),
+    To(u32),
+}
+
+// The phase word (8), and whether the step suits it (9), whatever else stands in the worker's row.
+pub fn phase_after(phase: u32, step: Step) -> Phased
+    ensures { λ r. ⌜ r ≡ phaseAfter phase step ⌝ }
+{
+    if 2 < phase {
+        return Phased::Refused(refusal::DAMAGED, 0);
+    }
+    let next = task::next_phase(phase as usize, step);
+    let Next::To(to) = next else {
+        return Phased::Refused(refusal::WRONG_PHASE, phase);
+    };
+    Phased::To(to)
+}
+
 // Refused, or the worker's row in the phase that the step leads to.
 pub enum Admitted {
     Refused(u32, u32),
     To(Row),
 }
 
-// The phase word, and whether the step suits it. The phase is set here alone.
-fn admit_phase(row: Row, step: Step) -> Admitted
-    ensures { λ r. ⌜ Allows row step r ⌝ }
-{
-    let from = row.phase;
-    if 2 < from {
-        return Admitted::Refused(refusal::DAMAGED, 0);
-    }
-    let next = task::next_phase(from as usize, step);
-    let Next::To(phase) = next else {
-        return Admitted::Refused(refusal::WRONG_PHASE, from);
-    };
-    let held = row.held;
-    let pointer = row.pointer;
-    Admitted::To(Row {
-        phase,
-        held,
-        pointer,
-        read: row.read,
-        write: row.write,
-        cursor: row.cursor,
-    })
-}
-
-// What was judged, then the phase word (8) and whether the step suits it (9).
+// What was judged, then the phase word (8) and whether the step suits it (9). The phase is set here alone.
 pub fn admit(judged: Judged, row: Row, step: Step) -> Admitted
     ensures { λ r. ⌜ Admits row step judged r ⌝ }
 {
     if let Judged::Refused(number, detail) = judged {
         return Admitted::Refused(number, detail);
     }
-    admit_phase(row, step)
+    let phased = phase_after(row.phase, step);
+    match phased {
+        Phased::Refused(number, detail) => Admitted::Refused(number, detail),
+        Phased::To(phase) => {
+            let held = row.held;
+            let pointer = row.pointer;
+            Admitted::To(Row {
+                phase,
+                held,
+                pointer,
+                read: row.read,
+                write: row.write,
+                cursor: row.cursor,
+            })
+        }
+    }
 }
 
 // A step's end: refused, or its outcome and the worker's row after it.

@@ -1,6 +1,6 @@
 -- An accepted Complete of document 01 is Algorithm 1's, whatever the lent memory holds.
-use Prim.Native.Nat.{ℕ, suc, _+_, _-_, _*_, _<_}
-use mathlib.Core.Path.{_≡_, refl, sym, ap, _∙_}
+use Prim.Native.Nat.{ℕ, suc, _+_, _*_, _<_}
+use mathlib.Core.Path.{_≡_, refl, sym, _∙_}
 use mathlib.Core.List.{List, [], _∷_, _++_}
 use native.Mathlib.Omega.{arith}
 use borrow.Author.Tests.{le-leb}
@@ -8,7 +8,6 @@ use lib.ListN.{length, getD, set, length-set}
 use lib.Seq.{getD-set-same, getD-set-other}
 use lib.IntN.{ℤ, pos, _-ℤ_}
 use Rattle.lists.proofs.Blocks.{tabulate-same, tabulate-snoc}
-use Rattle.lists.proofs.Places.{place-lt, place-same}
 use Rattle.task.specs.Types.{nil, idle}
 use Rattle.task.specs.Entries.{entryOf}
 use Rattle.task.specs.Phases.{suits}
@@ -24,20 +23,13 @@ use Rattle.rules.specs.Sizes.{Fits}
 use Rattle.rules.specs.Updates.{Update, putAccepted}
 use Rattle.rules.specs.Moves as moves
 use Rattle.rules.specs.Moves.{sink, inner, Completing}
+use Rattle.split_lists.proofs.Memories.{bufferFrom, SameBuffer, lists-after, counters-put}
+use Rattle.split_lists.proofs.Buffers.{buffered-none, buffered-some, buffer-joins, buffers-kept}
 use Rattle.algorithm1.specs.State.{successorsOf, threadOf}
 use Rattle.algorithm1.specs.Algorithm.{withThread, takeWeight, withEntry, buffered, completed, Lines}
 use Rattle.algorithm1.specs.Reading.{bufferIn, threadIn, entryIn, recordIn, successorsIn, stateOf}
 use Rattle.algorithm1.proofs.Readings.{state-same, successors-at, thread-at, length-successors, phase-at}
-use Rattle.algorithm1.proofs.Memories.{bufferFrom, places-fit, memAfter, SameBuffer, threads-after, counters-put}
-
--- what Complete puts in the buffer, told from the number of successors
-buffered-none : (l : List ℕ) (t : ℕ) (b : List ℕ) → _≡_ {A = ℕ} (length l) 0 → buffered l t b ≡ b
-buffered-none [] t b h = refl
-buffered-none (x ∷ l) t b h = absurd (omega (arith, h))
-
-buffered-some : (l : List ℕ) (t : ℕ) (b : List ℕ) → 0 < length l → buffered l t b ≡ b ++ (t ∷ [])
-buffered-some [] t b h = absurd (omega (arith, h))
-buffered-some (x ∷ l) t b h = refl
+use Rattle.algorithm1.proofs.Memories.{memAfter}
 
 module _ (limits : Limits) (p k i : ℕ) (m : Mem) (fits : Fits limits p k m) (worker : i < p) (n : ℕ) where
   abbrev task : ℕ
@@ -113,10 +105,11 @@ module _ (limits : Limits) (p k i : ℕ) (m : Mem) (fits : Fits limits p k m) (w
       unfolding stateOf threadIn
       state-completes joins kept =
           rw (thread-at p k m i worker, successors-at p k m task (common .task .below))
-          (state-same refl refl refl refl
+          (lists-after p k i m worker (fits .lengths) _ _ _ _ _ _ _ _ _ kept (recordIn m′)
+          ∙ state-same refl refl refl refl
           -- line 16: "W_i = W_i − w_T′"
-          (counters-put p i i worker worker k m (fits .lengths) (λ c. c -ℤ pos (weightIn m task)))
-          (threads-after p k i m worker (fits .lengths) _ _ _ _ _ _ _ _ kept ∙ rw joins)
+          (counters-put p i i worker worker k m (fits .lengths) (recordIn m) (λ c. c -ℤ pos (weightIn m task)))
+          (rw joins)
           record-joins)
 
   pub complete-does : (o : StepOutcome) (us : List Update) → rowIn m i .phase ≡ suits Complete → moves.Completes p i m o us
@@ -137,38 +130,14 @@ module _ (limits : Limits) (p k i : ℕ) (m : Mem) (fits : Fits limits p k m) (w
       rw (f .updates, set-again (m .rows) i (withHand 0 nil (rowIn m i)) idle (withPlaces read (write + 1) (rowIn m i .cursor)))
       (record { phase = phase-at p k m i worker ∙ phase; after = state-completes (f .common) buffers (write + 1) joins kept; outcome = f .outcome })
     where
-      place : ℕ
-      place = bufferAt m i write
-
       buffers : List ℕ
-      buffers = set (m .buffers) place task
-
-      m′ : Mem
-      m′ = next buffers (write + 1)
-
-      count : write + 1 - read ≡ suc (write - read)
-      count = omega (arith, f .places)
-
-      last : getD buffers (bufferAt m i (read + (write - read))) 0 ≡ task
-      last =
-          ap (λ (x : ℕ). getD buffers (bufferAt m i x) 0) (omega (arith, f .places))
-          ∙ getD-set-same (m .buffers) place task 0 (rw (fits .lengths .list list.buffers) (place-lt (tasks m) p i write worker (f .room)))
+      buffers = set (m .buffers) (bufferAt m i write) task
 
       -- one more word, at the write place
-      joins : bufferFrom m′ i read (write + 1) ≡ buffered (successorsIn m task) task (bufferIn m i)
+      joins : bufferFrom (next buffers (write + 1)) i read (write + 1) ≡ buffered (successorsIn m task) task (bufferIn m i)
       joins =
-          places-fit m′ i read (write + 1) (omega (arith, f .places)) (omega (arith, f .room))
-          ∙ rw (
-            buffered-some (successorsIn m task) task (bufferIn m i) (rw (successor-count (f .common)) (f .successors)),
-            places-fit m i read write (f .places) (omega (arith, f .room)),
-            count,
-          )
-          (tabulate-snoc (write - read) _
-          ∙ rw (
-            last,
-            tabulate-same (write - read) _ (λ x. getD (m .buffers) (bufferAt m i (read + x)) 0)
-                (λ x l. getD-set-other (m .buffers) place (bufferAt m i (read + x)) task 0 (λ q. omega (arith, q, l))),
-          ))
+          buffer-joins p k i m worker (fits .lengths) task read write (f .places) (f .room)
+          ∙ sym (buffered-some (successorsIn m task) task (bufferIn m i) (rw (successor-count (f .common)) (f .successors)))
 
       kept : (h : ℕ) → ¬ (h ≡ i) → SameBuffer m buffers h
-      kept h e x l = getD-set-other (m .buffers) place (bufferAt m h x) task 0 (λ q. e (place-same (tasks m) h x i write l (f .room) q .0))
+      kept = buffers-kept p k i m worker (fits .lengths) task read write (f .places) (f .room)

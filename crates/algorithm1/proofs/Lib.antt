@@ -5,6 +5,4 @@ pub mod Completed
 pub mod Released
 pub mod Accepted
 pub mod Unique
-pub mod RoundRobin
 pub mod Examples
-pub mod ItemExamples

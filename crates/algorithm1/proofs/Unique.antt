@@ -1,24 +1,14 @@
 -- Algorithm 1's step is determined: from one state a thread's step leads to one state, with one outcome, since what it chooses (the
 -- circular list, the thread) is the only one that is as the paper says.
-use Prim.Native.Nat.{ℕ, _≤_}
+use Prim.Native.Nat.{ℕ}
 use mathlib.Core.Path.{_≡_}
-use native.Mathlib.Omega.{arith}
-use native.Mathlib.Nat.{le-antisymm}
-use native.Mathlib.Decide.{decLe}
-use Rattle.lists.proofs.Decided.{stable}
 use Rattle.task.specs.declared.Step.{Step}
 use Rattle.task.specs.declared.Step.the-variants.{Fetch, Start, Complete, Release}
 use Rattle.task.specs.declared.StepOutcome.{StepOutcome}
 use Rattle.choice.proofs.Least.{least-one}
+use Rattle.split_lists.proofs.Memories.{first-one}
 use Rattle.algorithm1.specs.State.{Thread, State}
-use Rattle.algorithm1.specs.Algorithm.{First, Fetches, Passes, Releases, lowers, allocates, Lines, Does}
-
--- the first of the numbers from `start` upward, modulo P
-distance-le : {p : ℕ} {Is : ℕ → Type 0} {start x y : ℕ} (f : First p Is start x) (g : First p Is start y) → f .distance ≤ g .distance
-distance-le f g = stable (decLe (f .distance) (g .distance)) (λ n. f .before (g .distance) (omega arith) (rw (g .there) at (g .is)))
-
-pub first-one : {p : ℕ} {Is : ℕ → Type 0} {start x y : ℕ} → First p Is start x → First p Is start y → x ≡ y
-first-one f g = let same = le-antisymm (distance-le f g) (distance-le g f) in cc
+use Rattle.algorithm1.specs.Algorithm.{Fetches, Passes, Releases, lowers, allocates, Lines, Does}
 
 -- line 6: T and the thread after it
 passes-one : {i : ℕ} {s : State} {T U : ℕ} {r q : Thread} → Passes i s T r → Passes i s U q → (T ≡ U) × (r ≡ q)

@@ -6,56 +6,19 @@
 -- Lines without a counterpart here: 1 and 2 are begin's; 3, 4, 18 and 19 run the threads, and 5 and 14 say when a thread releases: "the host serialises its
 -- machines" and chooses, since Release and Fetch both suit phase 0, and "the threshold on the completed buffer" is left out. That a ready task leaves the global task list
 -- (line 9) shows in its degree alone: document 01's tables stay.
-use Prim.Native.Nat.{ℕ, _+_, _-_, _%_, _≤_, _<_}
+use Prim.Native.Nat.{ℕ, _-_, _≤_, _<_}
 use mathlib.Core.Path.{_≡_}
-use mathlib.Core.Bool.{cond}
 use mathlib.Core.List.{List, [], _∷_, _++_}
-use lib.ListN.{length, getD, set}
-use lib.Dec.{eqb}
-use lib.IntN.{pos, _+ℤ_, _-ℤ_}
-use Rattle.lists.specs.Squares.{withCell}
+use lib.ListN.{length, getD}
 use Rattle.task.specs.Types.{nil}
-use Rattle.task.specs.Entries.{entryOf}
 use Rattle.task.specs.declared.Step.{Step}
 use Rattle.task.specs.declared.Step.the-variants.{Fetch, Start, Complete, Release}
 use Rattle.task.specs.declared.StepOutcome.{StepOutcome}
 use Rattle.task.specs.declared.StepOutcome.the-variants.{Moved, Fetched, Released}
 use Rattle.task.specs.declared.ReleaseOutcome.the-variants.{DegreeLeft, Placed}
 use Rattle.choice.specs.Least.{Least}
-use Rattle.algorithm1.specs.Items as items
-use Rattle.algorithm1.specs.State.{Thread, threadWith, State, stateWith, weightOf, degreeOf, successorsOf, queueOf, counterOf, workload, threadOf}
-
--- "in a round robin fashion": of the numbers below P, from `start` upward, modulo P, x is the first that is as `Is` says
-pub record First (p : ℕ) (Is : ℕ → Type 0) (start x : ℕ) : Type 0 where
-  pub distance : ℕ
-  pub inside : distance < p
-  pub there : x ≡ (start + distance) % p
-  pub is : Is x
-  pub before : (d : ℕ) → d < distance → ¬ (Is ((start + d) % p))
-
--- the state with another thread, degree, circular list or counter; its items are of any type
-abbrev pub withThread : {A : Type 0} → ℕ → items.Thread A → items.State A → items.State A
-withThread i t s = stateWith (s .weights) (s .successors) (s .degrees) (s .queues) (s .counters) (set (s .threads) i t) (s .executed)
-
-abbrev pub withDegree : {A : Type 0} → ℕ → ℕ → items.State A → items.State A
-withDegree t d s = stateWith (s .weights) (s .successors) (set (s .degrees) t d) (s .queues) (s .counters) (s .threads) (s .executed)
-
-abbrev pub withQueue : {A : Type 0} → ℕ → ℕ → List A → items.State A → items.State A
-withQueue i j l s = stateWith (s .weights) (s .successors) (s .degrees) (withCell (s .queues) i j l) (s .counters) (s .threads) (s .executed)
-
--- W_i^j = W_i^j + w_T
-abbrev pub addWeight : {A : Type 0} → ℕ → ℕ → ℕ → items.State A → items.State A
-addWeight i j t s =
-    stateWith (s .weights) (s .successors) (s .degrees) (s .queues) (withCell (s .counters) i j (counterOf s i j +ℤ pos (weightOf s t))) (s .threads) (s .executed)
-
--- W_i^j = W_i^j − w_T
-abbrev pub takeWeight : {A : Type 0} → ℕ → ℕ → ℕ → items.State A → items.State A
-takeWeight i j t s =
-    stateWith (s .weights) (s .successors) (s .degrees) (s .queues) (withCell (s .counters) i j (counterOf s i j -ℤ pos (weightOf s t))) (s .threads) (s .executed)
-
--- the thread with task T′ in hand, once it has been fetched from list j: "The pointer becomes the ring after, modulo P."
-abbrev pub holding : {A : Type 0} → ℕ → ℕ → A → items.Thread A → items.Thread A
-holding p j t r = threadWith (r .buffer) (r .cursor) 1 t ((j + 1) % p)
+pub use Rattle.split_lists.specs.Moves.{First, withThread, withQueue, addWeight, takeWeight, holding, executing, buffered, withEntry, passed, lowered}
+use Rattle.algorithm1.specs.State.{Thread, threadWith, State, degreeOf, successorsOf, queueOf, workload, threadOf}
 
 -- {Fetch module}
 pub record Fetches (p i : ℕ) (s s′ : State) (o : StepOutcome) : Type 0 where
@@ -75,28 +38,15 @@ pub record Fetches (p i : ℕ) (s s′ : State) (o : StepOutcome) : Type 0 where
 
 -- {Execute module}: document 01's Start and Complete are the two ends of line 17, "execute T′"; Complete has line 16 too. Start moves "the phase
 -- alone".
-abbrev pub executing : {A : Type 0} → items.Thread A → items.Thread A
-executing r = threadWith (r .buffer) (r .cursor) 2 (r .held) (r .pointer)
-
 pub record Starts (i : ℕ) (s s′ : State) (o : StepOutcome) : Type 0 where
   -- "Start 1→2"
   pub phase : _≡_ {A = ℕ} (threadOf s i .phase) 1
   pub after : s′ ≡ withThread i (executing (threadOf s i)) s
   pub outcome : o ≡ Moved
 
--- Line 17 places every task into the buffer; document 01 decides: "the task joins i's completed buffer if it has successors". What is still to be
--- released is the same.
-abbrev pub buffered : List ℕ → ℕ → List ℕ → List ℕ
-buffered [] t buffer = buffer
-buffered (x ∷ xs) t buffer = buffer ++ (t ∷ [])
-
 -- line 17: "place the task ID of T′ into the Completed Task ID buffer of Thread i"; "held becomes NIL"
 abbrev pub completed : List ℕ → Thread → Thread
 completed successors r = threadWith (buffered successors (r .held) (r .buffer)) (r .cursor) 0 (nil .0) (r .pointer)
-
--- "(task, i) joins the record"
-abbrev pub withEntry : {A : Type 0} → A → ℕ → items.State A → items.State A
-withEntry t i s = stateWith (s .weights) (s .successors) (s .degrees) (s .queues) (s .counters) (s .threads) (s .executed ++ (entryOf t i ∷ []))
 
 pub record Completes (i : ℕ) (s s′ : State) (o : StepOutcome) : Type 0 where
   -- "Complete 2→0"
@@ -109,13 +59,6 @@ pub record Completes (i : ℕ) (s s′ : State) (o : StepOutcome) : Type 0 where
   pub outcome : o ≡ Moved
 
 -- {Completed Task ID buffer & Allocate module}
--- after one pass of line 6 the cursor is on the next successor; after the last the task leaves the buffer, its share of line 13:
--- "Completed Task ID buffer = φ"
-abbrev pub passed : {A : Type 0} → ℕ → List ℕ → items.Thread A → items.Thread A
-passed count rest r =
-    cond (eqb (r .cursor + 1) count) (threadWith rest 0 (r .phase) (r .held) (r .pointer))
-    (threadWith (r .buffer) (r .cursor + 1) (r .phase) (r .held) (r .pointer))
-
 -- line 6: "for all T ∈ {successors of tasks in the Completed Task ID buffer of Thread i}": T is "the oldest task in i's buffer, its successor s at the
 -- cursor", and its degree can be lowered ("degree to be lowered outside 1..N" is damaged)
 pub record Passes (i : ℕ) (s : State) (T : ℕ) (r : Thread) : Type 0 where
@@ -128,10 +71,6 @@ pub record Passes (i : ℕ) (s : State) (T : ℕ) (r : Thread) : Type 0 where
   pub successor : T ≡ getD (successorsOf s oldest) (threadOf s i .cursor) 0
   pub waits : 1 ≤ degreeOf s T
   pub thread : r ≡ passed (length (successorsOf s oldest)) rest (threadOf s i)
-
--- line 7: "d_T = d_T − 1", and the thread goes on
-abbrev pub lowered : {A : Type 0} → ℕ → ℕ → items.Thread A → items.State A → items.State A
-lowered i T r s = withThread i r (withDegree T (degreeOf s T - 1) s)
 
 -- line 8: "if d_T = 0", and it isn't
 pub record Lowers (i : ℕ) (s s′ : State) (o : StepOutcome) : Type 0 where

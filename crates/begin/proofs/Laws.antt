@@ -73,7 +73,7 @@ module _ (limits : Limits) (p k : ℕ) (w s e : List ℕ) (ss sc d r n c b x u r
 
   fits : Fits limits p k some × GraphFits limits w s e × (rootCount some ≤ p * k)
   unfolding begin
-  fits = begin-accepted limits p k some .0 (ap (λ (z : Answer). answerSays (beginResult z p k some .answer)) (sym (judged some some-sizes) ∙ q))
+  fits = begin-accepted limits p k some .0 (ap (λ (z : Answer). answerSays (beginResult z (begun p k some) some .answer)) (sym (judged some some-sizes) ∙ q))
 
   lengths : Lengths p k some
   lengths = fits .0 .lengths

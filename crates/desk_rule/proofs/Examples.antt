@@ -23,7 +23,7 @@ use Rattle.memory.specs.Updates.{storeWords, updated, written}
 use Rattle.memory.specs.Shape.{allFit}
 use Rattle.rules.specs.Plans.{counted, carriedOut}
 use Rattle.rules.specs.Steps.{scan, fetchTask, fetchFrom, fetchRule, startRule, completeSink, completeInner, completeRule, advanced, findRoom, releaseTo, releaseReady, releaseWaiting, releaseRule, ruleOf, stepPlan, step}
-use Rattle.rules.specs.Begin.{cleared, rootsPlaced, begun, rootsAnswer, beginAnswer, begin}
+use Rattle.rules.specs.Begin.{cleared, rootsLaid, begun, rootsAnswer, beginAnswer, begin}
 use Rattle.rules.specs.Desk.{turn, turns, deskRun}
 use Rattle.layout.specs.Tasks.{weightsOf, startsFrom, predsOf}
 use Rattle.layout.specs.Reader.{lines, trim, skipped, fields, digits, valueOf, rowOf, taskOf, contents, tasksFrom, verdict, laid, readText}
@@ -115,5 +115,5 @@ pub record Examples : Type 0 where
       ≡ 114 ∷ 101 ∷ 102 ∷ 117 ∷ 115 ∷ 101 ∷ 100 ∷ 32 ∷ 51 ∷ 32 ∷ 49 ∷ 10 ∷ []
 
 pub examples : Examples
-unfolding ℕ-discrete decLe decLt firstBelow occOf joined tabulate allOf sumTo after around capped nextPhase part sizesFit firstBad firstTwice firstOnCycle tablesAnswer checkAnswer below? among? light? good? bad? endsFit? twice? twiceIn? find-twice edge? thru? path? leads? onCycle? succsBelow succStart succStarts succWords degreeList roots capacity slotAt endsAt storeEnds sound empty full headOn tailOn sumToZ load leastFrom least search allSteps allEntries numbersFit allFit othersFit lengthsFit countersFit storeWords updated written counted carriedOut scan fetchTask fetchFrom fetchRule startRule completeSink completeInner completeRule advanced findRoom releaseTo releaseReady releaseWaiting releaseRule ruleOf stepPlan step cleared rootsPlaced begun rootsAnswer beginAnswer begin turn turns deskRun weightsOf startsFrom predsOf lines trim skipped fields digits valueOf rowOf taskOf contents tasksFrom verdict laid readText digitsBefore digitsOf pairLine refusedLine entryLines runLines graphOutput deskMemory deskRead deskOutput
+unfolding ℕ-discrete decLe decLt firstBelow occOf joined tabulate allOf sumTo after around capped nextPhase part sizesFit firstBad firstTwice firstOnCycle tablesAnswer checkAnswer below? among? light? good? bad? endsFit? twice? twiceIn? find-twice edge? thru? path? leads? onCycle? succsBelow succStart succStarts succWords degreeList roots capacity slotAt endsAt storeEnds sound empty full headOn tailOn sumToZ load leastFrom least search allSteps allEntries numbersFit allFit othersFit lengthsFit countersFit storeWords updated written counted carriedOut scan fetchTask fetchFrom fetchRule startRule completeSink completeInner completeRule advanced findRoom releaseTo releaseReady releaseWaiting releaseRule ruleOf stepPlan step cleared rootsLaid begun rootsAnswer beginAnswer begin turn turns deskRun weightsOf startsFrom predsOf lines trim skipped fields digits valueOf rowOf taskOf contents tasksFrom verdict laid readText digitsBefore digitsOf pairLine refusedLine entryLines runLines graphOutput deskMemory deskRead deskOutput
 examples = record { nought = refl; seven = refl; ten = refl; fiveDigits = refl; diamond = refl; nothing = refl; twoRoots = refl; eightRoots = refl; nineRoots = refl; badPredecessor = refl }

@@ -27,7 +27,7 @@ use Rattle.rules.specs.Memory.{Mem, allSteps, ringNumber, rowIn, withHand, with
 use Rattle.rules.specs.Updates.{Update, putEnds, putHand, putPointer}
 use Rattle.rules.specs.Plans.{accept, withCount, counted}
 use Rattle.rules.specs.Steps.{scan, fetchTask, fetchFrom, fetchRule, ruleOf}
-use Rattle.rules.proofs.Searches.{Looked, search-looked}
+use Rattle.plans.proofs.Searches.{Looked, search-looked}
 use Rattle.searches.specs.Searches.{foundOf, Reads}
 use Rattle.searches.specs.declared.Found.{Found}
 use Rattle.searches.specs.declared.Found.the-variants as found

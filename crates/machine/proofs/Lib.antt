@@ -4,3 +4,4 @@ pub mod Standing
 pub mod Onward
 pub mod Seen
 pub mod ExampleLaws
+pub mod Jobs

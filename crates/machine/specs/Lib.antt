@@ -1,3 +1,4 @@
 pub mod Machine
 pub mod Standing
 pub mod Seen
+pub mod Jobs

@@ -44,7 +44,7 @@ pairs =
       withPlaces = λ x r. rowOf (r .phase) (r .held) (r .pointer) (x .read) (x .write) (x .cursor);
       noItem = pair 9 9;
       noRow = rowOf 9 (pair 9 9) 9 9 9 9;
-      shape = record { entryWords = 3; entries = λ n e. e + n; runWords = 3; steps = λ n e. 4 * e + 3 * n };
+      shape = record { entryWords = 3; entries = λ n e. e + n; runWords = 3; steps = λ n e. 4 * e + 3 * n; fixes = true };
     }
 
 pair-rows : RowLaws pairs
@@ -74,12 +74,13 @@ pair-rows = record { found = found; other = other; back = back }
 -- one worker, two slots, one task without edges
 abbrev pub small : Mem pairs
 small =
-    memOf (5 ∷ []) (0 ∷ 0 ∷ []) [] (0 ∷ 0 ∷ []) [] (0 ∷ []) (pair 0 7 ∷ pair 1 7 ∷ []) (0 ∷ 1 ∷ 1 ∷ []) (pos 5 ∷ []) (4 ∷ []) (6 ∷ 6 ∷ 6 ∷ []) (0 ∷ 0 ∷ 1 ∷ [])
+    memOf (5 ∷ []) (0 ∷ 0 ∷ []) [] (0 ∷ 0 ∷ []) [] (0 ∷ []) (9 ∷ []) (pair 0 7 ∷ pair 1 7 ∷ []) (0 ∷ 1 ∷ 1 ∷ []) (pos 5 ∷ []) (4 ∷ []) (6 ∷ 6 ∷ 6 ∷ []) (0 ∷ 0 ∷ 1 ∷ [])
     (rowOf 0 (pair 8 8) 0 0 0 0 ∷ [])
 
 abbrev pub some : List (Update pairs)
 some =
     store list.degrees 0 3
+    ∷ store list.fixed 0 8
     ∷ store list.rings 1 (pair 2 3)
     ∷ store list.ends 0 (record { head = 1; tail = 0; count = 2 })
     ∷ store list.counters 0 (negsuc 1)
@@ -90,12 +91,12 @@ some =
     ∷ []
 
 abbrev pub all : List Field
-all = list.weights ∷ list.predStarts ∷ list.preds ∷ others
+all = list.weights ∷ list.predStarts ∷ list.preds ∷ others pairs
 
 pub record Examples : Type 0 where
   -- each update writes its place of its list, a row's part alone its part, and the other lists stay
   pub wrote : written some small
-      ≡ memOf (5 ∷ []) (0 ∷ 0 ∷ []) [] (0 ∷ 0 ∷ []) [] (3 ∷ []) (pair 0 7 ∷ pair 2 3 ∷ []) (1 ∷ 0 ∷ 2 ∷ []) (negsuc 1 ∷ []) (4 ∷ []) (1 ∷ 2 ∷ 3 ∷ []) (0 ∷ 0 ∷ 1 ∷ [])
+      ≡ memOf (5 ∷ []) (0 ∷ 0 ∷ []) [] (0 ∷ 0 ∷ []) [] (3 ∷ []) (8 ∷ []) (pair 0 7 ∷ pair 2 3 ∷ []) (1 ∷ 0 ∷ 2 ∷ []) (negsuc 1 ∷ []) (4 ∷ []) (1 ∷ 2 ∷ 3 ∷ []) (0 ∷ 0 ∷ 1 ∷ [])
       (rowOf 1 (pair 0 7) 4 0 1 2 ∷ [])
   -- a place that isn't there is not written
   pub beyond : written (store list.weights 1 7 ∷ store list.rows 1 (pointer 4) ∷ store list.executed 1 (1 ∷ 2 ∷ 3 ∷ []) ∷ []) small ≡ small
@@ -104,9 +105,9 @@ pub record Examples : Type 0 where
   pub spared : spares list.buffers some ≡ true
   pub named : spares list.rows some ≡ false
   -- P 2, K 4, N 3, E 5
-  pub lengths : map (lengthOf pairs 2 4 3 5) all ≡ 3 ∷ 4 ∷ 5 ∷ 4 ∷ 5 ∷ 3 ∷ 16 ∷ 12 ∷ 4 ∷ 6 ∷ 24 ∷ 3 ∷ 2 ∷ []
-  pub fits : allFit pairs 1 2 (sizesIn small) others ≡ true
-  pub misfits : allFit pairs 1 3 (sizesIn small) others ≡ false
+  pub lengths : map (lengthOf pairs 2 4 3 5) all ≡ 3 ∷ 4 ∷ 5 ∷ 4 ∷ 5 ∷ 3 ∷ 3 ∷ 16 ∷ 12 ∷ 4 ∷ 6 ∷ 24 ∷ 3 ∷ 2 ∷ []
+  pub fits : allFit pairs 1 2 (sizesIn small) (others pairs) ≡ true
+  pub misfits : allFit pairs 1 3 (sizesIn small) (others pairs) ≡ false
 
 pub examples : Examples
 unfolding endsAt storeEnds storeWords wordsFrom updated written spares inverse inverses allFit

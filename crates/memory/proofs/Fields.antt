@@ -26,6 +26,7 @@ module _ {F : Family} where
   get-put list.succStarts l m = refl
   get-put list.succs l m = refl
   get-put list.degrees l m = refl
+  get-put list.fixed l m = refl
   get-put list.rings l m = refl
   get-put list.ends l m = refl
   get-put list.counters l m = refl
@@ -65,6 +66,7 @@ module _ {F : Family} where
   lists-get list.succStarts m = refl
   lists-get list.succs m = refl
   lists-get list.degrees m = refl
+  lists-get list.fixed m = refl
   lists-get list.rings m = refl
   lists-get list.ends m = refl
   lists-get list.counters m = refl
@@ -80,6 +82,7 @@ module _ {F : Family} where
   lists-put list.succStarts l m = refl
   lists-put list.succs l m = refl
   lists-put list.degrees l m = refl
+  lists-put list.fixed l m = refl
   lists-put list.rings l m = refl
   lists-put list.ends l m = refl
   lists-put list.counters l m = refl

@@ -1,5 +1,6 @@
 -- A family of jobs: what its items are, and how its worker rows are made. A plain job's items are its tasks.
 use Prim.Native.Nat.{ℕ}
+use mathlib.Core.Bool.{Bool}
 
 -- "phase, held task": what a worker has in hand
 pub record Hand (A : Type 0) : Type 0 where
@@ -21,6 +22,8 @@ pub record Shape : Type 0 where
   pub runWords : ℕ
   -- how many steps a run of n tasks and e edges has at most
   pub steps : (n e : ℕ) → ℕ
+  -- whether a word for each task is lent, of the worker that it is fixed to
+  pub fixes : Bool
 
 pub record Family : Type 1 where
   -- what a slot of a ring holds

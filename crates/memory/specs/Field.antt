@@ -6,7 +6,7 @@ pub data Sort : Type 0 where
   word signed item ringEnds entry row : Sort
 
 pub data Field : Type 0 where
-  weights predStarts preds succStarts succs degrees rings ends counters buffers executed run rows : Field
+  weights predStarts preds succStarts succs degrees fixed rings ends counters buffers executed run rows : Field
 
 abbrev pub sortOf : Field → Sort
 sortOf weights = word
@@ -15,6 +15,7 @@ sortOf preds = word
 sortOf succStarts = word
 sortOf succs = word
 sortOf degrees = word
+sortOf fixed = word
 sortOf rings = item
 sortOf ends = ringEnds
 sortOf counters = signed
@@ -31,10 +32,11 @@ number preds = 2
 number succStarts = 3
 number succs = 4
 number degrees = 5
-number rings = 6
-number ends = 7
-number counters = 8
-number buffers = 9
-number executed = 10
-number run = 11
-number rows = 12
+number fixed = 6
+number rings = 7
+number ends = 8
+number counters = 9
+number buffers = 10
+number executed = 11
+number run = 12
+number rows = 13

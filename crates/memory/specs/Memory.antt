@@ -19,6 +19,8 @@ pub record Mem (F : Family) : Type 0 where
   pub succs : List ℕ
   -- "Degrees N."
   pub degrees : List ℕ
+  -- the worker that each task is fixed to; of a family that isn't lent this list any words, which nothing reads
+  pub fixed : List ℕ
   -- "Rings P·P·K"
   pub rings : List (F .Item)
   -- "Heads and tails", and "A ring keeps a count beside head and tail": P·P triples
@@ -47,8 +49,8 @@ abbrev pub ListOf : Family → Field → Type 0
 ListOf F f = List (Cell F (sortOf f))
 
 module _ {F : Family} where
-  abbrev pub memOf : List ℕ → List ℕ → List ℕ → List ℕ → List ℕ → List ℕ → List (F .Item) → List ℕ → List ℤ → List ℕ → List ℕ → List ℕ → List (F .Row) → Mem F
-  memOf w ps p ss s d r e c b x n rows =
+  abbrev pub memOf : List ℕ → List ℕ → List ℕ → List ℕ → List ℕ → List ℕ → List ℕ → List (F .Item) → List ℕ → List ℤ → List ℕ → List ℕ → List ℕ → List (F .Row) → Mem F
+  memOf w ps p ss s d f r e c b x n rows =
       record {
         weights = w;
         predStarts = ps;
@@ -56,6 +58,7 @@ module _ {F : Family} where
         succStarts = ss;
         succs = s;
         degrees = d;
+        fixed = f;
         rings = r;
         ends = e;
         counters = c;
@@ -72,6 +75,7 @@ module _ {F : Family} where
   get list.succStarts m = m .succStarts
   get list.succs m = m .succs
   get list.degrees m = m .degrees
+  get list.fixed m = m .fixed
   get list.rings m = m .rings
   get list.ends m = m .ends
   get list.counters m = m .counters
@@ -130,6 +134,7 @@ module _ {F : Family} where
       ∷ any F (sortOf list.succStarts) (m .succStarts)
       ∷ any F (sortOf list.succs) (m .succs)
       ∷ any F (sortOf list.degrees) (m .degrees)
+      ∷ any F (sortOf list.fixed) (m .fixed)
       ∷ any F (sortOf list.rings) (m .rings)
       ∷ any F (sortOf list.ends) (m .ends)
       ∷ any F (sortOf list.counters) (m .counters)
@@ -148,13 +153,14 @@ module _ {F : Family} where
         succStarts = wordsIn (getD l 3 (words []));
         succs = wordsIn (getD l 4 (words []));
         degrees = wordsIn (getD l 5 (words []));
-        rings = itemsIn (getD l 6 (words []));
-        ends = wordsIn (getD l 7 (words []));
-        counters = signedsIn (getD l 8 (words []));
-        buffers = wordsIn (getD l 9 (words []));
-        executed = wordsIn (getD l 10 (words []));
-        run = wordsIn (getD l 11 (words []));
-        rows = recordsIn (getD l 12 (words []));
+        fixed = wordsIn (getD l 6 (words []));
+        rings = itemsIn (getD l 7 (words []));
+        ends = wordsIn (getD l 8 (words []));
+        counters = signedsIn (getD l 9 (words []));
+        buffers = wordsIn (getD l 10 (words []));
+        executed = wordsIn (getD l 11 (words []));
+        run = wordsIn (getD l 12 (words []));
+        rows = recordsIn (getD l 13 (words []));
       }
 
   -- the memory with another list in this place

@@ -19,7 +19,7 @@ use Rattle.choice.proofs.Least.{least-worker}
 use Rattle.rules.specs.Memory.{Mem}
 use Rattle.rules.specs.Words.{counterFits, countersFit}
 use Rattle.rules.specs.Steps.{findRoom, releaseTo, releaseReady}
-use Rattle.rules.proofs.Searches.{Looked, search-looked}
+use Rattle.plans.proofs.Searches.{Looked, search-looked}
 use Rattle.task.specs.declared.Ends.{Ends}
 use Rattle.task.specs.declared.WorkerId.{WorkerId}
 use Rattle.counters.specs.Choice.{Chosen}

@@ -27,12 +27,13 @@ use Rattle.ring.specs.Ring.{capacity, endWords, Sound, slotAt, endsAt, storeEnd
 use Rattle.ring.proofs.Ends.{length-stored, ends-cleared, ends-stored, ends-other, filled-sound, filled-append}
 use Rattle.ring.proofs.Inside.{ring-inside}
 use Rattle.memory.specs.Updates.{updated, written}
+use Rattle.plans.proofs.Dealt.{to-fits, to-snoc}
+use Rattle.plans.proofs.Laid.{laid-snoc}
 use Rattle.rules.specs.Memory.{Mem, ringNumber}
 use Rattle.rules.specs.Words.{counterFits}
 use Rattle.rules.specs.Steps.{join}
-use Rattle.rules.specs.Begin.{rootsPlaced}
+use Rattle.rules.specs.Begin.{rootsLaid, rootsPlaced}
 use Rattle.rules.specs.Begun.{toRing}
-use Rattle.rules.proofs.Dealt.{to-fits, to-snoc}
 use Rattle.roots.specs.Laying.{rootsBelow, laidIn, Placed, Job, Room, Laid}
 
 module _ (degrees : List ℕ) (t : ℕ) where
@@ -62,14 +63,7 @@ below-fewer degrees t (suc n) h = go (ℕ-discrete t (suc n)) (below-fewer degre
 placed-snoc : (p k n : ℕ) (ts : List ℕ) (t : ℕ) (m : Mem)
     → rootsPlaced p k n (ts ++ (t ∷ [])) m
     ≡ written (join p k ((n + length ts) % p) ((n + length ts) % p) t (rootsPlaced p k n ts m)) (rootsPlaced p k n ts m)
-unfolding rootsPlaced
-placed-snoc p k n [] t m = ap (λ (x : ℕ). written (join p k (x % p) (x % p) t m) m) (omega arith)
-placed-snoc p k n (x ∷ ts) t m =
-    placed-snoc p k (n + 1) ts t (written (join p k (n % p) (n % p) x m) m)
-    ∙ ap (λ (y : ℕ). written (join p k (y % p) (y % p) t b) b) (omega arith)
-  where
-    b : Mem
-    b = rootsPlaced p k (n + 1) ts (written (join p k (n % p) (n % p) x m) m)
+placed-snoc p k n ts t m = laid-snoc (λ x. x) p k (λ x t. []) n ts t m
 
 laid-same : (m : Mem) (w : List ℕ) {r r′ e e′ : List ℕ} {c c′ : List ℤ} → r ≡ r′ → e ≡ e′ → c ≡ c′ → laidIn m w r e c ≡ laidIn m w r′ e′ c′
 laid-same m w a b d = rw (a, b, d)
@@ -82,7 +76,7 @@ pub laid-none : (p k : ℕ) (weights degrees rings ends rings′ ends′ : List 
     → Job p k weights degrees → Room p k rings ends counters
     → rings′ ≡ replicate (length rings) 0 → ends′ ≡ replicate (length ends) 0 → counters′ ≡ replicate (length counters) (pos 0)
     → Laid p k weights degrees 0 0 rings′ ends′ counters′
-unfolding rootsBelow joined rootsPlaced toRing
+unfolding rootsBelow joined rootsLaid toRing
 laid-none p k weights degrees rings ends rings′ ends′ counters counters′ job room r e c =
     record {
       job = job;

@@ -1,7 +1,7 @@
 -- PROMISE: a step is refused under the table's conditions and no others.
 use Prim.Native.Nat.{ℕ, _<_}
 use native.Mathlib.Omega.{arith}
-use Rattle.task.specs.Refusals.{stepSays}
+use Rattle.task.specs.Refusals.{outcomeSays, stepSays}
 use Rattle.task.specs.Rows.{Follows}
 use Rattle.task.specs.declared.Limits.{Limits}
 use Rattle.task.specs.declared.Step.{Step}
@@ -12,7 +12,7 @@ use Rattle.rules.specs.Sizes.{Fits}
 use Rattle.rules.specs.Steps.{ruleOf, stepPlan, step}
 use Rattle.rules.specs.Tables.{ownRows, stepRows}
 use Rattle.rules.proofs.Plans.{PlanFollows, answer-planned}
-use Rattle.rules.proofs.Headers.{steps-follow}
+use Rattle.plans.proofs.Headers.{headed-follows}
 use Rattle.rules.proofs.Complete.{start-follows, complete-follows}
 use Rattle.rules.proofs.Fetch.{fetch-follows}
 use Rattle.rules.proofs.Release.{release-follows}
@@ -26,6 +26,7 @@ rule-follows limits p k i Complete m f h = complete-follows p i m
 rule-follows limits p k i Release m f h = release-follows p k i m (omega (arith, f .limits .oneWorker)) (f .lengths .list list.counters)
 
 pub step-follows : (limits : Limits) (p k i : ℕ) (s : Step) (m : Mem) → Follows (stepRows limits p k i s m) (stepSays (step limits p k i s m .answer))
-unfolding step
+unfolding step stepPlan
 step-follows limits p k i s m =
-    rw (answer-planned (stepPlan limits p k i s m) m) (steps-follow limits p k i s m (rule-follows limits p k i s m))
+    rw (answer-planned (stepPlan limits p k i s m) m)
+    (headed-follows limits p k i s m (ruleOf s p k i m) outcomeSays (ownRows s p k i m) (rule-follows limits p k i s m))

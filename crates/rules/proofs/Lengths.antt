@@ -7,7 +7,7 @@ use Rattle.memory.specs.Shape.{lengthOf, others}
 use Rattle.rules.specs.Memory.{plain}
 
 pub lengths-stated : (p k n e : ℕ)
-    → map (lengthOf plain p k n e) (list.weights ∷ list.predStarts ∷ list.preds ∷ others)
+    → map (lengthOf plain p k n e) (list.weights ∷ list.predStarts ∷ list.preds ∷ others plain)
     -- "Weights N.", "Predecessor starts N+1 and predecessors E"
     ≡ n ∷ (n + 1) ∷ e
     -- "Successor starts N+1 and successors E", "Degrees N."

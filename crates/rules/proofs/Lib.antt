@@ -2,11 +2,9 @@ pub mod Examples
 pub mod Wrong
 pub mod Plans
 pub mod Words
-pub mod Searches
 pub mod Fetch
 pub mod Complete
 pub mod Release
-pub mod Headers
 pub mod Follows
 pub mod Begin
 pub mod Numbers
@@ -18,8 +16,6 @@ pub mod RowsMade
 pub mod TakenBack
 pub mod Moved
 pub mod Kept
-pub mod Dealt
-pub mod Joins
 pub mod Begun
 pub mod Limits
 pub mod PreviewExamples

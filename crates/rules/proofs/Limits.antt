@@ -3,8 +3,6 @@ use Prim.Native.Nat.{ℕ}
 use mathlib.Core.Path.{_≡_, refl}
 use mathlib.Core.Bool.{Bool, true, false, _&&_}
 use mathlib.Core.Logic.{_⊎_, inl, inr}
-use native.Mathlib.Omega.{arith}
-use native.Mathlib.Nat.{min-le-right}
 use lib.ListN.{drop}
 use Rattle.lists.proofs.Told.{Told, told-true, told-false, told-pass, told-fail}
 use Rattle.task.specs.Types.{engine, preview, capped}
@@ -24,22 +22,10 @@ use Rattle.rules.specs.Steps.{stepPlan, step}
 use Rattle.rules.specs.Begin.{beginAnswer, begin}
 use Rattle.rules.specs.Tables.{BeyondPK, beginRows, stepRows}
 use Rattle.rules.specs.Limits.{BeyondPreview, previewBeginRows, previewStepRows}
-use Rattle.rules.proofs.Headers.{limits-told, kept, not-beyond}
+use Rattle.plans.proofs.Headers.{limits-told, kept, not-beyond}
+pub use Rattle.plans.proofs.Headers.{within-engine}
 use Rattle.rules.proofs.Follows.{step-follows}
 use Rattle.rules.proofs.Begin.{begin-follows}
-
--- what keeps some limits keeps the engine's
-pub within-engine : {limits : Limits} {p k n e : ℕ} → KeepsLimits limits p k n e → KeepsLimits engine p k n e
-unfolding capped
-within-engine {limits} w =
-    record {
-      oneWorker = w .oneWorker;
-      fewWorkers = omega (arith, w .fewWorkers, min-le-right (limits .workers) (engine .workers));
-      twoSlots = w .twoSlots;
-      fewSlots = omega (arith, w .fewSlots, min-le-right (limits .slots) (engine .slots));
-      fewTasks = omega (arith, w .fewTasks, min-le-right (limits .tasks) (engine .tasks));
-      fewEdges = omega (arith, w .fewEdges, min-le-right (limits .edges) (engine .edges));
-    }
 
 module _ (l : Limits) (p k : ℕ) (m : Mem) where
   abbrev Kept : Type 0

@@ -1,14 +1,13 @@
 -- PROMISE: a step that finds what its sentences ask for is accepted, and then it answers and writes what they say.
 use Prim.Native.Nat.{ℕ, _+_, _*_, _<_}
-use mathlib.Core.Path.{_≡_, refl, sym, ap, _∙_}
+use mathlib.Core.Path.{_≡_, sym, ap, _∙_}
 use mathlib.Core.Bool.{true, cond}
 use mathlib.Core.List.{List, _∷_}
 use native.Mathlib.Omega.{arith}
 use lib.ListN.{length}
-use lib.Dec.{leb, eqb}
+use lib.Dec.{eqb}
 use borrow.Author.Tests.{lt-ltb, le-leb, eq-eqb, ne-eqb}
 use Rattle.lists.proofs.Told.{told-pass, told-fail}
-use Rattle.task.specs.Phases.{suits, nextPhase}
 use Rattle.task.specs.Refusals.{outcomeSays, stepSays}
 use Rattle.task.specs.Rows.{Acceptance}
 use Rattle.task.specs.declared.Limits.{Limits}
@@ -25,14 +24,13 @@ use Rattle.memory.specs.Family.{Places}
 use Rattle.memory.specs.Field as list
 use Rattle.memory.specs.Updates.{written}
 use Rattle.rules.specs.Memory.{Mem, tasks, edges, ringNumber, headWord, counterIn, degreeIn, succCount, rowIn, held, acceptedIn, successor}
-use Rattle.rules.specs.Sizes.{Fits}
 use Rattle.rules.specs.Words.{acceptedFits}
 use Rattle.rules.specs.Updates.{Update, putAccepted}
 use Rattle.rules.specs.Plans.{Plan, accept, withCount, counted, carriedOut}
 use Rattle.rules.specs.Steps.{fetchTask, fetchFrom, fetchRule, startRule, completeSink, completeInner, completeRule, advanced, releaseTo, releaseReady, releaseWaiting, releaseRule, ruleOf, stepPlan, step}
 use Rattle.rules.specs.Moves.{Fetches, Ranged, Completing, sink, inner, Advances, next, last, Releasing, ReleasesPlaced, waiting, placed, Made, Allowed}
 use Rattle.rules.proofs.Plans.{outcome-accepts}
-use Rattle.rules.proofs.Headers.{lengths-told, limits-told, fits-within}
+use Rattle.plans.proofs.Headers.{headed-reaches}
 use Rattle.rules.proofs.Words.{counter-told, counters-told, accepted-told, entries-told, recorded-told}
 use Rattle.rules.proofs.Fetch.{scan-stops}
 use Rattle.rules.proofs.Release.{room-stops}
@@ -133,34 +131,16 @@ module _ (p k i : ℕ) (m : Mem) (low : acceptedIn m < 3 * tasks m + edges m) wh
       )
   rule-accepts c Release o us (placed f) = placed-accepts c o us f
 
-suits-fits : (s : Step) → leb (suits s) 2 ≡ true
-suits-fits Fetch = refl
-suits-fits Start = refl
-suits-fits Complete = refl
-suits-fits Release = refl
-
 module _ (limits : Limits) (p k i : ℕ) (s : Step) (m : Mem) where
-  step-reaches : Fits limits p k m → i < p → rowIn m i .phase ≡ suits s → stepPlan limits p k i s m ≡ ruleOf s p k i m
-  unfolding stepPlan nextPhase
-  step-reaches f w e =
-      rw (
-        told-pass (limits-told limits p k m) (fits-within limits p k m f),
-        told-pass (lengths-told p k m) (λ n. n (f .lengths)),
-        lt-ltb _ _ w,
-        e,
-        suits-fits s,
-        eq-eqb (suits s) (suits s) refl,
-      )
-
   -- a step that is allowed is accepted, with that outcome and those updates
   pub made-accepted : (o : StepOutcome) (us : List Update) → Allowed limits p k i s m o us
       → (stepSays (step limits p k i s m .answer) ≡ outcomeSays o) × (step limits p k i s m .memory ≡ written (putAccepted (acceptedIn m + 1) ∷ us) m)
-  unfolding step carriedOut
+  unfolding step stepPlan carriedOut
   made-accepted o us r = (ap (λ (plan : Plan). stepSays (carriedOut plan m .answer)) q, ap (λ (plan : Plan). carriedOut plan m .memory) q)
     where
       q : stepPlan limits p k i s m ≡ accept o (withCount m us)
       q =
-          step-reaches (r .fits) (r .worker) (r .phase)
+          headed-reaches limits p k i s m (ruleOf s p k i m) (r .fits) (r .worker) (r .phase)
           ∙ rule-accepts p k i m (r .low) (r .fits .lengths .list list.counters) s o us (r .made)
 
   -- whatever it answers

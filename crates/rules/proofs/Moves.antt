@@ -1,14 +1,13 @@
 -- PROMISE: an accepted step has found what its sentences ask for, and it answers and writes what they say.
 use Prim.Native.Nat.{ℕ, _+_, _*_, _<_}
 use mathlib.Core.Path.{_≡_, refl, ap, subst, _∙_}
-use mathlib.Core.Bool.{Bool, true, false, cond}
+use mathlib.Core.Bool.{true, cond}
 use mathlib.Core.Logic.{_⊎_, inl, inr}
 use mathlib.Core.List.{List}
 use native.Mathlib.Omega.{arith}
 use lib.ListN.{length}
 use lib.Dec.{leb, eqb}
 use borrow.Author.Tests.{ltb-true, leb-true, eqb-true, eqb-false}
-use Rattle.lists.proofs.Apart.{unequal}
 use Rattle.lists.proofs.Told.{Told, told-true, told-false, same-told, and-true, told-yes, told-no}
 use Rattle.task.specs.Phases.{suits, nextPhase}
 use Rattle.task.specs.Refusals.{stepSays}
@@ -32,33 +31,18 @@ use Rattle.rules.specs.Memory.{Mem, tasks, edges, ringNumber, headWord, 
 use Rattle.rules.specs.Sizes.{Fits}
 use Rattle.rules.specs.Words.{phaseFits, rangeFits, placesFit, acceptedFits}
 use Rattle.rules.specs.Updates.{Update}
-use Rattle.rules.specs.Plans.{Plan, refuse, accept, require, suited, withCount, counted, carriedOut}
+use Rattle.rules.specs.Plans.{Plan, refuse, accept, suited, withCount, counted, carriedOut}
 use Rattle.rules.specs.Steps.{scan, fetchTask, fetchFrom, fetchRule, startRule, completeSink, completeInner, completeRule, advanced, findRoom, releaseTo, releaseReady, releaseWaiting, releaseRule, ruleOf, stepPlan, step}
 use Rattle.rules.specs.Tables.{BadAccepted, BadCounter, scannedEnds, offeredEnds, HasSuccessors, Ready}
 use Rattle.rules.specs.Moves.{Fetches, Ranged, Completing, Completes, sink, inner, Advances, next, last, Releasing, Releases, waiting, placed, Made, Allowed, AcceptedStep}
 use Rattle.rules.proofs.Plans.{outcome-accepts}
 use Rattle.rules.proofs.Untouched.{refused-step}
-use Rattle.rules.proofs.Headers.{fits-are}
+use Rattle.plans.proofs.Headers.{fits-are}
+use Rattle.plans.proofs.Accepted.{IfAccepted, if-refused, if-required, if-cond}
 use Rattle.rules.proofs.Words.{counter-told, counters-told, accepted-told, entries-told, recorded-told}
-use Rattle.rules.proofs.Searches.{Looked}
+use Rattle.plans.proofs.Searches.{Looked}
 use Rattle.rules.proofs.Fetch.{scan-looked}
 use Rattle.rules.proofs.Release.{room-looked}
-
--- what holds of the outcome and the updates where a plan accepts
-record IfAccepted (M : StepOutcome → List Update → Type 0) (plan : Plan) : Type 0 where
-  holds : (o : StepOutcome) (us : List Update) → plan ≡ accept o us → M o us
-
-module _ {M : StepOutcome → List Update → Type 0} where
-  if-refused : (n d : ℕ) → IfAccepted M (refuse n d)
-  if-refused n d = record { holds = λ o us e. unequal cc }
-
-  if-required : (b : Bool) (n d : ℕ) {plan : Plan} → (b ≡ true → IfAccepted M plan) → IfAccepted M (require b n d plan)
-  if-required true n d f = f refl
-  if-required false n d f = if-refused n d
-
-  if-cond : (b : Bool) {x y : Plan} → (b ≡ true → IfAccepted M x) → (b ≡ false → IfAccepted M y) → IfAccepted M (cond b x y)
-  if-cond true f g = f refl
-  if-cond false f g = g refl
 
 -- updates that add 1 to an accepted word in its range, and the others
 record Counted (m : Mem) (M : StepOutcome → List Update → Type 0) (o : StepOutcome) (us : List Update) : Type 0 where

@@ -40,10 +40,10 @@ use Rattle.rules.specs.Sizes.{numbersFit, othersFit, lengthsFit}
 use Rattle.rules.specs.Words.{countersFit}
 use Rattle.rules.specs.Plans.{counted, carriedOut}
 use Rattle.rules.specs.Steps.{scan, fetchTask, fetchFrom, fetchRule, startRule, completeSink, completeInner, completeRule, advanced, findRoom, releaseTo, releaseReady, releaseWaiting, releaseRule, ruleOf, stepPlan, step}
-use Rattle.rules.specs.Begin.{cleared, rootsPlaced, begun, rootsAnswer, beginAnswer, begin}
+use Rattle.rules.specs.Begin.{cleared, rootsLaid, begun, rootsAnswer, beginAnswer, begin}
 use Rattle.rules.specs.Desk.{turn, turns}
 use Rattle.rules.specs.Tables.{rootCount, beginRows}
-use Rattle.rules.proofs.Headers.{lengths-are, limits-told}
+use Rattle.plans.proofs.Headers.{lengths-are, limits-told}
 use Rattle.rules.proofs.Begin.{begin-follows}
 use Rattle.rules.proofs.Examples.{lent, short, fresh, Call, by, diamond, diamondLeft}
 
@@ -186,7 +186,7 @@ pub record PreviewExamples : Type 0 where
   pub diamondWhole : turns preview 2 4 32 0 (begin preview 2 4 diamond .memory) ≡ diamondLeft
 
 pub preview-examples : PreviewExamples
-unfolding ℕ-discrete decLe decLt firstBelow occOf joined tabulate allOf sumTo after around capped nextPhase part sizesFit firstBad firstTwice firstOnCycle tablesAnswer checkAnswer below? among? light? good? bad? endsFit? twice? twiceIn? find-twice edge? thru? path? leads? onCycle? succsBelow succStart succStarts succWords degreeList roots capacity slotAt endsAt storeEnds sound empty full headOn tailOn sumToZ load leastFrom least search allSteps allEntries numbersFit allFit othersFit lengthsFit countersFit storeWords updated written counted carriedOut scan fetchTask fetchFrom fetchRule startRule completeSink completeInner completeRule advanced findRoom releaseTo releaseReady releaseWaiting releaseRule ruleOf stepPlan step cleared rootsPlaced begun rootsAnswer beginAnswer begin turn turns answersAt
+unfolding ℕ-discrete decLe decLt firstBelow occOf joined tabulate allOf sumTo after around capped nextPhase part sizesFit firstBad firstTwice firstOnCycle tablesAnswer checkAnswer below? among? light? good? bad? endsFit? twice? twiceIn? find-twice edge? thru? path? leads? onCycle? succsBelow succStart succStarts succWords degreeList roots capacity slotAt endsAt storeEnds sound empty full headOn tailOn sumToZ load leastFrom least search allSteps allEntries numbersFit allFit othersFit lengthsFit countersFit storeWords updated written counted carriedOut scan fetchTask fetchFrom fetchRule startRule completeSink completeInner completeRule advanced findRoom releaseTo releaseReady releaseWaiting releaseRule ruleOf stepPlan step cleared rootsLaid begun rootsAnswer beginAnswer begin turn turns answersAt
 preview-examples =
     record {
       rootsHeld = (

@@ -10,7 +10,7 @@ use Rattle.lists.proofs.Told.{Told, told-true, told-false, same-told, le-told, 
 use Rattle.lists.specs.Lists.{allOf}
 use Rattle.lists.specs.Circles.{around}
 use Rattle.lists.proofs.Circles.{mod-reached}
-use Rattle.task.specs.Refusals.{damaged, nothingThere, ringsFull}
+use Rattle.task.specs.Refusals.{damaged, nothingThere, ringsFull, outcomeSays}
 use Rattle.task.specs.Rows.{Refusal}
 use Rattle.task.specs.declared.Ends.{Ends}
 use Rattle.ring.specs.Ring.{Sound, Full, full}
@@ -23,7 +23,7 @@ use Rattle.rules.specs.Plans.{Plan}
 use Rattle.rules.specs.Steps.{findRoom, releaseTo, releaseReady, releaseWaiting, releaseRule}
 use Rattle.rules.specs.Tables.{GoesOn, BadEnds, StopsAt, offeredEnds, Ready, releaseRows}
 use Rattle.rules.proofs.Plans.{PlanFollows, given-row, passed-row, refuse-row, checked-row, counted-row}
-use Rattle.rules.proofs.Searches.{Looked, all-not-bad, stop-not-bad, search-looked, search-stops}
+use Rattle.plans.proofs.Searches.{Looked, all-not-bad, stop-not-bad, search-looked, search-stops}
 use Rattle.rules.proofs.Words.{counters-told}
 
 -- what the search for room finds from owner j on, and that it stops where it would
@@ -44,10 +44,10 @@ module _ (p k i : ℕ) (m : Mem) where
   -- the degree would not be 0
   not-ready : ¬ (Ready m i) → (plan : Plan) → PlanFollows (rowsFrom 11) plan → PlanFollows (rowsFrom 7) plan
   not-ready n plan f =
-      passed-row damaged 0 _ plan (λ c. n (c .0))
-      (passed-row damaged 0 _ plan (λ c. n (c .0))
-      (passed-row ringsFull (successor m i) _ plan (λ c. n (c .0))
-      (passed-row damaged 0 _ plan (λ c. n (c .0)) f)))
+      passed-row outcomeSays damaged 0 _ plan (λ c. n (c .0))
+      (passed-row outcomeSays damaged 0 _ plan (λ c. n (c .0))
+      (passed-row outcomeSays ringsFull (successor m i) _ plan (λ c. n (c .0))
+      (passed-row outcomeSays damaged 0 _ plan (λ c. n (c .0)) f)))
 
   waiting-follows : ¬ (Ready m i) → PlanFollows (rowsFrom 7) (releaseWaiting i m)
   unfolding releaseWaiting
@@ -79,16 +79,16 @@ module _ (p k i : ℕ) (m : Mem) where
     unfolding releaseTo
     to-follows unsound bad = given-row damaged 0 _ (ready, (j, least-j, bad))
     to-follows none all =
-        passed-row damaged 0 _ (releaseTo p k i m none) (not-damaged (all-not-bad p k (Full k) offers all))
+        passed-row outcomeSays damaged 0 _ (releaseTo p k i m none) (not-damaged (all-not-bad p k (Full k) offers all))
         (given-row ringsFull (successor m i) _ (ready, all-full all))
     to-follows (at o) (e, stop, q) =
-        passed-row damaged 0 _ (releaseTo p k i m (at o)) (not-damaged (stop-not-bad p k (Full k) offers stop))
-        (passed-row ringsFull (successor m i) _ (releaseTo p k i m (at o)) (λ c. stop .stops (c .1 ((j + e) % p) (mod-lt (j + e) some) .1))
-        (checked-row _ _ _ (under-told _ ready (le-told (weightIn m (successor m i)) 65535)) (λ _. counted-row m _ _)))
+        passed-row outcomeSays damaged 0 _ (releaseTo p k i m (at o)) (not-damaged (stop-not-bad p k (Full k) offers stop))
+        (passed-row outcomeSays ringsFull (successor m i) _ (releaseTo p k i m (at o)) (λ c. stop .stops (c .1 ((j + e) % p) (mod-lt (j + e) some) .1))
+        (checked-row outcomeSays _ _ _ (under-told _ ready (le-told (weightIn m (successor m i)) 65535)) (λ _. counted-row m _ _)))
 
     ready-follows : length (m .counters) ≡ p * p → PlanFollows (rowsFrom 7) (releaseReady p k i m)
     unfolding releaseReady
-    ready-follows e = checked-row _ _ _ (under-told _ ready (counters-told (m .counters) (p * p) e)) (λ _. to-follows (findRoom p k i m (around p j)) (room-looked p k i j m))
+    ready-follows e = checked-row outcomeSays _ _ _ (under-told _ ready (counters-told (m .counters) (p * p) e)) (λ _. to-follows (findRoom p k i m (around p j)) (room-looked p k i j m))
 
   -- the degree falls by one
   degree-follows : 0 < p → length (m .counters) ≡ p * p → PlanFollows (rowsFrom 7)
@@ -103,11 +103,11 @@ module _ (p k i : ℕ) (m : Mem) where
 pub release-follows : (p k i : ℕ) (m : Mem) → 0 < p → length (m .counters) ≡ p * p → PlanFollows (releaseRows p k i m) (releaseRule p k i m)
 unfolding releaseRule
 release-follows p k i m some e =
-    checked-row _ _ _ (and-told _ _ (le-told (rowIn m i .read) (rowIn m i .write)) (le-told (rowIn m i .write) (tasks m))) (λ _.
-    refuse-row _ nothingThere 0 _ _ (same-told (rowIn m i .read) (rowIn m i .write))
-    (checked-row _ _ _ (lt-told (oldest m i) (tasks m)) (λ _.
-    checked-row _ _ _ (and-told _ _ (le-told (firstSucc m (oldest m i)) (pastSucc m (oldest m i))) (le-told (pastSucc m (oldest m i)) (edges m))) (λ _.
-    checked-row _ _ _ (lt-told (rowIn m i .cursor) (succCount m (oldest m i))) (λ _.
-    checked-row _ _ _ (lt-told (successor m i) (tasks m)) (λ _.
-    checked-row _ _ _ (and-told _ _ (le-told 1 (degreeIn m (successor m i))) (le-told (degreeIn m (successor m i)) (tasks m))) (λ _.
+    checked-row outcomeSays _ _ _ (and-told _ _ (le-told (rowIn m i .read) (rowIn m i .write)) (le-told (rowIn m i .write) (tasks m))) (λ _.
+    refuse-row outcomeSays _ nothingThere 0 _ _ (same-told (rowIn m i .read) (rowIn m i .write))
+    (checked-row outcomeSays _ _ _ (lt-told (oldest m i) (tasks m)) (λ _.
+    checked-row outcomeSays _ _ _ (and-told _ _ (le-told (firstSucc m (oldest m i)) (pastSucc m (oldest m i))) (le-told (pastSucc m (oldest m i)) (edges m))) (λ _.
+    checked-row outcomeSays _ _ _ (lt-told (rowIn m i .cursor) (succCount m (oldest m i))) (λ _.
+    checked-row outcomeSays _ _ _ (lt-told (successor m i) (tasks m)) (λ _.
+    checked-row outcomeSays _ _ _ (and-told _ _ (le-told 1 (degreeIn m (successor m i))) (le-told (degreeIn m (successor m i)) (tasks m))) (λ _.
     degree-follows p k i m some e)))))))

@@ -1,17 +1,15 @@
 -- PROMISE: a refused call leaves all lent memory as it was.
 use Prim.Native.Nat.{ℕ}
 use mathlib.Core.Path.{_≡_, refl, subst}
-use Rattle.lists.proofs.Apart.{unequal}
 use Rattle.task.specs.Refusals.{refused, answerSays, stepSays}
 use Rattle.task.specs.Rows.{Acceptance}
 use Rattle.task.specs.declared.Limits.{Limits}
-use Rattle.task.specs.declared.Answer.{Answer}
-use Rattle.task.specs.declared.Answer.the-variants as answer
 use Rattle.task.specs.declared.Step.{Step}
+use Rattle.plans.proofs.Begin.{result-refused}
 use Rattle.rules.specs.Memory.{Mem}
 use Rattle.rules.specs.Plans.{Plan, refuse, accept, carriedOut}
 use Rattle.rules.specs.Steps.{stepPlan, step}
-use Rattle.rules.specs.Begin.{beginResult, beginAnswer, begin}
+use Rattle.rules.specs.Begin.{beginAnswer, begun, begin}
 use Rattle.rules.proofs.Plans.{outcome-accepts}
 
 refused-plan : (plan : Plan) (m : Mem) (n d : ℕ) → stepSays (carriedOut plan m .answer) ≡ refused n d → carriedOut plan m .memory ≡ m
@@ -26,8 +24,4 @@ refused-step limits p k i s m n d e = refused-plan (stepPlan limits p k i s m) m
 
 pub refused-begin : (limits : Limits) (p k : ℕ) (m : Mem) (n d : ℕ) → answerSays (begin limits p k m .answer) ≡ refused n d → begin limits p k m .memory ≡ m
 unfolding begin
-refused-begin limits p k m n d e = go (beginAnswer limits p k m) e
-  where
-    go : (a : Answer) → answerSays (beginResult a p k m .answer) ≡ refused n d → beginResult a p k m .memory ≡ m
-    go (answer.Refused x y) q = refl
-    go answer.Accepted q = unequal cc
+refused-begin limits p k m n d e = result-refused (begun p k m) m (beginAnswer limits p k m) n d e

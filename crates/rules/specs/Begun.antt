@@ -1,8 +1,8 @@
 -- What each lent list holds after an accepted begin, "whatever its lists held outside weights and predecessor tables".
-use Prim.Native.Nat.{ℕ, _+_, _%_, _<_}
+use Prim.Native.Nat.{ℕ, _%_, _<_}
 use mathlib.Core.Path.{_≡_}
 use mathlib.Core.Bool.{cond}
-use mathlib.Core.List.{List, [], _∷_}
+use mathlib.Core.List.{List, []}
 use lib.ListN.{length, getD, replicate}
 use lib.Dec.{eqb}
 use lib.IntN.{pos}
@@ -10,18 +10,9 @@ use Rattle.lists.specs.Sums.{sumOf}
 use Rattle.task.specs.Types.{idle}
 use Rattle.graph.specs.Successors.{succStarts, succWords, degreeList, roots}
 use Rattle.ring.specs.Ring.{slotAt, queue}
+unfoldable pub use Rattle.plans.specs.Laying.{dealt, toRing}
 use Rattle.rules.specs.Memory.{Mem, graphIn, ringNumber, ringsIn, endsIn, counterIn, weightIn}
 use Rattle.rules.specs.Sizes.{Lengths}
-
--- the members of a list whose number, counted from n, is ≡ i modulo p
-unfoldable pub dealt : ℕ → ℕ → ℕ → List ℕ → List ℕ
-dealt p i n [] = []
-dealt p i n (t ∷ ts) = cond (eqb (n % p) i) (t ∷ dealt p i (n + 1) ts) (dealt p i (n + 1) ts)
-
--- the members of a list, counted from n, that go to ring q: number n goes to the ring of owner and filler n modulo p
-unfoldable pub toRing : ℕ → ℕ → ℕ → List ℕ → List ℕ
-toRing p q n [] = []
-toRing p q n (t ∷ ts) = cond (eqb (ringNumber p (n % p) (n % p)) q) (t ∷ toRing p q (n + 1) ts) (toRing p q (n + 1) ts)
 
 -- the roots that go to worker i, rising: "root number m, from 0, goes to the ring of owner and filler m mod P"
 abbrev pub rootsOf : ℕ → ℕ → Mem → List ℕ

@@ -19,7 +19,8 @@ use Rattle.ring.specs.Ring.{slotAt, Empty, Full}
 use Rattle.choice.specs.Least.{load, Least}
 use Rattle.memory.specs.Family.{Places}
 use Rattle.memory.specs.Updates.{written}
-use Rattle.rules.specs.Memory.{Mem, tasks, edges, ringNumber, endsIn, headWord, counterIn, weightIn, degreeIn, firstSucc, pastSucc, succCount, bufferAt, rowIn, held, pointerIn, entriesIn, acceptedIn, oldest, successor}
+pub use Rattle.plans.specs.Moves.{Ranged}
+use Rattle.rules.specs.Memory.{Mem, tasks, edges, ringNumber, endsIn, headWord, counterIn, weightIn, degreeIn, succCount, bufferAt, rowIn, held, pointerIn, entriesIn, acceptedIn, oldest, successor}
 use Rattle.rules.specs.Sizes.{Fits}
 use Rattle.rules.specs.Updates.{Update, putDegree, putSlot, putEnds, putCounter, putBuffer, putEntry, putEntries, putAccepted, putHand, putPointer, putPlaces}
 use Rattle.rules.specs.Steps.{step}
@@ -52,12 +53,6 @@ pub record Fetches (p k i : ℕ) (m : Mem) (o : StepOutcome) (us : List Update) 
 pub record Starts (i : ℕ) (m : Mem) (o : StepOutcome) (us : List Update) : Type 0 where
   pub outcome : o ≡ Moved
   pub updates : us ≡ putHand i 2 (held m i) ∷ []
-
--- a task whose successor range is as it should be
-pub record Ranged (m : Mem) (t : ℕ) : Type 0 where
-  pub below : t < tasks m
-  pub rises : firstSucc m t ≤ pastSucc m t
-  pub inside : pastSucc m t ≤ edges m
 
 -- what every Complete finds: an entry is free for the held task, whose weight can leave counter (i, i)
 pub record Completing (p i : ℕ) (m : Mem) : Type 0 where

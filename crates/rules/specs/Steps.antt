@@ -1,15 +1,15 @@
 -- The four steps, each as its sentences go: P workers, K slots, worker i. A definition stands above what uses it, so a step is read from
 -- its rule (`fetchRule`, `startRule`, `completeRule`, `releaseRule`) upward.
 use Prim.Native.Nat.{ℕ, _+_, _-_}
-use mathlib.Core.Bool.{cond, not, _&&_}
+use mathlib.Core.Bool.{cond, not}
 use mathlib.Core.List.{List, [], _∷_}
-use lib.Dec.{ltb, eqb}
-use lib.IntN.{pos, _+ℤ_, _-ℤ_}
+use lib.Dec.{eqb}
+use lib.IntN.{pos, _-ℤ_}
 use Rattle.lists.specs.Lists.{allOf}
 use Rattle.lists.specs.Circles.{after, around}
 use Rattle.task.specs.Types.{nil}
-use Rattle.task.specs.Phases.{leadsTo, nextPhase}
-use Rattle.task.specs.Refusals.{beyondLimit, wrongLength, noSuchWorker, damaged, nothingThere, ringsFull, recordFull}
+use Rattle.task.specs.Phases.{leadsTo}
+use Rattle.task.specs.Refusals.{damaged, nothingThere, ringsFull, recordFull}
 use Rattle.task.specs.declared.Limits.{Limits}
 use Rattle.task.specs.declared.Row.{Row}
 use Rattle.task.specs.declared.Step.{Step}
@@ -17,16 +17,16 @@ use Rattle.task.specs.declared.Step.the-variants.{Fetch, Start, Complete, Relea
 use Rattle.task.specs.declared.StepAnswer.{StepAnswer}
 use Rattle.task.specs.declared.StepOutcome.the-variants.{Moved, Fetched, Released}
 use Rattle.task.specs.declared.ReleaseOutcome.the-variants.{DegreeLeft, Placed}
-use Rattle.graph.specs.Check.{sizesFit}
-use Rattle.ring.specs.Ring.{slotAt, empty, full, headOn, tailOn}
+use Rattle.ring.specs.Ring.{empty, full, headOn}
 use Rattle.choice.specs.Least.{load, least}
 use Rattle.choice.specs.Search.{Found, unsound, none, at, search}
 use Rattle.memory.specs.Family.{Places}
-use Rattle.rules.specs.Memory.{Mem, tasks, edges, allEntries, ringNumber, endsIn, headWord, counterIn, weightIn, degreeIn, succCount, bufferAt, rowIn, held, pointerIn, entriesIn, oldest, successor}
-use Rattle.rules.specs.Sizes.{numbersFit, lengthsFit}
-use Rattle.rules.specs.Words.{endsFit, taskFits, phaseFits, pointerFits, counterFits, countersFit, degreeFits, placesFit, joinFits, cursorFits, rangeFits, weightFits, entriesFit}
-use Rattle.rules.specs.Updates.{Update, putDegree, putSlot, putEnds, putCounter, putBuffer, putEntry, putEntries, putHand, putPointer, putPlaces}
-use Rattle.rules.specs.Plans.{Plan, refuse, require, refuseIf, checked, suited, counted, Result, carriedOut}
+use Rattle.plans.specs.Headed.{headed}
+use Rattle.plans.specs.Laying.{joinRing}
+use Rattle.rules.specs.Memory.{Mem, allEntries, ringNumber, endsIn, headWord, counterIn, weightIn, degreeIn, succCount, bufferAt, rowIn, held, pointerIn, entriesIn, oldest, successor}
+use Rattle.rules.specs.Words.{endsFit, taskFits, pointerFits, counterFits, countersFit, degreeFits, placesFit, joinFits, cursorFits, rangeFits, weightFits, entriesFit}
+use Rattle.rules.specs.Updates.{Update, putDegree, putEnds, putCounter, putBuffer, putEntry, putEntries, putHand, putPointer, putPlaces}
+use Rattle.rules.specs.Plans.{Plan, refuse, refuseIf, checked, counted, Result, carriedOut}
 
 -- "Fetch by i: scan the rings of owner i from the ring pointer upward, modulo P; the scan stops at the first ring that isn't empty."
 unfoldable pub scan : ℕ → ℕ → ℕ → Mem → Found
@@ -103,11 +103,7 @@ advance i m = putPlaces i (advanced (succCount m (oldest m i)) (rowIn m i))
 
 -- a task joins the ring of owner o filled by worker i, and "The weight joins the counter of the ring really used."
 abbrev pub join : ℕ → ℕ → ℕ → ℕ → ℕ → Mem → List Update
-join p k o i s m =
-    putSlot (slotAt k (ringNumber p o i) (endsIn m (ringNumber p o i) .tail)) s
-    ∷ putEnds (ringNumber p o i) (tailOn k (endsIn m (ringNumber p o i)))
-    ∷ putCounter (ringNumber p o i) (counterIn m (ringNumber p o i) +ℤ pos (weightIn m s))
-    ∷ []
+join p k o i s m = joinRing p k o i s s m
 
 -- "the first ring filled by i that isn't full", among those of the owners, in their order
 unfoldable pub findRoom : ℕ → ℕ → ℕ → Mem → List ℕ → Found
@@ -153,13 +149,7 @@ ruleOf Release p k i m = releaseRule p k i m
 
 -- "In a step: 2, 1, 7, phase word (8), 9; then the step's rule is followed from its first sentence"
 unfoldable pub stepPlan : Limits → ℕ → ℕ → ℕ → Step → Mem → Plan
-stepPlan limits p k i step m =
-    require (numbersFit limits p k && sizesFit limits (tasks m) (edges m)) beyondLimit 0
-    (require (lengthsFit p k m) wrongLength 0
-    (require (ltb i p) noSuchWorker i
-    (checked (phaseFits (rowIn m i .phase))
-    (suited (nextPhase (rowIn m i .phase) step) (rowIn m i .phase)
-    (ruleOf step p k i m)))))
+stepPlan limits p k i step m = headed limits p k i step m (ruleOf step p k i m)
 
 unfoldable pub step : Limits → ℕ → ℕ → ℕ → Step → Mem → Result StepAnswer
 step limits p k i s m = carriedOut (stepPlan limits p k i s m) m

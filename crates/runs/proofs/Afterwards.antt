@@ -19,7 +19,7 @@ use Rattle.rules.specs.Memory.{Mem, graphIn, ringNumber, endsIn, ringsIn, degre
 use Rattle.rules.specs.Sizes.{Fits}
 use Rattle.rules.specs.Steps.{step}
 use Rattle.rules.specs.Tables.{GoesOn, scannedEnds, ownRows}
-use Rattle.rules.proofs.Headers.{fits-within}
+use Rattle.plans.proofs.Headers.{fits-within}
 use Rattle.rules.proofs.Follows.{step-follows}
 use Rattle.algorithm1.specs.State.{State}
 use Rattle.algorithm1.specs.Reading.{queueIn, stateOf}

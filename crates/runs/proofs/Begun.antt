@@ -21,13 +21,13 @@ use Rattle.graph.specs.Conditions.{Sound}
 use Rattle.graph.specs.Successors.{succsOf, succStarts, degreeList, roots}
 use Rattle.graph.proofs.Accepted.{fits-sound}
 use Rattle.graph.proofs.Reversed.{reversed-all, succs-none, degree-read, occ-roots, succ-part, length-degrees}
+use Rattle.plans.proofs.Dealt.{occ-dealt}
 use Rattle.rules.specs.Memory.{Mem, tasks, graphIn}
 use Rattle.rules.specs.Words.{placesFit}
 use Rattle.rules.specs.Begin.{begin}
 use Rattle.rules.specs.Begun.{rootsOf, LaidDown}
 use Rattle.rules.proofs.Begin.{begin-accepted}
 use Rattle.rules.proofs.Begun.{laid-row, laid-run, laid-down}
-use Rattle.rules.proofs.Dealt.{occ-dealt}
 use Rattle.algorithm1.specs.State.{threadWith, successorsOf, queueOf, fresh, threadOf, waitingFor}
 use Rattle.algorithm1.specs.Reading.{bufferIn, threadIn, recordIn, successorsIn, stateOf}
 use Rattle.algorithm1.proofs.Readings.{successors-at, queue-at, thread-at}

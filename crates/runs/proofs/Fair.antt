@@ -15,20 +15,23 @@ use Rattle.task.specs.Refusals.{Said, taskFetched, outcomeSays}
 use Rattle.task.specs.declared.Limits.{Limits}
 use Rattle.task.specs.declared.Step.{Step}
 use Rattle.task.specs.declared.Step.the-variants.{Fetch, Start, Complete, Release}
+use Rattle.machine.specs.Jobs as jobs
 use Rattle.machine.specs.Machine as machine
 use Rattle.rules.specs.Memory.{Mem}
 use Rattle.rules.specs.Sizes.{Lengths}
 use Rattle.rules.specs.Steps.{step}
 use Rattle.rules.specs.Moves.{AcceptedStep}
+use Rattle.rules.proofs.Moves.{accepted-step}
 use Rattle.algorithm1.specs.State.{queueOf}
 use Rattle.algorithm1.specs.Algorithm.{Fetches}
 use Rattle.algorithm1.specs.Reading.{queueIn, stateOf}
 use Rattle.algorithm1.proofs.Readings.{queue-at}
 use Rattle.algorithm1.proofs.Accepted.{step-does}
-use Rattle.algorithm1.proofs.RoundRobin.{Takes, Own, Nearer, stands-near, spares-none, spared-near, taken-near}
-use Rattle.runs.specs.Calls.{Call, stepCall, isFetch, fetchBy, says, leaves, eventOf, acceptedSaid, began, memoryOf}
+use Rattle.split_lists.proofs.RoundRobin.{Takes, Own, Nearer, stands-near, spares-none, spared-near, taken-near}
+use Rattle.runs.specs.Calls.{Call, stepCall, isFetch, fetchBy, plainCalls, says, leaves, eventOf, acceptedSaid, began, memoryOf}
 use Rattle.runs.specs.Fairness.{oneMore, fetches, TakenWithin, FairFetching}
-use Rattle.runs.proofs.Calls.{Still, refuses, looks, still-began, step-began, begin-began, Did, stays, steps, starts, did, lengths-kept}
+use Rattle.machine.proofs.Jobs.{Still, refuses, looks, still-began, step-began, begin-began, Did, stays, steps, starts, did, fit-kept}
+use Rattle.runs.proofs.Calls.{plain-laws}
 use Rattle.runs.proofs.Honest.{honest-run}
 use Rattle.runs.proofs.Invariant.{state-shaped}
 use Rattle.runs.proofs.Spares.{pointerOf, OwnerSpared, spared-fetch, spared, taking, pointer-on}
@@ -111,7 +114,7 @@ module _ (p k : ℕ) where
       takes = taking owns (state-shaped p k m) fetch
 
       answer : says this m ≡ taskFetched (fetch .task)
-      unfolding says
+      unfolding jobs.says
       answer = a .answered ∙ ap outcomeSays (fetch .outcome)
 
       fetch-owned : owned owner this m ≡ true
@@ -121,7 +124,7 @@ module _ (p k : ℕ) where
       fetches-it : (added : List ℕ) (n : ℕ) → 0 < n
           → Own (queueOf (stateOf p k m) owner) (queueOf (stateOf p k next) owner) filler (fetch .task) t (behind ++ added)
           → TakenWithin p k owner filler t behind n (this ∷ cs) m
-      unfolding machine.memoryAfter machine.begins fetches leaves
+      unfolding machine.memoryAfter machine.begins fetches jobs.leaves
       fetches-it added n h own =
           record {
             earlier = [];
@@ -138,11 +141,11 @@ module _ (p k : ℕ) where
 
       -- it takes t, or brings it nearer
       enough-own : Enough cs (leaves this m) → Enough (this ∷ cs) m
-      unfolding leaves
+      unfolding jobs.leaves
       enough-own rest added n near enough = go (taken-near p _ _ _ filler (fetch .list) (fetch .task) t (behind ++ added) takes n near)
         where
           same : began (eventOf this m) ≡ false
-          same = step-began limits p k m owner Fetch
+          same = step-began plainCalls limits p k m owner Fetch
 
           go : Own (queueOf (stateOf p k m) owner) (queueOf (stateOf p k next) owner) filler (fetch .task) t (behind ++ added)
               ⊎ Nearer p (queueOf (stateOf p k next) owner) ((fetch .list + 1) % p) filler t (behind ++ added) (n - 1)
@@ -156,13 +159,13 @@ module _ (p k : ℕ) where
     -- any step
     enough-step : (limits : Limits) (i : ℕ) (s : Step) (cs : List Call) (m : Mem) → AcceptedStep limits p k i s m
         → Enough cs (leaves (stepCall limits p k i s) m) → Enough (stepCall limits p k i s ∷ cs) m
-    unfolding leaves
+    unfolding jobs.leaves
     enough-step limits i s cs m a = go s a (ℕ-discrete owner i)
       where
         spares : (s : Step) → cond (isFetch s) (eqb i owner) false ≡ false
             → OwnerSpared (nil .0) owner (stateOf p k m) (stateOf p k (step limits p k i s m .memory))
             → Enough cs (leaves (stepCall limits p k i s) m) → Enough (stepCall limits p k i s ∷ cs) m
-        spares s e h = enough-spared (stepCall limits p k i s) cs m (step-began limits p k m i s) (rw e refl) h
+        spares s e h = enough-spared (stepCall limits p k i s) cs m (step-began plainCalls limits p k m i s) (rw e refl) h
 
         no-fetch : (s : Step) → isFetch s ≡ false → AcceptedStep limits p k i s m
             → Enough cs (leaves (stepCall limits p k i s) m) → Enough (stepCall limits p k i s ∷ cs) m
@@ -178,18 +181,18 @@ module _ (p k : ℕ) where
         go Complete a _ = no-fetch Complete refl a
         go Release a _ = no-fetch Release refl a
 
-    enough-call : (c : Call) (cs : List Call) (m : Mem) → Did p k m c → Enough cs (leaves c m) → Enough (c ∷ cs) m
+    enough-call : (c : Call) (cs : List Call) (m : Mem) → Did plainCalls p k m c → Enough cs (leaves c m) → Enough (c ∷ cs) m
     enough-call c cs m (stays _ h e) =
-        enough-spared c cs m (still-began c (says c m) h) (still-own owner c (says c m) h)
+        enough-spared c cs m (still-began plainCalls c (says c m) h) (still-own owner c (says c m) h)
         (rw e (spares-none (queueOf (stateOf p k m) owner) (pointerOf (stateOf p k m) owner)))
-    enough-call _ cs m (steps limits i s a) = enough-step limits i s cs m a
+    enough-call _ cs m (steps limits i s a) = enough-step limits i s cs m (accepted-step limits p k i s m a)
     enough-call _ cs m (starts limits e) = λ _ added n near enough.
-        absurd (omega (arith, near .fewer, enough, fetches-none owner _ cs m (begin-began limits p k m e)))
+        absurd (omega (arith, near .fewer, enough, fetches-none owner _ cs m (begin-began plainCalls limits p k m e)))
 
     enough : (cs : List Call) (m : Mem) → Lengths p k m → Enough cs m
     unfolding fetches
     enough [] m l = λ added n near some. absurd (omega (arith, near .fewer, some))
-    enough (c ∷ cs) m l = enough-call c cs m (did p k m l c) (enough cs (leaves c m) (lengths-kept p k m l c))
+    enough (c ∷ cs) m l = enough-call c cs m (did plain-laws p k m l c) (enough cs (leaves c m) (fit-kept plain-laws p k m l c))
 
     -- t's list is less than p on from the pointer, so fewer than (length ahead + 1) * p takes can come before t's own
     taken-soon : (m : Mem) → Lengths p k m → (ahead : List ℕ) → queueIn p k m owner filler ≡ ahead ++ (t ∷ behind)

@@ -8,6 +8,7 @@ use native.Mathlib.Decide.{decLe}
 use Rattle.task.specs.Rows.{Acceptance}
 use Rattle.task.specs.declared.Limits.{Limits}
 use Rattle.task.specs.declared.Step.{Step}
+use Rattle.machine.specs.Jobs as jobs
 use Rattle.machine.specs.Machine as machine
 use Rattle.machine.proofs.Lists.{memory-on}
 use Rattle.rules.specs.Memory.{tasks, edges, acceptedIn}
@@ -43,7 +44,7 @@ module _ (r : Run) where
 
     -- the run with one more accepted step counts one more
     one-more : acceptedSteps (eventsOf (longer r (c ∷ []))) ≡ suc (acceptedSteps (eventsOf r))
-    unfolding machine.memoryAfter leaves
+    unfolding machine.memoryAfter jobs.leaves
     one-more =
         sym (accepted-word (longer r (c ∷ [])))
         ∙ ap acceptedIn (memory-on plain (r .calls) (c ∷ []) (begunMemory (r .limits) (r .workers) (r .slots) (r .lent)))

@@ -6,6 +6,7 @@ use lib.ListN.{take, drop, take-append-drop}
 use Rattle.task.specs.Refusals.{accepted}
 use Rattle.task.specs.declared.Limits.{Limits}
 use Rattle.task.specs.declared.Step.the-variants.{Fetch}
+use Rattle.machine.specs.Jobs as jobs
 use Rattle.machine.proofs.Seen.{chained-first, chained-later, last-after, events-after, begins-after, Parted, parted}
 use Rattle.rules.specs.Memory.{Mem}
 use Rattle.runs.specs.Calls.{Call, stepCall, beginCall, leaves, plain, memoryAfter, eventsAfter, begunMemory}
@@ -15,7 +16,7 @@ use Rattle.runs.specs.HostedFair.{fetchesSeen, SeenTaken, HostedFair}
 use Rattle.runs.proofs.Fair.{fair-fetching}
 
 begun-is : (limits : Limits) (p k : ℕ) (m b : Mem) → Link m (seenAs (beginCall limits p k) accepted b) → begunMemory limits p k m ≡ b
-unfolding leaves
+unfolding jobs.leaves
 begun-is limits p k m b l = sym (l .written)
 
 -- the owner's accepted Fetches among the calls made are those seen

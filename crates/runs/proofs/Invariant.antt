@@ -15,10 +15,14 @@ use Rattle.task.specs.Entries.{Entry}
 use Rattle.graph.specs.Graph.{Graph, predsOf}
 use Rattle.graph.specs.Successors.{succsOf}
 use Rattle.ring.specs.Ring.{Sound}
-use Rattle.rules.specs.Memory.{Mem, tasks, ringNumber, endsIn, counterIn, rowIn, entriesIn}
+use Rattle.memory.specs.Family.{Family}
+use Rattle.memory.specs.Memory as memory
+use Rattle.plans.specs.Memory.{ringNumber, counterIn}
+use Rattle.rules.specs.Memory.{Mem, tasks, endsIn, rowIn, entriesIn}
+use Rattle.split_lists.specs.Reading.{queueIn, threadIn, stateFrom}
 use Rattle.algorithm1.specs.Items as items
 use Rattle.algorithm1.specs.State.{State, degreeOf, successorsOf, waitingFor, threadOf}
-use Rattle.algorithm1.specs.Reading.{queueIn, threadIn, stateOf}
+use Rattle.algorithm1.specs.Reading.{recordIn, stateOf}
 use Rattle.system.specs.Stages.{Stages}
 use Rattle.system.specs.System as system
 use Rattle.runs.specs.Items.{handOf}
@@ -63,14 +67,17 @@ pub record Shaped {A : Type 0} (p : ℕ) (s : items.State A) : Type 0 where
   pub threads : length (s .threads) ≡ p
 
 -- the state of any memory is shaped
-pub state-shaped : (p k : ℕ) (m : Mem) → Shaped p (stateOf p k m)
-unfolding stateOf
-state-shaped p k m =
+pub from-shaped : {F : Family} (p k : ℕ) (m : memory.Mem F) (entries : List (Entry (F .Item))) → Shaped p (stateFrom p k m entries)
+from-shaped p k m entries =
     record {
       queues = square-even p (queueIn p k m);
       counters = square-even p (λ i j. counterIn m (ringNumber p i j));
       threads = length-tabulate p (threadIn m);
     }
+
+pub state-shaped : (p k : ℕ) (m : Mem) → Shaped p (stateOf p k m)
+unfolding stateOf
+state-shaped p k m = from-shaped p k m (recordIn m)
 
 -- a buffer in a run: each task there has successors, and the cursor is at one of the oldest task's
 pub record Buffered {A : Type 0} (s : items.State A) (r : items.Thread A) : Type 0 where

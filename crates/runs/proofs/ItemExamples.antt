@@ -9,7 +9,7 @@ use Rattle.lists.specs.Lists.{joined}
 use Rattle.lists.specs.Squares.{cell, withCell}
 use Rattle.lists.specs.Sums.{sumTo, sumToZ, sumOf}
 use Rattle.algorithm1.specs.Items.{State, weightOf, waitingFor, workload}
-use Rattle.algorithm1.proofs.ItemExamples.{Pair, noPair, pairs, fetchedPair, completedPair}
+use Rattle.split_lists.proofs.ItemExamples.{Pair, noPair, pairs, fetchedPair, completedPair}
 use Rattle.runs.specs.Items.{handOf, waiting, held, charged, tasksAt, tasksAtAll, AddsUp}
 use Rattle.runs.proofs.Invariant.{tasksOf}
 use Rattle.runs.proofs.ItemCounters.{left}

@@ -29,7 +29,7 @@ use Rattle.rules.specs.Updates.{Update}
 use Rattle.rules.specs.Steps.{scan, step}
 use Rattle.rules.specs.Tables.{Beyond2^30, GoesOn, BadEnds, StopsAt, scanned, scannedEnds, NextTask}
 use Rattle.rules.specs.Moves.{Ranged, Completing, sink, inner, Completes}
-use Rattle.rules.proofs.Searches.{Looked}
+use Rattle.plans.proofs.Searches.{Looked}
 use Rattle.rules.proofs.Fetch.{scan-looked}
 use Rattle.rules.proofs.Makes.{allowed-accepted, good-ranged}
 use Rattle.algorithm1.specs.State.{Thread, State, queueOf, threadOf, waitingFor}

@@ -21,7 +21,7 @@ use Rattle.task.specs.declared.StepOutcome.{StepOutcome}
 use Rattle.algorithm1.specs.Items as items
 use Rattle.algorithm1.specs.Items.{fresh}
 use Rattle.algorithm1.specs.State.{Thread, threadWith, State, successorsOf, threadOf}
-use Rattle.algorithm1.specs.Algorithm.{holding, executing, buffered, completed, Passes, Fetches, Starts, Completes, Lowers, Allocates}
+use Rattle.algorithm1.specs.Algorithm.{holding, executing, buffered, passed, completed, Passes, Fetches, Starts, Completes, Lowers, Allocates}
 use Rattle.system.specs.Stages.{Hand, Replaced}
 use Rattle.runs.specs.Items.{handOf}
 use Rattle.runs.proofs.Invariant.{followers, pendingOf, tasksOf, Shaped, Buffered}
@@ -74,10 +74,15 @@ pending-same : {A : Type 0} (s s′ : items.State A) → s′ .successors ≡ s 
 unfolding pendingOf
 pending-same s s′ e r = ap (drop (r .cursor)) (followers-same s s′ e (r .buffer))
 
+-- a thread that keeps its buffer and cursor
+pub same-buffer : {A : Type 0} (s : items.State A) (r : items.Thread A) → Buffered s r → (phase : ℕ) (held : A) (pointer : ℕ)
+    → Buffered s (threadWith (r .buffer) (r .cursor) phase held pointer)
+same-buffer s r b phase held pointer = record { each = b .each; cursor = b .cursor; none = b .none }
+
 -- a thread's buffer, as a run keeps it
 module _ {A : Type 0} (s : items.State A) (r : items.Thread A) (b : Buffered s r) where
   -- the cursor is not behind the last successor
-  cursor-fits : r .cursor ≤ length (followers s (r .buffer))
+  pub cursor-fits : r .cursor ≤ length (followers s (r .buffer))
   cursor-fits = go (r .buffer) refl
     where
       go : (l : List ℕ) → r .buffer ≡ l → r .cursor ≤ length (followers s l)
@@ -189,18 +194,18 @@ module _ {A : Type 0} (s : items.State A) (r : items.Thread A) (oldest : ℕ) (r
             };
       }
 
-pub passes-goes : {i : ℕ} {s : State} {T : ℕ} {r : Thread} → Passes i s T r → Goes s T (threadOf s i) r
-passes-goes {i} {s} {T} {r} f = rw (f .successor, f .thread) (go (same-told (was .cursor + 1) (length (successorsOf s (f .oldest)))))
-  where
-    was : Thread
-    was = threadOf s i
+  pub passed-goes : Goes s (getD (successorsOf s oldest) (r .cursor) 0) r (passed (length (successorsOf s oldest)) rest r)
+  passed-goes = go (same-told (r .cursor + 1) (length (successorsOf s oldest)))
+    where
+      go : {b : Bool} → Told b (r .cursor + 1 ≡ length (successorsOf s oldest)) (¬ (r .cursor + 1 ≡ length (successorsOf s oldest)))
+          → Goes s (getD (successorsOf s oldest) (r .cursor) 0) r
+          (cond b (threadWith rest 0 (r .phase) (r .held) (r .pointer))
+          (threadWith (r .buffer) (r .cursor + 1) (r .phase) (r .held) (r .pointer)))
+      go (told-true q h) = rw q (goes-last h)
+      go (told-false q h) = rw q (goes-on h)
 
-    go : {b : Bool} → Told b (was .cursor + 1 ≡ length (successorsOf s (f .oldest))) (¬ (was .cursor + 1 ≡ length (successorsOf s (f .oldest))))
-        → Goes s (getD (successorsOf s (f .oldest)) (was .cursor) 0) was
-        (cond b (threadWith (f .rest) 0 (was .phase) (was .held) (was .pointer))
-        (threadWith (was .buffer) (was .cursor + 1) (was .phase) (was .held) (was .pointer)))
-    go (told-true q h) = rw q (goes-last s was (f .oldest) (f .rest) (f .buffer) (f .inside) h)
-    go (told-false q h) = rw q (goes-on s was (f .oldest) (f .rest) (f .buffer) (f .inside) h)
+pub passes-goes : {i : ℕ} {s : State} {T : ℕ} {r : Thread} → Passes i s T r → Goes s T (threadOf s i) r
+passes-goes {i} {s} f = rw (f .successor, f .thread) (passed-goes s (threadOf s i) (f .oldest) (f .rest) (f .buffer) (f .inside))
 
 -- from s to s′ worker i's thread becomes r, and no task's successors change
 pub record Acts {A : Type 0} (none : A) (p i : ℕ) (s s′ : items.State A) (r : items.Thread A) : Type 0 where
@@ -220,7 +225,7 @@ acts {none = none} {i = i} {s = s} {r = r} worker shaped e f =
     }
 
 module _ {A : Type 0} {none : A} {p i : ℕ} {s s′ : items.State A} {r : items.Thread A} (a : Acts none p i s s′ r) where
-  other-thread : (j : ℕ) → ¬ (j ≡ i) → items.threadOf none s′ j ≡ items.threadOf none s j
+  pub other-thread : (j : ℕ) → ¬ (j ≡ i) → items.threadOf none s′ j ≡ items.threadOf none s j
   other-thread j n = rw (a .threads) (getD-set-other (s .threads) i j r (fresh none) n)
 
   -- what holds of every thread before holds of every thread after, if it holds of r
@@ -233,7 +238,7 @@ module _ {A : Type 0} {none : A} {p i : ℕ} {s s′ : items.State A} {r : items
 
   -- what is read of the threads changes at i, or nowhere
   module _ {B : Type 0} (f f′ : items.Thread A → B) (same : (t : items.Thread A) → f′ t ≡ f t) where
-    read-moves : {old new : B} → f (items.threadOf none s i) ≡ old → f r ≡ new
+    pub read-moves : {old new : B} → f (items.threadOf none s i) ≡ old → f r ≡ new
         → Replaced p i old new (λ j. f (items.threadOf none s j)) (λ j. f′ (items.threadOf none s′ j))
     read-moves was now =
         record {
@@ -242,7 +247,7 @@ module _ {A : Type 0} {none : A} {p i : ℕ} {s s′ : items.State A} {r : items
           now = same (items.threadOf none s′ i) ∙ ap f (a .own) ∙ now;
         }
 
-    read-stays : f r ≡ f (items.threadOf none s i) → (j : ℕ) → f′ (items.threadOf none s′ j) ≡ f (items.threadOf none s j)
+    pub read-stays : f r ≡ f (items.threadOf none s i) → (j : ℕ) → f′ (items.threadOf none s′ j) ≡ f (items.threadOf none s j)
     read-stays e j = same (items.threadOf none s′ j) ∙ go (ℕ-discrete j i)
       where
         go : Dec (j ≡ i) → f (items.threadOf none s′ j) ≡ f (items.threadOf none s j)

@@ -27,6 +27,7 @@ use Rattle.task.specs.declared.StepOutcome.{StepOutcome}
 use Rattle.ring.specs.Ring.{capacity}
 use Rattle.memory.specs.Field as list
 use Rattle.memory.specs.Updates.{written}
+use Rattle.machine.specs.Jobs as jobs
 use Rattle.rules.specs.Memory.{Mem, tasks, rowIn, held, entriesIn, acceptedIn}
 use Rattle.rules.specs.Updates.{Update}
 use Rattle.rules.specs.Plans.{withCount}
@@ -74,7 +75,7 @@ begun-recounts limits p k m e =
     laid = laid-down limits p k m e
 
 -- a call that moves nothing is no accepted step and no accepted Fetch
-still-uncounted : (kind : Call → Bool) → ((side : Side) (t : ℕ) → kind (lookupCall side t) ≡ false) → (c : Call) (said : Said) → Still c said
+pub still-uncounted : (kind : Call → Bool) → ((side : Side) (t : ℕ) → kind (lookupCall side t) ≡ false) → (c : Call) (said : Said) → Still c said
     → (kind c && acceptedSaid said) ≡ false
 still-uncounted kind h c _ (refuses _ n d) = and-false (kind c) false (λ e. refl)
 still-uncounted kind h _ said (looks side t _) = rw (h side t) refl
@@ -85,7 +86,7 @@ unfolding lastFetched
 still-fetched j past c _ (refuses _ n d) = cond-either (fetchBy j c) (lastFetched j past)
 still-fetched j past _ said (looks side t _) = refl
 
-still-counted : (kind : Call → Bool) → ((side : Side) (t : ℕ) → kind (lookupCall side t) ≡ false) → (past : List Event) (c : Call) (said : Said)
+pub still-counted : (kind : Call → Bool) → ((side : Side) (t : ℕ) → kind (lookupCall side t) ≡ false) → (past : List Event) (c : Call) (said : Said)
     → Still c said → acceptedOf kind (record { call = c; said = said } ∷ past) ≡ acceptedOf kind past
 unfolding acceptedOf
 still-counted kind h past c said q =
@@ -109,7 +110,7 @@ still-recounts p m past c said q h =
       hand = λ j n. h .hand j n ∙ sym (still-fetched j past c said q);
     }
 
-said-accepted : (said : Said) → Acceptance said → acceptedSaid said ≡ true
+pub said-accepted : (said : Said) → Acceptance said → acceptedSaid said ≡ true
 said-accepted (refused n d) a = absurd a
 said-accepted (answered k vs) a = refl
 
@@ -120,15 +121,15 @@ completes-next Start n = refl
 completes-next Complete n = refl
 completes-next Release n = refl
 
-abbrev entryNext : Step → Entry ℕ → List (Entry ℕ)
+abbrev pub entryNext : {A : Type 0} → Step → Entry A → List (Entry A)
 entryNext s e = cond (isCompletion s && true) (e ∷ []) []
 
--- the worker that an entry names
-entry-worker : (b : Bool) (p t i : ℕ) → i < p → (x : ℕ) → x < length (cond b (entryOf t i ∷ []) [])
-    → getD (cond b (entryOf t i ∷ []) []) x none .worker < p
-entry-worker true p t i h zero l = h
-entry-worker true p t i h (suc x) l = absurd (omega (arith, l))
-entry-worker false p t i h x l = absurd (omega (arith, l))
+-- the worker that an entry names, its item being of any type
+pub entry-worker : {A : Type 0} (d : Entry A) (b : Bool) (p : ℕ) (t : A) (i : ℕ) → i < p → (x : ℕ) → x < length (cond b (entryOf t i ∷ []) [])
+    → getD (cond b (entryOf t i ∷ []) []) x d .worker < p
+entry-worker d true p t i h zero l = h
+entry-worker d true p t i h (suc x) l = absurd (omega (arith, l))
+entry-worker d false p t i h x l = absurd (omega (arith, l))
 
 -- the task that a worker has in hand after a step
 module _ (p k i : ℕ) (m : Mem) (worker : i < p) (rows : length (m .rows) ≡ p) (o : StepOutcome) (us : List Update) where
@@ -167,7 +168,7 @@ module _ (limits : Limits) (p k i : ℕ) (m : Mem) where
     other-fetched s j n = rw (ne-eqb i j (λ e. n (sym e)), cond-either (isFetch s) false) refl
 
     own-hand : (s : Step) → AcceptedStep limits p k i s m → ¬ (_≡_ {A = ℕ} (rowIn (after s) i .phase) 0) → held (after s) i ≡ lastFetched i (seen s ∷ past)
-    unfolding lastFetched says
+    unfolding lastFetched jobs.says
     own-hand Fetch r n =
         let f : Fetches p k i m (r .outcome) (r .updates) = r .allowed .made in
         rw (r .answered, f .outcome, eq-eqb i i refl, r .left)
@@ -179,7 +180,7 @@ module _ (limits : Limits) (p k i : ℕ) (m : Mem) where
     own-hand Release r n = absurd (n (phase-after limits p k i Release m (step-accepts limits p k i Release m r)))
 
     step-recounts : (s : Step) → AcceptedStep limits p k i s m → Recounts p (after s) (seen s ∷ past)
-    unfolding acceptedOf entriesOf entryBy says
+    unfolding acceptedOf entriesOf entryBy jobs.says
     step-recounts s r = record { steps = steps; entries = entries; executed = executed; workers = workers; hand = hand }
       where
         a : Acceptance (stepSays (step limits p k i s m .answer))
@@ -202,7 +203,7 @@ module _ (limits : Limits) (p k i : ℕ) (m : Mem) where
         workers : (x : ℕ) → x < length (entriesOf (seen s ∷ past)) → getD (entriesOf (seen s ∷ past)) x none .worker < p
         workers =
             each-append (λ e. e .worker < p) none (entriesOf past) (entryBy (seen s) past) (h .workers)
-            (entry-worker (isCompletion s && acceptedSaid (stepSays (step limits p k i s m .answer))) p (lastFetched i past) i (r .allowed .worker))
+            (entry-worker none (isCompletion s && acceptedSaid (stepSays (step limits p k i s m .answer))) p (lastFetched i past) i (r .allowed .worker))
 
         hand : (j : ℕ) → ¬ (_≡_ {A = ℕ} (rowIn (after s) j .phase) 0) → held (after s) j ≡ lastFetched j (seen s ∷ past)
         hand j n = go (ℕ-discrete j i)

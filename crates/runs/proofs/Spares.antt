@@ -18,7 +18,7 @@ use Rattle.algorithm1.specs.Items.{fresh}
 use Rattle.algorithm1.specs.State.{State, queueOf, threadOf}
 use Rattle.algorithm1.specs.Algorithm.{First, Fetches, lowers, allocates, Lines, Does}
 use Rattle.algorithm1.proofs.Memories.{first-lt}
-use Rattle.algorithm1.proofs.RoundRobin.{Takes, Spares, spares-none}
+use Rattle.split_lists.proofs.RoundRobin.{Takes, Spares, spares-none}
 use Rattle.runs.specs.Calls.{isFetch}
 use Rattle.runs.proofs.Invariant.{Shaped}
 use Rattle.runs.proofs.Meaning.{passes-goes, Acts, fetch-acts, start-acts, complete-acts, lower-acts, allocate-acts}

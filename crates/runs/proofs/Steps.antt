@@ -20,7 +20,7 @@ use Rattle.task.specs.declared.Step.{Step}
 use Rattle.task.specs.declared.Step.the-variants.{Fetch, Start, Complete, Release}
 use Rattle.task.specs.declared.StepOutcome.{StepOutcome}
 use Rattle.graph.specs.Graph.{Graph}
-use Rattle.algorithm1.specs.State.{Thread, threadWith, State, degreeOf, successorsOf, queueOf, threadOf, waitingFor}
+use Rattle.algorithm1.specs.State.{Thread, State, degreeOf, successorsOf, queueOf, threadOf, waitingFor}
 use Rattle.algorithm1.specs.Algorithm.{holding, executing, completed, Fetches, Starts, Completes, Passes, Lowers, Allocates, lowers, allocates, Lines, Does}
 use Rattle.algorithm1.proofs.Memories.{first-lt}
 use Rattle.system.specs.System as system
@@ -28,12 +28,8 @@ use Rattle.system.proofs.Plain.{completes-all, all-due}
 use Rattle.runs.proofs.Invariant.{itemsOf, pendingOf, tasksOf, meaning, Buffered, Sane}
 use Rattle.runs.proofs.Hands.{hand-idle, hand-fetched, hand-running}
 use Rattle.runs.proofs.Waiting.{waiting-other, waiting-own}
-use Rattle.runs.proofs.Meaning.{tasks-snoc, pending-completed, buffered-completed, Goes, passes-goes, Acts, thread-each, hand-moves, hand-stays}
+use Rattle.runs.proofs.Meaning.{tasks-snoc, same-buffer, pending-completed, buffered-completed, Goes, passes-goes, Acts, thread-each, hand-moves, hand-stays}
 use Rattle.runs.proofs.Meaning.{pending-moves, pending-stays, fetch-acts, start-acts, complete-acts, lower-acts, allocate-acts}
-
--- a thread that keeps its buffer and cursor
-same-buffer : (s : State) (r : Thread) → Buffered s r → (phase held pointer : ℕ) → Buffered s (threadWith (r .buffer) (r .cursor) phase held pointer)
-same-buffer s r b phase held pointer = record { each = b .each; cursor = b .cursor; none = b .none }
 
 -- a step of the system, by the plain job's rule
 abbrev pub PlainStep : Graph → ℕ → system.State ℕ → system.State ℕ → Type 0

@@ -38,6 +38,7 @@ use Rattle.choice.specs.Search.{search}
 use Rattle.exchange.specs.Exchange.{Chain, none, more}
 use Rattle.exchange.specs.Pairs.{eachOnce, TaskExchanges}
 use Rattle.exchange.proofs.Theorem.{exchange-tasks}
+use Rattle.machine.specs.Jobs as jobs
 use Rattle.machine.specs.Machine.{Machine}
 use Rattle.machine.specs.Machine as machine
 use Rattle.machine.proofs.Lists.{Alike, alike-memory, alike-events}
@@ -50,7 +51,7 @@ use Rattle.memory.specs.Shape.{allFit}
 use Rattle.rules.specs.Updates.{Update, putDegree, putEntry, putEntries, putAccepted, putPlaces}
 use Rattle.rules.specs.Plans.{Plan, refuse, accept, counted, Result, carriedOut}
 use Rattle.rules.specs.Steps.{scan, fetchTask, fetchFrom, fetchRule, startRule, completeSink, completeInner, completeRule, advanced, advance, findRoom, releaseTo, releaseReady, releaseWaiting, releaseRule, ruleOf, stepPlan, step}
-use Rattle.rules.specs.Begin.{cleared, rootsPlaced, begun, rootsAnswer, beginAnswer, begin}
+use Rattle.rules.specs.Begin.{cleared, rootsLaid, rootsPlaced, begun, rootsAnswer, beginAnswer, begin}
 use Rattle.rules.proofs.Examples.{lent, Call, by, single, twoRoots, fork}
 use Rattle.runs.specs.Calls.{stepCall, beginCall, lookupCall, isStep, says, leaves, kindOf, plain, Event, Run, memoryOf, eventsOf}
 use Rattle.runs.specs.Calls as calls
@@ -138,13 +139,13 @@ pub record Keeps (g : Program) : Type 0 where
 
 -- The rules keep it, by demand 3: what is refuted below is its own claim, of other programs.
 same-answer : (c : calls.Call) (m : Mem) → answerBy rules c m ≡ says c m
-unfolding answerBy says
+unfolding answerBy jobs.says
 same-answer (stepCall limits p k i s) m = refl
 same-answer (beginCall limits p k) m = refl
 same-answer (lookupCall side t) m = refl
 
 same-left : (c : calls.Call) (m : Mem) → leftBy rules c m ≡ leaves c m
-unfolding leftBy leaves
+unfolding leftBy jobs.leaves
 same-left (stepCall limits p k i s) m = refl
 same-left (beginCall limits p k) m = refl
 same-left (lookupCall side t) m = refl
@@ -488,7 +489,7 @@ record WrongRuns : Type 0 where
       (0 ∷ 1 ∷ []) (0 ∷ 0 ∷ [])
 
 wrong-runs : WrongRuns
-unfolding ℕ-discrete decLe decLt firstBelow occOf placeOf joined tabulate allOf sumTo after around capped nextPhase part sizesFit firstBad firstTwice firstOnCycle tablesAnswer checkAnswer below? among? light? good? bad? endsFit? twice? twiceIn? find-twice edge? thru? path? leads? onCycle? succsBelow succStart succStarts succWords degreeList roots capacity slotAt endsAt storeEnds sound empty full headOn tailOn sumToZ load leastFrom least search allSteps allEntries numbersFit allFit othersFit lengthsFit countersFit storeWords updated written counted carriedOut scan fetchTask fetchFrom fetchRule startRule completeSink completeInner completeRule advanced findRoom releaseTo releaseReady releaseWaiting releaseRule ruleOf stepPlan step cleared rootsPlaced begun rootsAnswer beginAnswer begin machine.began machine.memoryAfter machine.recalled machine.eventsAfter acceptedOf answerBy leftBy stepsAmong
+unfolding ℕ-discrete decLe decLt firstBelow occOf placeOf joined tabulate allOf sumTo after around capped nextPhase part sizesFit firstBad firstTwice firstOnCycle tablesAnswer checkAnswer below? among? light? good? bad? endsFit? twice? twiceIn? find-twice edge? thru? path? leads? onCycle? succsBelow succStart succStarts succWords degreeList roots capacity slotAt endsAt storeEnds sound empty full headOn tailOn sumToZ load leastFrom least search allSteps allEntries numbersFit allFit othersFit lengthsFit countersFit storeWords updated written counted carriedOut scan fetchTask fetchFrom fetchRule startRule completeSink completeInner completeRule advanced findRoom releaseTo releaseReady releaseWaiting releaseRule ruleOf stepPlan step cleared rootsLaid begun rootsAnswer beginAnswer begin machine.began machine.memoryAfter machine.recalled machine.eventsAfter acceptedOf answerBy leftBy stepsAmong
 wrong-runs =
     record {
       forgets-a-root = record { begins = refl; taken = refl; unfinished = omega arith; refusals = refl };

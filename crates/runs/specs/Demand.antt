@@ -12,19 +12,13 @@ use Rattle.task.specs.Rows.{Acceptance}
 use Rattle.task.specs.declared.Limits.{Limits}
 use Rattle.task.specs.declared.Step.{Step}
 unfoldable pub use Rattle.machine.specs.Machine.{acceptedOf}
+pub use Rattle.machine.specs.Jobs.{acceptedSteps, acceptedCompletes}
 use Rattle.graph.specs.Graph.{Edge}
 use Rattle.exchange.specs.Exchange.{Allows}
 use Rattle.exchange.specs.Pairs.{eachOnce, TaskExchanges}
 use Rattle.rules.specs.Memory.{Mem, tasks, edges, graphIn, acceptedIn}
 use Rattle.rules.specs.Steps.{step}
-use Rattle.runs.specs.Calls.{Call, stepCall, isStep, isComplete, Event, Run, KeptBy, memoryOf, eventsOf, longer}
-
--- how many of the events are accepted calls of the kind; a lookup or a begin is of neither kind
-abbrev pub acceptedSteps : List Event → ℕ
-acceptedSteps = acceptedOf isStep
-
-abbrev pub acceptedCompletes : List Event → ℕ
-acceptedCompletes = acceptedOf isComplete
+use Rattle.runs.specs.Calls.{Call, stepCall, Run, KeptBy, memoryOf, eventsOf, longer}
 
 -- "The run is finished once N of its Completes are accepted"
 pub record Finished (r : Run) : Type 0 where

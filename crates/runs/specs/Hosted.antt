@@ -6,6 +6,7 @@ use mathlib.Core.List.{List, []}
 use lib.ListN.{take}
 use Rattle.task.specs.Refusals.{accepted, answerSays}
 use Rattle.task.specs.declared.Limits.{Limits}
+use Rattle.machine.specs.Jobs as jobs
 use Rattle.machine.specs.Seen as seen
 pub use Rattle.machine.specs.Seen.{seenAs, eventSeen}
 unfoldable pub use Rattle.machine.specs.Seen.{callsMade, lastLeft}
@@ -44,7 +45,7 @@ eventsSeen = seen.eventsSeen plain
 
 pub begin-accepts : (limits : Limits) (p k : ℕ) (m b : Mem) → Link m (seenAs (beginCall limits p k) accepted b)
     → answerSays (begin limits p k m .answer) ≡ accepted
-unfolding says
+unfolding jobs.says
 begin-accepts limits p k m b l = sym (l .answered)
 
 -- the run of this begin and the first n calls (all of them, from their number on), and the words that the host saw then

@@ -8,8 +8,8 @@ use Rattle.lists.specs.Lists.{joined}
 use Rattle.lists.specs.Squares.{cell, withCell}
 use Rattle.lists.specs.Sums.{sumToZ}
 use Rattle.task.specs.Entries.{entryOf}
-use Rattle.algorithm1.specs.Items.{threadWith, State, stateWith, waitingFor, workload, threadOf}
-use Rattle.algorithm1.specs.Algorithm.{withThread, withQueue, takeWeight, holding, withEntry}
+use Rattle.split_lists.specs.Items.{threadWith, State, stateWith, waitingFor, workload, threadOf}
+use Rattle.split_lists.specs.Moves.{withThread, withQueue, takeWeight, holding, withEntry}
 
 abbrev pub Pair : Type 0
 Pair = ℕ × ℕ
@@ -48,7 +48,9 @@ pub record ItemExamples : Type 0 where
   pub holds : threadOf noPair fetchedPair 0 ≡ threadWith [] 0 1 (1, 7) 1
   -- then task 1's weight has left
   pub lighter : workload 2 completedPair 0 ≡ pos 8
+  -- worker 1's pair recorded, with its worker
+  pub recorded : withEntry (2, 9) 1 pairs .executed ≡ entryOf (0, 6) 1 ∷ entryOf (2, 9) 1 ∷ []
 
 pub item-examples : ItemExamples
 unfolding joined cell withCell sumToZ waitingFor
-item-examples = record { waits = refl; waitsToo = refl; load = refl; loadToo = refl; leaves = refl; asHeavy = refl; holds = refl; lighter = refl }
+item-examples = record { waits = refl; waitsToo = refl; load = refl; loadToo = refl; leaves = refl; asHeavy = refl; holds = refl; lighter = refl; recorded = refl }

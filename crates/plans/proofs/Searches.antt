@@ -14,7 +14,7 @@ use Rattle.ring.specs.Ring.{Sound, sound}
 use Rattle.ring.proofs.Ends.{sound-told}
 use Rattle.choice.specs.Search.{Found, unsound, none, at, search, WentOn, Outcome}
 use Rattle.choice.proofs.Search.{search-is}
-use Rattle.rules.specs.Tables.{GoesOn, BadEnds, StopsAt}
+use Rattle.plans.specs.Tables.{GoesOn, BadEnds, StopsAt}
 
 module _ (p k : ℕ) (Skip : Ends → Type 0) (at-distance : ℕ → Ends) where
   -- what is found from number x on, as a property

@@ -12,8 +12,8 @@ use Rattle.lists.proofs.Decided.{stable}
 use Rattle.lists.proofs.Appends.{some-members}
 use Rattle.lists.proofs.Circles.{mod-reached}
 use Rattle.lists.proofs.Places.{place-lt}
-use Rattle.algorithm1.specs.Algorithm.{First}
-use Rattle.algorithm1.proofs.Memories.{first-lt}
+use Rattle.split_lists.specs.Moves.{First}
+use Rattle.split_lists.proofs.Memories.{first-lt}
 
 -- item t stands in one of the p lists, between those ahead of it and those behind it; the list is so far on from the pointer, modulo p
 pub record Waits {A : Type 0} (p : ℕ) (lists : ℕ → List A) (pointer list : ℕ) (ahead : List A) (t : A) (behind : List A) (distance : ℕ) : Type 0 where

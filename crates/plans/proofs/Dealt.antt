@@ -20,8 +20,8 @@ use Rattle.lists.proofs.Places.{place-same}
 use Rattle.lists.proofs.Circles.{mod-far}
 use Rattle.ring.specs.Ring.{capacity}
 use Rattle.ring.proofs.Ends.{capacity-is}
-use Rattle.rules.specs.Memory.{ringNumber}
-use Rattle.rules.specs.Begun.{dealt, toRing}
+use Rattle.plans.specs.Memory.{ringNumber}
+use Rattle.plans.specs.Laying.{dealt, toRing}
 
 module _ (p : ℕ) (positive : 0 < p) where
   -- ring (i, i) gets what is dealt to i, another ring nothing

@@ -1,0 +1,12 @@
+pub mod Plans
+pub mod Words
+pub mod Searches
+pub mod Headers
+pub mod Begin
+pub mod Numbers
+pub mod Dealt
+pub mod Joins
+pub mod Laid
+pub mod Examples
+pub mod Accepted
+pub mod Kept

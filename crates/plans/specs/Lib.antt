@@ -1,0 +1,9 @@
+pub mod Memory
+pub mod Sizes
+pub mod Words
+pub mod Plans
+pub mod Headed
+pub mod Tables
+pub mod Begin
+pub mod Laying
+pub mod Moves
