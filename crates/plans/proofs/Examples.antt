@@ -2,13 +2,13 @@
 use Prim.Native.Nat.{ℕ}
 use mathlib.Core.Path.{_≡_, refl}
 use mathlib.Core.Bool.{true, false}
-use mathlib.Core.List.{List, [], _∷_}
+use mathlib.Core.List.{[], _∷_}
 use lib.IntN.{pos, negsuc}
 use Rattle.task.specs.declared.Answer.the-variants.{Refused, Accepted}
 use Rattle.ring.specs.Ring.{slotAt, endsAt}
 use Rattle.memory.specs.Memory.{Mem, memOf}
 use Rattle.memory.proofs.Examples.{pair, rowOf, pairs, small}
-use Rattle.plans.specs.Memory.{ringNumber, headItem, degreeIn, succCount, bufferAt, phaseIn, held, pointerIn, placesIn, entriesIn, acceptedIn, oldest, successor}
+use Rattle.plans.specs.Memory.{ringNumber, headItem, succCount, bufferAt, phaseIn, held, pointerIn, entriesIn, acceptedIn, oldest, successor}
 use Rattle.plans.specs.Words.{taskFits, phaseFits, pointerFits, counterFits, degreeFits, placesFit, joinFits, cursorFits, rangeFits, weightFits}
 use Rattle.plans.specs.Begin.{beginResult}
 

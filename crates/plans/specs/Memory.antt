@@ -1,6 +1,5 @@
 -- Where the words of a family's lent memory stand.
 use Prim.Native.Nat.{ℕ, _+_, _-_, _*_}
-use mathlib.Core.List.{List}
 use lib.ListN.{length, getD}
 use lib.IntN.{ℤ, pos}
 use Rattle.task.specs.declared.Ends.{Ends}

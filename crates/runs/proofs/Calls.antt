@@ -7,7 +7,7 @@ use mathlib.Core.List.{List, [], _∷_}
 use lib.ListN.{length}
 use Rattle.lists.proofs.Decided.{both?}
 use Rattle.task.specs.Types.{engine}
-use Rattle.task.specs.Refusals.{Said, refused, accepted, answerSays, stepSays}
+use Rattle.task.specs.Refusals.{Said, accepted, answerSays}
 use Rattle.task.specs.Rows.{Acceptance}
 use Rattle.task.specs.declared.Limits.{Limits}
 use Rattle.task.specs.declared.Step.{Step}
