@@ -32,7 +32,7 @@ use Rattle.admission.proofs.Laws.{numbers-within}
 use Rattle.begin_check.specs.Judging.{readIn, Judges}
 
 -- what the graph's check accepts fits, whatever other lengths it is told
-check-fits : (limits : Limits) (others : Bool) (weights starts preds : List ℕ) → checkAnswer limits true others weights starts preds ≡ Accepted
+pub check-fits : (limits : Limits) (others : Bool) (weights starts preds : List ℕ) → checkAnswer limits true others weights starts preds ≡ Accepted
     → GraphFits limits weights starts preds
 check-fits limits others weights starts preds e =
     clear-fits limits {Far = ⊥} {Odd = others ≡ false} weights starts preds
@@ -40,7 +40,7 @@ check-fits limits others weights starts preds e =
     (said-accepted (checkAnswer limits true others weights starts preds) .0 (ap answerSays e))) .1 .1
 
 module _ (limits : Limits) (p k : ℕ) (numbers fit : Bool) (hn : numbers ≡ numbersFit limits p k) (f : not (numbers && fit) ≡ false) where
-  numbers-fit : numbersFit limits p k ≡ true
+  pub numbers-fit : numbersFit limits p k ≡ true
   numbers-fit = sym hn ∙ and-true numbers fit (not-false (numbers && fit) f) .0
 
   within : (p ≤ engine .workers) × ((2 ≤ k) × (k ≤ engine .slots))

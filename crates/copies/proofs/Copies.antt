@@ -21,7 +21,7 @@ use Rattle.copies.specs.Copies.{Copy, copy, sameCopy, taskCopies, nextCo
 
 -- occurrences among what a function makes of a list's members
 module _ {A B : Type 0} (same : Discrete A) (other : Discrete B) (f : A → B) where
-  occ-map : ((x y : A) → f x ≡ f y → x ≡ y) → (a : A) (l : List A) → occOf other (f a) (map f l) ≡ occOf same a l
+  pub occ-map : ((x y : A) → f x ≡ f y → x ≡ y) → (a : A) (l : List A) → occOf other (f a) (map f l) ≡ occOf same a l
   occ-map one a [] = omega (arith, occ-nil other (f a), occ-nil same a)
   occ-map one a (x ∷ l) = go (same a x) (occ-map one a l)
     where
@@ -29,7 +29,7 @@ module _ {A B : Type 0} (same : Discrete A) (other : Discrete B) (f : A → B) w
       go (yes e) r = omega (arith, r, occ-hit other (f a) (f x) (map f l) (ap f e), occ-hit same a x l e)
       go (no n) r = omega (arith, r, occ-miss other (f a) (f x) (map f l) (λ q. n (one a x q)), occ-miss same a x l n)
 
-  occ-unmade : (b : B) → ((x : A) → ¬ (b ≡ f x)) → (l : List A) → occOf other b (map f l) ≡ 0
+  pub occ-unmade : (b : B) → ((x : A) → ¬ (b ≡ f x)) → (l : List A) → occOf other b (map f l) ≡ 0
   occ-unmade b n [] = occ-nil other b
   occ-unmade b n (x ∷ l) = omega (arith, occ-unmade b n l, occ-miss other b (f x) (map f l) (n x))
 
@@ -103,7 +103,7 @@ module _ (g : Graph) where
   root-other c n = occ-unmade ℕ-discrete sameCopy (λ r. copy r (nil .0)) c (λ x q. n (same-predecessor q)) (roots g)
 
   -- a task has as many copies as predecessors, a root one
-  length-copies : (t : ℕ) → length (taskCopies g t) ≡ length (predsOf g t) + occ t (roots g)
+  pub length-copies : (t : ℕ) → length (taskCopies g t) ≡ length (predsOf g t) + occ t (roots g)
   unfolding taskCopies
   length-copies t =
       omega (

@@ -2,3 +2,5 @@ pub mod Examples
 pub mod Copies
 pub mod Weak
 pub mod Runs
+pub mod Agree
+pub mod Unordered

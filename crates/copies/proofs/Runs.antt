@@ -177,11 +177,11 @@ module _ (g : Graph) (sound : Sound g) (once : NoneTwice g) (P : ℕ) where
 
   -- every release frees a copy, none only lowers a degree: what is to be released waits for nothing else
   module _ (x : Copy) where
-    abbrev pendingCopies : State Copy → ℕ
+    abbrev pub pendingCopies : State Copy → ℕ
     pendingCopies s = sumTo P (λ i. occOf sameCopy x (s .pending i))
 
     -- its release is due once, and not before all that it waits for is recorded
-    abbrev Single : State Copy → Type 0
+    abbrev pub Single : State Copy → Type 0
     Single s = pendingCopies s + min 1 (missing sameCopy (copiesOf g .preds x) (s .stages .done)) ≤ 1
 
     complete-single : {i : ℕ} {c : Copy} {s s′ : State Copy} → Invariant sameCopy (copiesOf g) P s → (f : Completes sameCopy (copiesOf g) P i c s s′)
@@ -241,7 +241,7 @@ module _ (g : Graph) (sound : Sound g) (once : NoneTwice g) (P : ℕ) where
     step-single v (place i o y f) e h =
         rw (f .enters .done) (omega (arith, h, sum-replaced (occOf sameCopy x) (f .releases .pending), occ-cons sameCopy x y (f .releases .rest)))
 
-    weak-single : {s : State Copy} → Weak g P s → Single s
+    pub weak-single : {s : State Copy} → Weak g P s → Single s
     weak-single {s} (begun b) = omega (arith, sum-zero P (λ i. occOf sameCopy x (s .pending i)) (λ i l. rw (b .pending i) (occ-nil sameCopy x)))
     weak-single (further r t e) = step-single (weak-invariant r) t e (weak-single r)
 

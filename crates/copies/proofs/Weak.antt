@@ -54,10 +54,19 @@ module _ (g : Graph) where
       (omega (arith, missing-snoc sameCopy (taskCopies g t) done c fresh, copies-other g c t (λ e. n (sym e))))
 
   -- and its own task misses one copy less
-  missing-less : (done : List Copy) (c : Copy) → isCopy g c ≡ 1 → occOf sameCopy c done ≡ 0
+  pub missing-less : (done : List Copy) (c : Copy) → isCopy g c ≡ 1 → occOf sameCopy c done ≡ 0
       → missing sameCopy (taskCopies g (c .task)) done ≡ suc (missing sameCopy (taskCopies g (c .task)) (done ++ (c ∷ [])))
   unfolding isCopy
   missing-less done c e fresh = omega (arith, e, missing-snoc sameCopy (taskCopies g (c .task)) done c fresh)
+
+  -- where every copy is recorded, every task is complete
+  pub none-missing : (done : List Copy) → ((c : Copy) → occOf sameCopy c done ≡ isCopy g c) → (t : ℕ) → missing sameCopy (taskCopies g t) done ≡ 0
+  none-missing done each t =
+      stable (ℕ-discrete (missing sameCopy (taskCopies g t) done) 0)
+      (λ n. found (missing-find sameCopy (taskCopies g t) done (omega (arith, n))))
+    where
+      found : (c : Copy) × (0 < occOf sameCopy c (taskCopies g t)) × (occOf sameCopy c done ≡ 0) → ⊥
+      found (c, h, z) = omega (arith, z, each c, copies-among g c t h .1)
 
   -- what falls due with a copy: all that its task makes, or nothing
   pub due-last : (done : List Copy) (c : Copy) → missing sameCopy (taskCopies g (c .task)) (done ++ (c ∷ [])) ≡ 0 → lastDue g done c ≡ copiesOf g .succs c
@@ -111,18 +120,10 @@ module _ (g : Graph) where
           all-successors,
         )
 
-    -- where every copy is recorded, every task is complete
     pub owed-all : (done : List Copy) → ((c : Copy) → occOf sameCopy c done ≡ isCopy g c) → owed g done ≡ edgeCount g
     unfolding owed share
-    owed-all done each = sum-same (g .tasks) (λ t. length (succsOf g t)) (share done) (λ t h. share-full done t (none t)) ∙ all-successors
-      where
-        none : (t : ℕ) → missing sameCopy (taskCopies g t) done ≡ 0
-        none t =
-            stable (ℕ-discrete (missing sameCopy (taskCopies g t) done) 0)
-            (λ n. found (missing-find sameCopy (taskCopies g t) done (omega (arith, n))))
-          where
-            found : (c : Copy) × (0 < occOf sameCopy c (taskCopies g t)) × (occOf sameCopy c done ≡ 0) → ⊥
-            found (c, h, z) = omega (arith, z, each c, copies-among g c t h .1)
+    owed-all done each =
+        sum-same (g .tasks) (λ t. length (succsOf g t)) (share done) (λ t h. share-full done t (none-missing done each t)) ∙ all-successors
 
     module _ (once : NoneTwice g) (P : ℕ) where
       -- what falls due is the copy's own, and nothing becomes free: where a copy that isn't the last completes, those that wait for it wait for another

@@ -6,16 +6,10 @@ use native.Mathlib.Decide.{ℕ-discrete}
 use lib.ListN.{replicate}
 use Rattle.lists.specs.Lists.{occ, occOf, joined}
 use Rattle.task.specs.Types.{nil}
+pub use Rattle.weak_task.specs.Types.{Copy, copy}
 use Rattle.graph.specs.Graph.{Graph, predsOf}
 use Rattle.graph.specs.Successors.{succsOf, roots}
 use Rattle.system.specs.System.{Items}
-
-pub record Copy : Type 0 where
-  pub task : ℕ
-  pub predecessor : ℕ
-
-abbrev pub copy : ℕ → ℕ → Copy
-copy t u = record { task = t; predecessor = u }
 
 -- copies are the same if both numbers are
 abbrev pub bothSame : {a b : Copy} → Dec (a .task ≡ b .task) → Dec (a .predecessor ≡ b .predecessor) → Dec (a ≡ b)

@@ -5,3 +5,5 @@ pub mod Onward
 pub mod Seen
 pub mod ExampleLaws
 pub mod Jobs
+pub mod Hosted
+pub mod Finishing

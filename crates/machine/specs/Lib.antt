@@ -2,3 +2,5 @@ pub mod Machine
 pub mod Standing
 pub mod Seen
 pub mod Jobs
+pub mod Hosted
+pub mod Fetches

@@ -10,11 +10,15 @@ use Rattle.lists.proofs.Circles.{length-around, around-at}
 use Rattle.lists.proofs.Decided.{smallest-unique}
 use Rattle.lists.proofs.Told.{Told, told-true, told-false, not-told}
 use Rattle.task.specs.declared.Ends.{Ends}
-use Rattle.ring.specs.Ring.{Sound, sound}
-use Rattle.ring.proofs.Ends.{sound-told}
+use Rattle.ring.specs.Ring.{Sound, Empty, Full, sound, empty, full}
+use Rattle.ring.proofs.Ends.{sound-told, empty-told, full-told}
 use Rattle.choice.specs.Search.{Found, unsound, none, at, search, WentOn, Outcome}
 use Rattle.choice.proofs.Search.{search-is}
-use Rattle.plans.specs.Tables.{GoesOn, BadEnds, StopsAt}
+use Rattle.memory.specs.Family.{Family}
+use Rattle.memory.specs.Memory.{Mem}
+use Rattle.plans.specs.Memory.{ringNumber, endsIn, pointerIn}
+use Rattle.plans.specs.Tables.{GoesOn, BadEnds, StopsAt, scannedEnds, offeredEnds}
+use Rattle.plans.specs.Searches.{scan, findRoom}
 
 module _ (p k : ℕ) (Skip : Ends → Type 0) (at-distance : ℕ → Ends) where
   -- what is found from number x on, as a property
@@ -121,3 +125,23 @@ module _ (p k x : ℕ) (Skip : Ends → Type 0) (skips : Ends → Bool)
       go unsound bad = absurd (stop-not-bad p k Skip away s bad)
       go none all = absurd (stop-not-all p k Skip away s all)
       go (at j) (d, t, q) = ap at (q ∙ ap (λ (n : ℕ). (x + n) % p) (stop-unique p k Skip away t s))
+
+-- what the scan finds, and that it stops where it would
+module _ {F : Family} (p k i : ℕ) (m : Mem F) where
+  pub scan-looked : Looked p k Empty (scannedEnds p i m) (pointerIn m i) (scan p k i m)
+  unfolding scan
+  scan-looked = search-looked p k (pointerIn m i) Empty empty empty-told (λ j. endsIn m (ringNumber p i j))
+
+  pub scan-stops : (e : ℕ) → StopsAt p k Empty (scannedEnds p i m) e → scan p k i m ≡ at ((pointerIn m i + e) % p)
+  unfolding scan
+  scan-stops = search-stops p k (pointerIn m i) Empty empty empty-told (λ j. endsIn m (ringNumber p i j))
+
+-- what the search for room finds from owner j on, and that it stops where it would
+module _ {F : Family} (p k i j : ℕ) (m : Mem F) where
+  pub room-looked : Looked p k (Full k) (offeredEnds p i m j) j (findRoom p k i m (around p j))
+  unfolding findRoom
+  room-looked = search-looked p k j (Full k) (full k) (full-told k) (λ o. endsIn m (ringNumber p o i))
+
+  pub room-stops : (e : ℕ) → StopsAt p k (Full k) (offeredEnds p i m j) e → findRoom p k i m (around p j) ≡ at ((j + e) % p)
+  unfolding findRoom
+  room-stops = search-stops p k j (Full k) (full k) (full-told k) (λ o. endsIn m (ringNumber p o i))

@@ -12,7 +12,14 @@ use Rattle.memory.specs.Updates.{Update, store, written}
 use Rattle.plans.specs.Memory.{ringNumber, endsIn, counterIn, weightIn}
 
 module _ {F : Family} where
-  -- an item joins the ring of owner o filled by worker i, and with it the weight of task t: "The weight joins the counter of the ring really used."
+  -- an item joins the ring of owner o filled by worker i
+  abbrev pub append : ℕ → ℕ → ℕ → ℕ → F .Item → Mem F → List (Update F)
+  append p k o i a m =
+      store list.rings (slotAt k (ringNumber p o i) (endsIn m (ringNumber p o i) .tail)) a
+      ∷ store list.ends (ringNumber p o i) (tailOn k (endsIn m (ringNumber p o i)))
+      ∷ []
+
+  -- and with it the weight of task t: "The weight joins the counter of the ring really used."
   abbrev pub joinRing : ℕ → ℕ → ℕ → ℕ → F .Item → ℕ → Mem F → List (Update F)
   joinRing p k o i a t m =
       store list.rings (slotAt k (ringNumber p o i) (endsIn m (ringNumber p o i) .tail)) a

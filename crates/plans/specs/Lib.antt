@@ -6,4 +6,5 @@ pub mod Headed
 pub mod Tables
 pub mod Begin
 pub mod Laying
+pub mod Searches
 pub mod Moves

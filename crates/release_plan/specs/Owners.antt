@@ -1,18 +1,39 @@
 -- The owner whose ring takes a task that is ready.
 use Prim.Native.Nat.{ℕ, _<_}
 use mathlib.Core.Path.{_≡_}
-use mathlib.Core.Bool.{true}
+use mathlib.Core.Bool.{true, cond, not}
 use mathlib.Core.List.{List}
 use lib.ListN.{length, getD}
 use lib.IntN.{ℤ, pos}
-use Rattle.ring.specs.Ring.{Sound, endsAt}
-use Rattle.choice.specs.Search.{at}
+use Rattle.lists.specs.Lists.{allOf}
+use Rattle.lists.specs.Circles.{around}
+use Rattle.task.specs.Refusals.{damaged, ringsFull}
+use Rattle.task.specs.declared.Ends.{Ends}
+use Rattle.ring.specs.Ring.{Sound, sound, full, endsAt}
+use Rattle.choice.specs.Least.{load, least}
+use Rattle.choice.specs.Search.{Found, unsound, none, at, search}
 use Rattle.rules.specs.Memory.{Mem, ringNumber, successor}
-use Rattle.rules.specs.Words.{counterFits}
+use Rattle.rules.specs.Words.{counterFits, countersFit}
 use Rattle.rules.specs.Plans.{refuse}
 use Rattle.rules.specs.Steps.{releaseTo, releaseReady}
 use Rattle.release_plan.specs.declared.Owner.{Owner}
 use Rattle.release_plan.specs.declared.Owner.the-variants.{Refused, At}
+
+-- the ring that a task joins, by ends and counters: the target, and the search from it on; unsound where a counter is out of its range
+unfoldable pub roomFrom : (p k i : ℕ) → List ℕ → List ℤ → Found
+roomFrom p k i e c =
+    cond (countersFit c)
+    (search (λ o. sound k (endsAt e (ringNumber p o i))) (λ o. not (full k (endsAt e (ringNumber p o i)))) (around p (least (allOf p) (load p c))))
+    unsound
+
+-- refused, 11 with task s for its detail, or the owner and the ends of its ring
+abbrev pub ownerAt : (s : ℕ) → (ℕ → Ends) → Found → Owner
+ownerAt s here unsound = Refused damaged 0
+ownerAt s here none = Refused ringsFull s
+ownerAt s here (at o) = At (record { 0 = o }) (here o)
+
+unfoldable pub ownerOf : (p k i s : ℕ) → List ℕ → List ℤ → Owner
+ownerOf p k i s e c = ownerAt s (λ o. endsAt e (ringNumber p o i)) (roomFrom p k i e c)
 
 -- a memory that has these ends and counters, where task s is the successor at worker i's cursor
 pub record Offers (i s : ℕ) (e : List ℕ) (c : List ℤ) (m : Mem) : Type 0 where

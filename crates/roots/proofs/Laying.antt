@@ -34,14 +34,14 @@ use Rattle.rules.specs.Words.{counterFits}
 use Rattle.rules.specs.Steps.{join}
 use Rattle.rules.specs.Begin.{rootsLaid, rootsPlaced}
 use Rattle.rules.specs.Begun.{toRing}
-use Rattle.roots.specs.Laying.{rootsBelow, laidIn, Placed, Job, Room, Laid}
+use Rattle.roots.specs.Laying.{rootsBelow, laidIn, Placed, Job, Room, Dealt, Laid}
 
 module _ (degrees : List ℕ) (t : ℕ) where
-  below-skip : ¬ (getD degrees t 0 ≡ 0) → rootsBelow degrees (t + 1) ≡ rootsBelow degrees t
+  pub below-skip : ¬ (getD degrees t 0 ≡ 0) → rootsBelow degrees (t + 1) ≡ rootsBelow degrees t
   unfolding rootsBelow joined
   below-skip n = ap (rootsBelow degrees) (add-one t) ∙ rw (no-holds (ℕ-discrete (getD degrees t 0) 0) n) (append-nil (rootsBelow degrees t))
 
-  below-root : getD degrees t 0 ≡ 0 → rootsBelow degrees (t + 1) ≡ rootsBelow degrees t ++ (t ∷ [])
+  pub below-root : getD degrees t 0 ≡ 0 → rootsBelow degrees (t + 1) ≡ rootsBelow degrees t ++ (t ∷ [])
   unfolding rootsBelow joined
   below-root e = ap (rootsBelow degrees) (add-one t) ∙ rw (yes-holds (ℕ-discrete (getD degrees t 0) 0) e)
 
@@ -59,30 +59,21 @@ below-fewer degrees t (suc n) h = go (ℕ-discrete t (suc n)) (below-fewer degre
     go (yes e) before = rw e (omega arith)
     go (no m) before = omega (arith, before (omega (arith, h, m)), length-append (rootsBelow degrees n) (cond (holds (ℕ-discrete (getD degrees n 0) 0)) (n ∷ []) []))
 
--- one root more is placed
-placed-snoc : (p k n : ℕ) (ts : List ℕ) (t : ℕ) (m : Mem)
-    → rootsPlaced p k n (ts ++ (t ∷ [])) m
-    ≡ written (join p k ((n + length ts) % p) ((n + length ts) % p) t (rootsPlaced p k n ts m)) (rootsPlaced p k n ts m)
-placed-snoc p k n ts t m = laid-snoc (λ x. x) p k (λ x t. []) n ts t m
-
-laid-same : (m : Mem) (w : List ℕ) {r r′ e e′ : List ℕ} {c c′ : List ℤ} → r ≡ r′ → e ≡ e′ → c ≡ c′ → laidIn m w r e c ≡ laidIn m w r′ e′ c′
-laid-same m w a b d = rw (a, b, d)
-
 counter-fits : (x : ℕ) → x ≤ 1073741824 → counterFits (pos x) ≡ true
 counter-fits x h = le-leb x 1073741824 h
 
 -- cleared lists, before any task
-pub laid-none : (p k : ℕ) (weights degrees rings ends rings′ ends′ : List ℕ) (counters counters′ : List ℤ)
+pub dealt-none : {A : Type 0} (p k : ℕ) (weights degrees : List ℕ) (rings rings′ : List A) (ends ends′ : List ℕ) (counters counters′ : List ℤ)
     → Job p k weights degrees → Room p k rings ends counters
-    → rings′ ≡ replicate (length rings) 0 → ends′ ≡ replicate (length ends) 0 → counters′ ≡ replicate (length counters) (pos 0)
-    → Laid p k weights degrees 0 0 rings′ ends′ counters′
-unfolding rootsBelow joined rootsLaid toRing
-laid-none p k weights degrees rings ends rings′ ends′ counters counters′ job room r e c =
+    → length rings′ ≡ length rings → ends′ ≡ replicate (length ends) 0 → counters′ ≡ replicate (length counters) (pos 0)
+    → Dealt p k weights degrees 0 0 rings′ ends′ counters′
+unfolding rootsBelow joined toRing
+dealt-none p k weights degrees rings rings′ ends ends′ counters counters′ job room r e c =
     record {
       job = job;
       room =
           record {
-            rings = ap length r ∙ length-replicate _ _ ∙ room .rings;
+            rings = r ∙ room .rings;
             ends = ap length e ∙ length-replicate _ _ ∙ room .ends;
             counters = ap length c ∙ length-replicate _ _ ∙ room .counters;
           };
@@ -90,15 +81,13 @@ laid-none p k weights degrees rings ends rings′ ends′ counters counters′ j
       next = sym (mod-eq-of-lt (job .oneWorker));
       filled = λ q h. rw e (ends-cleared (replicate (length ends) 0) q k (job .oneSlot) (zeros (length ends)));
       small = λ q h. (0, (rw c (getD-equals (length counters) q (pos 0)), omega arith));
-      placed = λ m.
-          laid-same m weights (r ∙ ap (λ (n : ℕ). replicate n 0) (room .rings)) (e ∙ ap (λ (n : ℕ). replicate n 0) (room .ends))
-          (c ∙ ap (λ (n : ℕ). replicate n (pos 0)) (room .counters));
     }
 
-module _ (p k : ℕ) (weights degrees : List ℕ) (t owner : ℕ) (rings ends : List ℕ) (counters : List ℤ)
-    (l : Laid p k weights degrees t owner rings ends counters) (h : t < length degrees) where
-  pub laid-skip : ¬ (getD degrees t 0 ≡ 0) → Laid p k weights degrees (t + 1) owner rings ends counters
-  laid-skip n =
+-- one task more, whatever an item is
+module _ {A : Type 0} (p k : ℕ) (weights degrees : List ℕ) (t owner : ℕ) (rings : List A) (ends : List ℕ) (counters : List ℤ)
+    (l : Dealt p k weights degrees t owner rings ends counters) (h : t < length degrees) where
+  pub dealt-skip : ¬ (getD degrees t 0 ≡ 0) → Dealt p k weights degrees (t + 1) owner rings ends counters
+  dealt-skip n =
       record {
         job = l .job;
         room = l .room;
@@ -106,7 +95,6 @@ module _ (p k : ℕ) (weights degrees : List ℕ) (t owner : ℕ) (rings ends : 
         next = rw (below-skip degrees t n) (l .next);
         filled = rw (below-skip degrees t n) (l .filled);
         small = λ q i. let (x, (e, b)) = l .small q i in (x, (e, omega arith));
-        placed = rw (below-skip degrees t n) (l .placed);
       }
 
   pub owner-ready : (owner < p) × ((owner < p) × (p ≤ engine .workers))
@@ -134,16 +122,16 @@ module _ (p k : ℕ) (weights degrees : List ℕ) (t owner : ℕ) (rings ends : 
         (omega (arith, l .room .counters), (rw e (counter-fits x (omega (arith, l .job .fewTasks))), light))
 
     -- a root in its owner's own ring
-    module _ (own : q ≡ owner * p + owner) (root : getD degrees t 0 ≡ 0) (rings′ ends′ : List ℕ) (counters′ : List ℤ)
-        (appends : ringsOf rings′ ends′ ≡ appendedAt k q t (ringsOf rings ends))
+    module _ (own : q ≡ owner * p + owner) (root : getD degrees t 0 ≡ 0) (a : A) (rings′ : List A) (ends′ : List ℕ) (counters′ : List ℤ)
+        (appends : ringsOf rings′ ends′ ≡ appendedAt k q a (ringsOf rings ends))
         (raises : counters′ ≡ set counters q (getD counters q (pos 0) +ℤ pos (getD weights t 0))) where
-      new-rings : rings′ ≡ set rings (slotAt k q (endsAt ends q .tail)) t
+      pub new-rings : rings′ ≡ set rings (slotAt k q (endsAt ends q .tail)) a
       unfolding appendedAt
-      new-rings = ap (λ (r : Rings ℕ). r .slots) appends
+      new-rings = ap (λ (r : Rings A). r .slots) appends
 
-      new-ends : ends′ ≡ storeEnds ends q (tailOn k (endsAt ends q))
+      pub new-ends : ends′ ≡ storeEnds ends q (tailOn k (endsAt ends q))
       unfolding appendedAt
-      new-ends = ap (λ (r : Rings ℕ). r .ends) appends
+      new-ends = ap (λ (r : Rings A). r .ends) appends
 
       small-after : (r : ℕ) → r < p * p → Dec (r ≡ q) → (x : ℕ) × ((getD counters′ r (pos 0) ≡ pos x) × (x ≤ (t + 1) * 65535))
       small-after r i (yes e) =
@@ -152,11 +140,6 @@ module _ (p k : ℕ) (weights degrees : List ℕ) (t owner : ℕ) (rings ends : 
       small-after r i (no n) =
           let (x, (a, b)) = l .small r i in
           (x, (ap (λ (c : List ℤ). getD c r (pos 0)) raises ∙ getD-set-other counters q r _ (pos 0) n ∙ a, omega arith))
-
-      joins : (m : Mem) → laidIn m weights rings′ ends′ counters′
-          ≡ written (join p k owner owner t (laidIn m weights rings ends counters)) (laidIn m weights rings ends counters)
-      unfolding written updated
-      joins m = rw (← own) (laid-same m weights new-rings new-ends raises)
 
       -- the number of the root's own ring, as the roots are dealt out
       dealt-to : ringNumber p ((0 + length (rootsBelow degrees t)) % p) ((0 + length (rootsBelow degrees t)) % p) ≡ q
@@ -171,28 +154,14 @@ module _ (p k : ℕ) (weights degrees : List ℕ) (t owner : ℕ) (rings ends : 
           rw (dealt-to, ne-eqb q r (λ e. n (sym e)), add-zero (length (toRing p r 0 (rootsBelow degrees t))))
           (ends-other ends q r (tailOn k (endsAt ends q)) n ∙ l .filled r i)
 
-      placed-after : Placed p k weights degrees (t + 1) rings′ ends′ counters′
-      placed-after m =
-          joins m
-          ∙ ap (λ (b : Mem). written (join p k owner owner t b) b) (l .placed m)
-          ∙ ap (λ (o : ℕ). written (join p k o o t before) before) (l .next ∙ ap (λ (n : ℕ). n % p) (omega arith))
-          ∙ sym (placed-snoc p k 0 (rootsBelow degrees t) t start)
-          ∙ ap (λ (ts : List ℕ). rootsPlaced p k 0 ts start) (sym (below-root degrees t root))
-        where
-          start : Mem
-          start = laidIn m weights (replicate (p * p * k) 0) (replicate (p * p * endWords) 0) (replicate (p * p) (pos 0))
-
-          before : Mem
-          before = rootsPlaced p k 0 (rootsBelow degrees t) start
-
-      pub laid-root : (next : ℕ) → next ≡ after p owner → Laid p k weights degrees (t + 1) next rings′ ends′ counters′
+      pub dealt-root : (next : ℕ) → next ≡ after p owner → Dealt p k weights degrees (t + 1) next rings′ ends′ counters′
       unfolding after
-      laid-root next e =
+      dealt-root next e =
           record {
             job = l .job;
             room =
                 record {
-                  rings = ap length new-rings ∙ length-set rings (slotAt k q (endsAt ends q .tail)) t ∙ l .room .rings;
+                  rings = ap length new-rings ∙ length-set rings (slotAt k q (endsAt ends q .tail)) a ∙ l .room .rings;
                   ends = ap length new-ends ∙ length-stored ends q (tailOn k (endsAt ends q)) ∙ l .room .ends;
                   counters = ap length raises ∙ length-set counters q _ ∙ l .room .counters;
                 };
@@ -202,12 +171,76 @@ module _ (p k : ℕ) (weights degrees : List ℕ) (t owner : ℕ) (rings ends : 
                 ∙ ap (λ (n : ℕ). n % p) (omega (arith, ap length (below-root degrees t root), length-append (rootsBelow degrees t) (t ∷ [])));
             filled = λ r i. rw (new-ends, below-root degrees t root, to-snoc p (l .job .oneWorker) r 0 (rootsBelow degrees t) t) (filled-after r i (ℕ-discrete r q));
             small = λ r i. small-after r i (ℕ-discrete r q);
-            placed = placed-after;
           }
+
+-- one root more is placed
+placed-snoc : (p k n : ℕ) (ts : List ℕ) (t : ℕ) (m : Mem)
+    → rootsPlaced p k n (ts ++ (t ∷ [])) m
+    ≡ written (join p k ((n + length ts) % p) ((n + length ts) % p) t (rootsPlaced p k n ts m)) (rootsPlaced p k n ts m)
+placed-snoc p k n ts t m = laid-snoc (λ x. x) p k (λ x t. []) n ts t m
+
+laid-same : (m : Mem) (w : List ℕ) {r r′ e e′ : List ℕ} {c c′ : List ℤ} → r ≡ r′ → e ≡ e′ → c ≡ c′ → laidIn m w r e c ≡ laidIn m w r′ e′ c′
+laid-same m w a b d = rw (a, b, d)
+
+pub laid-none : (p k : ℕ) (weights degrees rings ends rings′ ends′ : List ℕ) (counters counters′ : List ℤ)
+    → Job p k weights degrees → Room p k rings ends counters
+    → rings′ ≡ replicate (length rings) 0 → ends′ ≡ replicate (length ends) 0 → counters′ ≡ replicate (length counters) (pos 0)
+    → Laid p k weights degrees 0 0 rings′ ends′ counters′
+unfolding rootsBelow joined rootsLaid
+laid-none p k weights degrees rings ends rings′ ends′ counters counters′ job room r e c =
+    record {
+      dealt = dealt-none p k weights degrees rings rings′ ends ends′ counters counters′ job room (ap length r ∙ length-replicate _ _) e c;
+      placed = λ m.
+          laid-same m weights (r ∙ ap (λ (n : ℕ). replicate n 0) (room .rings)) (e ∙ ap (λ (n : ℕ). replicate n 0) (room .ends))
+          (c ∙ ap (λ (n : ℕ). replicate n (pos 0)) (room .counters));
+    }
+
+module _ (p k : ℕ) (weights degrees : List ℕ) (t owner : ℕ) (rings ends : List ℕ) (counters : List ℤ)
+    (l : Laid p k weights degrees t owner rings ends counters) (h : t < length degrees) where
+  pub laid-skip : ¬ (getD degrees t 0 ≡ 0) → Laid p k weights degrees (t + 1) owner rings ends counters
+  laid-skip n =
+      record {
+        dealt = dealt-skip p k weights degrees t owner rings ends counters (l .dealt) h n;
+        placed = rw (below-skip degrees t n) (l .placed);
+      }
+
+  module _ (q : ℕ) (inside : q < p * p) (own : q ≡ owner * p + owner) (root : getD degrees t 0 ≡ 0) (rings′ ends′ : List ℕ) (counters′ : List ℤ)
+      (appends : ringsOf rings′ ends′ ≡ appendedAt k q t (ringsOf rings ends))
+      (raises : counters′ ≡ set counters q (getD counters q (pos 0) +ℤ pos (getD weights t 0))) where
+    joins : (m : Mem) → laidIn m weights rings′ ends′ counters′
+        ≡ written (join p k owner owner t (laidIn m weights rings ends counters)) (laidIn m weights rings ends counters)
+    unfolding written updated
+    joins m =
+        rw (← own)
+        (laid-same m weights
+        (new-rings p k weights degrees t owner rings ends counters (l .dealt) h q inside own root t rings′ ends′ counters′ appends raises)
+        (new-ends p k weights degrees t owner rings ends counters (l .dealt) h q inside own root t rings′ ends′ counters′ appends raises)
+        raises)
+
+    placed-after : Placed p k weights degrees (t + 1) rings′ ends′ counters′
+    placed-after m =
+        joins m
+        ∙ ap (λ (b : Mem). written (join p k owner owner t b) b) (l .placed m)
+        ∙ ap (λ (o : ℕ). written (join p k o o t before) before) (l .dealt .next ∙ ap (λ (n : ℕ). n % p) (omega arith))
+        ∙ sym (placed-snoc p k 0 (rootsBelow degrees t) t start)
+        ∙ ap (λ (ts : List ℕ). rootsPlaced p k 0 ts start) (sym (below-root degrees t root))
+      where
+        start : Mem
+        start = laidIn m weights (replicate (p * p * k) 0) (replicate (p * p * endWords) 0) (replicate (p * p) (pos 0))
+
+        before : Mem
+        before = rootsPlaced p k 0 (rootsBelow degrees t) start
+
+    pub laid-root : (next : ℕ) → next ≡ after p owner → Laid p k weights degrees (t + 1) next rings′ ends′ counters′
+    laid-root next e =
+        record {
+          dealt = dealt-root p k weights degrees t owner rings ends counters (l .dealt) h q inside own root t rings′ ends′ counters′ appends raises next e;
+          placed = placed-after;
+        }
 
 pub laid-whole : (p k : ℕ) (weights degrees : List ℕ) (t owner : ℕ) (rings ends : List ℕ) (counters : List ℤ)
     → Laid p k weights degrees t owner rings ends counters → length degrees ≤ t → Placed p k weights degrees (length degrees) rings ends counters
-laid-whole p k weights degrees t owner rings ends counters l h = rw (← at (l .upto)) (l .placed)
+laid-whole p k weights degrees t owner rings ends counters l h = rw (← at (l .dealt .upto)) (l .placed)
   where
     at : t ≤ length degrees → t ≡ length degrees
     at u = omega arith

@@ -13,8 +13,7 @@ use Rattle.graph.specs.Conditions.{Light}
 use Rattle.ring.specs.Ring.{capacity, ringWords, endWords, endsAt, filledEnds}
 use Rattle.memory.specs.Field as list
 use Rattle.memory.specs.Memory.{put}
-use Rattle.memory.specs.Shape.{fixedLength}
-use Rattle.rules.specs.Memory.{plain, Mem}
+use Rattle.rules.specs.Memory.{Mem}
 use Rattle.rules.specs.Begin.{rootsPlaced}
 use Rattle.rules.specs.Begun.{toRing}
 
@@ -50,13 +49,14 @@ pub record Job (p k : ℕ) (weights degrees : List ℕ) : Type 0 where
   -- "The roots' limit becomes P·K."
   pub few : length (rootsBelow degrees (length degrees)) ≤ p * capacity k
 
-pub record Room (p k : ℕ) (r e : List ℕ) (c : List ℤ) : Type 0 where
-  pub rings : length r ≡ fixedLength plain p k list.rings
-  pub ends : length e ≡ fixedLength plain p k list.ends
-  pub counters : length c ≡ fixedLength plain p k list.counters
+-- the lengths that P and K decide, whatever an item is
+pub record Room {A : Type 0} (p k : ℕ) (r : List A) (e : List ℕ) (c : List ℤ) : Type 0 where
+  pub rings : length r ≡ p * p * ringWords k
+  pub ends : length e ≡ p * p * endWords
+  pub counters : length c ≡ p * p
 
--- the roots below t are laid down, and the next one goes to the owner: what lets the next task be laid down
-pub record Laid (p k : ℕ) (weights degrees : List ℕ) (t owner : ℕ) (rings ends : List ℕ) (counters : List ℤ) : Type 0 where
+-- the roots below t are in their rings, and the next one goes to the owner: what lets the next task be laid down, whatever an item is
+pub record Dealt {A : Type 0} (p k : ℕ) (weights degrees : List ℕ) (t owner : ℕ) (rings : List A) (ends : List ℕ) (counters : List ℤ) : Type 0 where
   pub job : Job p k weights degrees
   pub room : Room p k rings ends counters
   pub upto : t ≤ length degrees
@@ -65,4 +65,8 @@ pub record Laid (p k : ℕ) (weights degrees : List ℕ) (t owner : ℕ) (rings 
   pub filled : (q : ℕ) → q < p * p → endsAt ends q ≡ filledEnds k (length (toRing p q 0 (rootsBelow degrees t)))
   -- no counter is above the weights of t tasks
   pub small : (q : ℕ) → q < p * p → (x : ℕ) × ((getD counters q (pos 0) ≡ pos x) × (x ≤ t * 65535))
+
+-- and they are laid down as the rules say
+pub record Laid (p k : ℕ) (weights degrees : List ℕ) (t owner : ℕ) (rings ends : List ℕ) (counters : List ℤ) : Type 0 where
+  pub dealt : Dealt p k weights degrees t owner rings ends counters
   pub placed : Placed p k weights degrees t rings ends counters

@@ -40,7 +40,7 @@ pub fn clear(words: &mut [u32])
     }
 }
 
-fn clear_counters(counters: &mut [i32])
+pub fn clear_counters(counters: &mut [i32])
     ensures { λ r. ⌜ now (counters .exit) ≡ replicate (length (now (counters .entry))) (pos 0) ⌝ }
 {
     let mut q = 0;

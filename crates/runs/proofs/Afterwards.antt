@@ -3,23 +3,18 @@
 use Prim.Native.Nat.{ℕ, _+_, _%_, _<_}
 use mathlib.Core.Path.{_≡_, refl, sym, _∙_}
 use mathlib.Core.Logic.{inl, inr}
-use mathlib.Core.List.{[], _∷_}
+use mathlib.Core.List.{[]}
 use native.Mathlib.Omega.{arith}
 use native.Mathlib.Decide.{ℕ-discrete}
 use native.Mathlib.Nat.{mod-lt}
-use Rattle.task.specs.Phases.{suits}
-use Rattle.task.specs.Refusals.{refused, wrongPhase, nothingThere, stepSays}
-use Rattle.task.specs.Rows.{row, only, Given}
+use Rattle.task.specs.Refusals.{refused, nothingThere}
 use Rattle.task.specs.declared.Limits.{Limits}
-use Rattle.task.specs.declared.Step.{Step}
 use Rattle.task.specs.declared.Step.the-variants.{Fetch, Start, Complete, Release}
 use Rattle.ring.specs.Ring.{Sound, Empty}
 use Rattle.ring.proofs.Queues.{queue-empty}
 use Rattle.rules.specs.Memory.{Mem, graphIn, ringNumber, endsIn, ringsIn, degreeIn, rowIn, pointerIn}
 use Rattle.rules.specs.Sizes.{Fits}
-use Rattle.rules.specs.Steps.{step}
-use Rattle.rules.specs.Tables.{GoesOn, scannedEnds, ownRows}
-use Rattle.plans.proofs.Headers.{fits-within}
+use Rattle.rules.specs.Tables.{GoesOn, scannedEnds}
 use Rattle.rules.proofs.Follows.{step-follows}
 use Rattle.algorithm1.specs.State.{State}
 use Rattle.algorithm1.specs.Reading.{queueIn, stateOf}
@@ -32,27 +27,11 @@ use Rattle.runs.specs.AtRest.{AtRest}
 use Rattle.runs.proofs.Invariant.{meaning}
 use Rattle.runs.proofs.Begun.{all-listed}
 use Rattle.runs.proofs.Waiting.{waiting-none}
+use Rattle.runs.proofs.Idle.{unsuited, own-row}
 use Rattle.runs.proofs.Honest.{systemIn, ends-sound, honest-under, honest-run}
 use Rattle.runs.proofs.Live.{row-phase, row-pointer, scan-sound}
 use Rattle.runs.proofs.LiveRelease.{places-good, pending-none}
 use Rattle.runs.proofs.Demand.{invariant-run, all-recorded, finished-full}
-
--- an idle worker's step where numbers and lists fit: 9 unless the step suits phase 0, else what the step's own rows say
-module _ (limits : Limits) (p k i : ℕ) (s : Step) (m : Mem) (fits : Fits limits p k m) (worker : i < p) (free : _≡_ {A = ℕ} (rowIn m i .phase) 0) where
-  late-row : (n d : ℕ) → Given (row wrongPhase (only (rowIn m i .phase) (¬ (rowIn m i .phase ≡ suits s))) ∷ ownRows s p k i m) n d
-      → stepSays (step limits p k i s m .answer) ≡ refused n d
-  late-row n d g =
-      step-follows limits p k i s m .refuses n d .1
-      (inr (
-        λ x c. fits-within limits p k m fits (c .1),
-        inr (λ x c. c .1 (fits .lengths), inr (λ x c. omega (arith, worker, c .1), inr (λ x c. omega (arith, free, c .1), g))),
-      ))
-
-  unsuited : ¬ (0 ≡ suits s) → stepSays (step limits p k i s m .answer) ≡ refused wrongPhase 0
-  unsuited n = late-row wrongPhase 0 (inl (refl, (sym free, λ e. n (sym free ∙ e))))
-
-  own-row : 0 ≡ suits s → (n d : ℕ) → Given (ownRows s p k i m) n d → stepSays (step limits p k i s m .answer) ≡ refused n d
-  own-row e n d g = late-row n d (inr (λ x c. c .1 (free ∙ e), g))
 
 module _ (r : Run) (f : Finished r) where
   abbrev p : ℕ
@@ -115,11 +94,11 @@ module _ (r : Run) (f : Finished r) where
         → (nextSays limits r i Fetch ≡ refused 10 0) × (nextSays limits r i Start ≡ refused 9 0)
         × (nextSays limits r i Complete ≡ refused 9 0) × (nextSays limits r i Release ≡ refused 10 0)
     finished-says limits w = (
-      own-row limits p k i Fetch now fits worker free refl nothingThere 0
+      own-row limits p k i Fetch now (step-follows limits p k i Fetch now) fits worker free refl nothingThere 0
           (inr (λ d c. omega (arith, row-pointer (honest-run r) i worker, c .1), inr (λ d c. scan-sound (honest-run r) i worker (c .1), inl (refl, (refl, scan-none))))),
-      unsuited limits p k i Start now fits worker free (λ e. omega (arith, e)),
-      unsuited limits p k i Complete now fits worker free (λ e. omega (arith, e)),
-      own-row limits p k i Release now fits worker free refl nothingThere 0
+      unsuited limits p k i Start now (step-follows limits p k i Start now) fits worker free (λ e. omega (arith, e)),
+      unsuited limits p k i Complete now (step-follows limits p k i Complete now) fits worker free (λ e. omega (arith, e)),
+      own-row limits p k i Release now (step-follows limits p k i Release now) fits worker free refl nothingThere 0
           (inr (λ d c. places-good (honest-run r) i worker (c .1), inl (refl, (refl, buffer-empty i worker)))),
     )
       where

@@ -1,8 +1,8 @@
 -- PROMISE: every run can be finished, with any limits that it keeps. While it isn't, some step is accepted next, and each adds 1 to the accepted word,
 -- which never passes 3N + E.
-use Prim.Native.Nat.{ℕ, zero, suc, _+_, _*_, _≤_, _<_}
+use Prim.Native.Nat.{ℕ, suc, _+_, _*_, _≤_, _<_}
 use mathlib.Core.Path.{_≡_, refl, sym, ap, _∙_, subst}
-use mathlib.Core.List.{List, [], _∷_, _++_, append-assoc, append-nil}
+use mathlib.Core.List.{[], _∷_}
 use native.Mathlib.Omega.{arith}
 use native.Mathlib.Decide.{decLe}
 use Rattle.task.specs.Rows.{Acceptance}
@@ -11,10 +11,11 @@ use Rattle.task.specs.declared.Step.{Step}
 use Rattle.machine.specs.Jobs as jobs
 use Rattle.machine.specs.Machine as machine
 use Rattle.machine.proofs.Lists.{memory-on}
+use Rattle.machine.proofs.Finishing.{longer-none, longer-longer, to-the-end}
 use Rattle.rules.specs.Memory.{tasks, edges, acceptedIn}
 use Rattle.rules.proofs.Moves.{accepted-step}
 use Rattle.rules.proofs.Moved.{counts}
-use Rattle.runs.specs.Calls.{Call, stepCall, leaves, plain, begunMemory, Run, KeptBy, memoryOf, eventsOf, longer}
+use Rattle.runs.specs.Calls.{Call, stepCall, leaves, plainCalls, plain, begunMemory, Run, KeptBy, memoryOf, eventsOf, longer}
 use Rattle.runs.specs.Demand.{acceptedCompletes, acceptedSteps, Finished, nextSays, CanFinish}
 use Rattle.runs.proofs.Calls.{tasks-reached, edges-reached}
 use Rattle.runs.proofs.Events.{accepted-word}
@@ -27,18 +28,8 @@ finished? r = go (decLe (tasks (r .lent)) (acceptedCompletes (eventsOf r)))
     go (yes h) = yes (record { completes = h })
     go (no n) = no (λ f. n (f .completes))
 
-module _ (r : Run) where
-  longer-none : longer r [] ≡ r
-  longer-none =
-      ap (λ (cs : List Call). record { limits = r .limits; workers = r .workers; slots = r .slots; lent = r .lent; accepts = r .accepts; calls = cs })
-      (append-nil (r .calls))
-
-  longer-longer : (cs ds : List Call) → longer (longer r cs) ds ≡ longer r (cs ++ ds)
-  longer-longer cs ds =
-      ap (λ (es : List Call). record { limits = r .limits; workers = r .workers; slots = r .slots; lent = r .lent; accepts = r .accepts; calls = es })
-      (append-assoc (r .calls) cs ds)
-
-  module _ (limits : Limits) (i : ℕ) (s : Step) (a : Acceptance (nextSays limits r i s)) where
+module _ (limits : Limits) (r : Run) where
+  module _ (i : ℕ) (s : Step) (a : Acceptance (nextSays limits r i s)) where
     abbrev c : Call
     c = stepCall limits (r .workers) (r .slots) i s
 
@@ -61,47 +52,32 @@ module _ (r : Run) where
           accepted-word r,
         )
 
-  module _ (limits : Limits) where
-    at-end : Finished r → CanFinish limits r
-    at-end f =
-        record {
-          further = [];
-          alike = tt;
-          taken = omega (arith, ap (λ (x : Run). acceptedSteps (eventsOf x)) longer-none);
-          finishes = subst Finished (sym longer-none) f;
-        }
-
     -- a step, and then the others
-    step-first : (i : ℕ) (s : Step) → Acceptance (nextSays limits r i s) → CanFinish limits (longer r (stepCall limits (r .workers) (r .slots) i s ∷ []))
-        → CanFinish limits r
-    step-first i s a rest =
+    step-first : CanFinish limits (longer r (c ∷ [])) → CanFinish limits r
+    step-first rest =
         record {
-          further = c limits i s a ∷ rest .further;
+          further = c ∷ rest .further;
           alike = ((i, s, refl), rest .alike);
-          taken = omega (arith, ap (λ (x : Run). acceptedSteps (eventsOf x)) same, rest .taken, one-more limits i s a);
+          taken = omega (arith, ap (λ (x : Run). acceptedSteps (eventsOf x)) same, rest .taken, one-more);
           finishes = subst Finished same (rest .finishes);
         }
       where
-        same : longer (longer r (c limits i s a ∷ [])) (rest .further) ≡ longer r (c limits i s a ∷ rest .further)
-        same = longer-longer (c limits i s a ∷ []) (rest .further)
+        same : longer (longer r (c ∷ [])) (rest .further) ≡ longer r (c ∷ rest .further)
+        same = longer-longer plainCalls r (c ∷ []) (rest .further)
 
--- n bounds how many steps are still to come
-module _ (limits : Limits) where
-  within : (n : ℕ) (r : Run) → KeptBy limits r → 3 * tasks (r .lent) + edges (r .lent) ≤ acceptedSteps (eventsOf r) + n → CanFinish limits r
-  within zero r w h = go (finished? r)
-    where
-      go : Dec (Finished r) → CanFinish limits r
-      go (yes f) = at-end r limits f
-      go (no u) = let (i, s, _, a) = demand-3 .one r .nextBy u limits w in absurd (omega (arith, h, below-all r limits i s a))
-  within (suc n) r w h = go (finished? r) (λ r′. within n r′)
-    where
-      go : Dec (Finished r)
-          → ((r′ : Run) → KeptBy limits r′ → 3 * tasks (r′ .lent) + edges (r′ .lent) ≤ acceptedSteps (eventsOf r′) + n → CanFinish limits r′)
-          → CanFinish limits r
-      go (yes f) later = at-end r limits f
-      go (no u) later =
-          let (i, s, _, a) = demand-3 .one r .nextBy u limits w in
-          step-first r limits i s a (later _ w (omega (arith, h, one-more r limits i s a)))
+  at-end : Finished r → CanFinish limits r
+  at-end f =
+      record {
+        further = [];
+        alike = tt;
+        taken = omega (arith, ap (λ (x : Run). acceptedSteps (eventsOf x)) (longer-none plainCalls r));
+        finishes = subst Finished (sym (longer-none plainCalls r)) f;
+      }
+
+  next-step : KeptBy limits r → ¬ (Finished r) → (i : ℕ) × (s : Step) × Acceptance (nextSays limits r i s)
+  next-step w u = let (i, s, _, a) = demand-3 .one r .nextBy u limits w in (i, s, a)
 
 pub can-finish : (r : Run) (limits : Limits) → KeptBy limits r → CanFinish limits r
-can-finish r limits w = within limits (3 * tasks (r .lent) + edges (r .lent)) r w (omega arith)
+can-finish r limits w =
+    to-the-end plainCalls limits (λ m. 3 * tasks m + edges m) Finished (KeptBy limits) (CanFinish limits) finished? (λ r cs w. w) (next-step limits)
+    (one-more limits) (below-all limits) (at-end limits) (step-first limits) r w

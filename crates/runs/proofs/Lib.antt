@@ -2,6 +2,7 @@ pub mod Calls
 pub mod Invariant
 pub mod Hands
 pub mod Waiting
+pub mod Rings
 pub mod Meaning
 pub mod Steps
 pub mod Begun
@@ -15,12 +16,14 @@ pub mod Recounts
 pub mod Events
 pub mod Weights
 pub mod Spares
+pub mod Turns
 pub mod Fair
 pub mod Live
 pub mod LiveRelease
 pub mod Demand
 pub mod Corollaries
 pub mod Wrong
+pub mod Idle
 pub mod Afterwards
 pub mod Undamaged
 pub mod Hosted

@@ -6,41 +6,34 @@ use mathlib.Core.Logic.{inl, inr}
 use mathlib.Core.List.{List, []}
 use native.Mathlib.Omega.{arith}
 use native.Mathlib.Decide.{ℕ-discrete}
-use native.Mathlib.Nat.{mod-lt}
 use lib.IntN.{ℤ}
 use lib.Signed.{leZ-yes, clashℤ}
 use Rattle.lists.specs.Lists.{occ}
-use Rattle.lists.proofs.Circles.{mod-reached}
 use Rattle.lists.proofs.Integers.{≤ℤ-trans}
-use Rattle.lists.proofs.Occurrences.{occ-hit}
-use Rattle.lists.proofs.Places.{place-end, place-lt}
 use Rattle.lists.proofs.Sums.{sum-prefix}
 use Rattle.task.specs.Refusals.{stepSays}
 use Rattle.task.specs.Rows.{Acceptance}
 use Rattle.task.specs.declared.Limits.{Limits}
 use Rattle.task.specs.declared.Step.the-variants.{Fetch, Start, Complete}
 use Rattle.task.specs.declared.StepOutcome.the-variants.{Moved, Fetched}
-use Rattle.ring.specs.Ring.{Empty, endWords, ringsOf, takenAt, queue}
-use Rattle.ring.proofs.Queues.{queue-empty, queue-take}
-use Rattle.choice.specs.Search.{Found, unsound, none, at}
+use Rattle.ring.specs.Ring.{Empty}
 use Rattle.memory.specs.Field as list
-use Rattle.rules.specs.Memory.{Mem, tasks, edges, ringNumber, endsIn, ringsIn, headWord, counterIn, succCount, rowIn, held, pointerIn, entriesIn, acceptedIn}
+use Rattle.rules.specs.Memory.{Mem, tasks, edges, ringNumber, headWord, counterIn, succCount, rowIn, held, pointerIn, entriesIn, acceptedIn}
 use Rattle.rules.specs.Updates.{Update}
 use Rattle.rules.specs.Steps.{scan, step}
-use Rattle.rules.specs.Tables.{Beyond2^30, GoesOn, BadEnds, StopsAt, scanned, scannedEnds, NextTask}
+use Rattle.rules.specs.Tables.{Beyond2^30, BadEnds, StopsAt, scanned, scannedEnds, NextTask}
 use Rattle.rules.specs.Moves.{Ranged, Completing, sink, inner, Completes}
-use Rattle.plans.proofs.Searches.{Looked}
-use Rattle.rules.proofs.Fetch.{scan-looked}
+use Rattle.plans.proofs.Searches.{scan-looked}
 use Rattle.rules.proofs.Makes.{allowed-accepted, good-ranged}
-use Rattle.algorithm1.specs.State.{Thread, State, queueOf, threadOf, waitingFor}
-use Rattle.algorithm1.specs.Reading.{threadIn, stateOf}
-use Rattle.algorithm1.proofs.Readings.{queue-at, thread-at, phase-at}
+use Rattle.algorithm1.specs.State.{Thread, State, threadOf, waitingFor}
+use Rattle.algorithm1.specs.Reading.{recordIn, threadIn, stateOf}
+use Rattle.algorithm1.proofs.Readings.{thread-at, phase-at}
 use Rattle.system.specs.Stages.{Hand, idle, fetched, running, phase}
 use Rattle.runs.specs.Items.{handOf}
 use Rattle.runs.specs.Counters.{Within}
 use Rattle.runs.proofs.Hands.{hand-phase, running-held}
-use Rattle.runs.proofs.Waiting.{lists-empty, list-waits}
-use Rattle.runs.proofs.Honest.{Honest, ends-sound}
+use Rattle.runs.proofs.Rings as rings
+use Rattle.runs.proofs.Honest.{Honest}
 use Rattle.runs.proofs.Weights.{honest-within}
 
 -- a counter of an honest run is far from the range's ends
@@ -77,46 +70,19 @@ module _ {limits : Limits} {p k : ℕ} {m : Mem} (h : Honest limits p k m) (i : 
   pub task-ranged : (t : ℕ) → t < tasks m → Ranged m t
   task-ranged t l = good-ranged m (h .fits .lengths .list list.succs) t l (h .good t l)
 
-  list-empty : (j : ℕ) → j < p → Empty (endsIn m (ringNumber p i j)) → queueOf state i j ≡ []
-  list-empty j l e = queue-at p k m i j worker l ∙ queue-empty 0 k (ringsIn m) (ringNumber p i j) (ends-sound h i worker j l) .0 e
-
-  -- the head of a ring waits
-  head-waits : (j : ℕ) → j < p → ¬ (Empty (endsIn m (ringNumber p i j))) → 0 < occ (headWord k m (ringNumber p i j)) (waitingFor p state i)
-  unfolding takenAt
-  head-waits j l n = list-waits p state i ℕ-discrete (headWord k m (ringNumber p i j)) j l (rw (queue-at p k m i j worker l) here)
-    where
-      here : 0 < occ (headWord k m (ringNumber p i j)) (queue 0 k (ringsIn m) (ringNumber p i j))
-      here =
-          rw (queue-take 0 k (ringsIn m) (ringNumber p i j) (ends-sound h i worker j l) n
-          (rw (h .fits .lengths .list list.ends) (place-end endWords (p * p) (ringNumber p i j) (place-lt p p i j worker l))))
-          (omega (
-            arith,
-            occ-hit ℕ-discrete (headWord k m (ringNumber p i j)) (headWord k m (ringNumber p i j))
-                (queue 0 k (ringsOf (m .rings) (takenAt 0 k (ringNumber p i j) (ringsIn m) .ends)) (ringNumber p i j)) refl,
-          ))
-
-  -- so the next task waits
+  -- the next task waits
   pub next-waits : (t : ℕ) → NextTask p k i m t → 0 < occ t (waitingFor p state i)
-  next-waits t (e, stop, q) =
-      rw q at (head-waits ((pointerIn m i + e) % p) (mod-lt (pointerIn m i + e) (h .fits .limits .oneWorker)) (stop .stops))
+  unfolding stateOf
+  next-waits t (e, stop, q) = rw q at (rings.next-waits (h .fits) (h .words .ends) i worker (recordIn m) ℕ-discrete e stop)
 
   -- the scan comes to no damaged ends
   pub scan-sound : ¬ (BadEnds p k Empty (scannedEnds p i m))
-  scan-sound (e, near, on, bad) = bad (ends-sound h i worker ((pointerIn m i + e) % p) (mod-lt (pointerIn m i + e) (h .fits .limits .oneWorker)))
+  scan-sound = rings.scan-sound (h .fits) (h .words .ends) i worker
 
   -- where a task waits, the scan stops
   scan-stops-at : ¬ (waitingFor p state i ≡ []) → (e : ℕ) × StopsAt p k Empty (scannedEnds p i m) e
-  scan-stops-at some = go (scan p k i m) (scan-looked p k i m)
-    where
-      all-empty : GoesOn k Empty (scannedEnds p i m) p → (j : ℕ) → j < p → queueOf state i j ≡ []
-      all-empty all j l =
-          let (d, near, e) = mod-reached p (pointerIn m i) j row-pointer l in
-          list-empty j l (rw e at (all d near .1))
-
-      go : (f : Found) → Looked p k Empty (scannedEnds p i m) (pointerIn m i) f → (e : ℕ) × StopsAt p k Empty (scannedEnds p i m) e
-      go unsound bad = absurd (scan-sound bad)
-      go none all = absurd (some (lists-empty p state i (all-empty all)))
-      go (at j) (e, stop, q) = (e, stop)
+  unfolding stateOf
+  scan-stops-at = rings.scan-stops-at (h .fits) (h .words .ends) i worker (recordIn m) row-pointer (scan p k i m) (scan-looked p k i m)
 
   -- the run isn't finished
   module _ (low : acceptedIn m < 3 * tasks m + edges m) where

@@ -6,7 +6,8 @@ use mathlib.Core.Logic.{inl, inr}
 use mathlib.Core.List.{List, [], _∷_, _++_}
 use native.Mathlib.Omega.{arith}
 use native.Mathlib.Decide.{ℕ-discrete, decLt}
-use native.Mathlib.Nat.{add-zero, mod-lt}
+use native.Mathlib.Nat.{add-zero}
+use lib.IntN.{ℤ, pos}
 use lib.ListN.{length, getD, length-append, length-drop, List·getD-eq-default, List·getD-append}
 use lib.Seq.{drop-nil, getD-drop}
 use Rattle.lists.specs.Lists.{tabulate, allOf}
@@ -15,6 +16,7 @@ use Rattle.lists.proofs.Appends.{head-same}
 use Rattle.lists.proofs.Blocks.{length-tabulate}
 use Rattle.lists.proofs.Decided.{stable}
 use Rattle.lists.proofs.Places.{place-parts}
+use Rattle.task.specs.Entries.{Entry}
 use Rattle.task.specs.Refusals.{stepSays}
 use Rattle.task.specs.Rows.{Acceptance}
 use Rattle.task.specs.declared.Limits.{Limits}
@@ -22,28 +24,29 @@ use Rattle.task.specs.declared.Row.{Row}
 use Rattle.task.specs.declared.Step.the-variants.{Release}
 use Rattle.task.specs.declared.StepOutcome.{StepOutcome}
 use Rattle.ring.specs.Ring.{Full}
-use Rattle.ring.proofs.Ends.{capacity-is}
-use Rattle.ring.proofs.Queues.{queue-full}
 use Rattle.choice.specs.Least.{load, least}
 use Rattle.choice.proofs.Least.{least-worker}
-use Rattle.memory.specs.Family.{Places}
+use Rattle.memory.specs.Family.{Family, Places}
+use Rattle.memory.specs.Memory as memory
 use Rattle.memory.specs.Field as list
-use Rattle.rules.specs.Memory.{Mem, tasks, edges, ringNumber, endsIn, ringsIn, counterIn, degreeIn, rowIn, succCount, acceptedIn, oldest, successor}
+use Rattle.plans.specs.Memory as words
+use Rattle.rules.specs.Memory.{Mem, tasks, edges, ringNumber, counterIn, degreeIn, rowIn, succCount, acceptedIn, oldest, successor}
 use Rattle.rules.specs.Updates.{Update}
 use Rattle.rules.specs.Steps.{step}
-use Rattle.rules.specs.Tables.{BadCounter, BadPlaces, BadEnds, StopsAt, offeredEnds}
+use Rattle.rules.specs.Tables.{Beyond2^30, BadCounter, BadPlaces, BadEnds, StopsAt, offeredEnds}
 use Rattle.rules.specs.Moves.{Ranged, Advances, next, last, Releasing, waiting, placed, Releases}
 use Rattle.rules.proofs.Makes.{allowed-accepted}
-use Rattle.algorithm1.specs.State.{Thread, State, successorsOf, queueOf, threadOf, waitingFor}
-use Rattle.algorithm1.specs.Reading.{threadIn, successorsIn, stateOf}
-use Rattle.algorithm1.proofs.Readings.{successors-at, queue-at, thread-at, length-successors, successor-at}
+use Rattle.split_lists.specs.Reading as reading
+use Rattle.split_lists.specs.Reading.{stateFrom}
+use Rattle.algorithm1.specs.State.{Thread, State, successorsOf, threadOf, waitingFor}
+use Rattle.algorithm1.specs.Reading.{recordIn, threadIn, successorsIn, stateOf}
+use Rattle.algorithm1.proofs.Readings.{successors-at, thread-at, length-successors, successor-at}
 use Rattle.algorithm1.proofs.Memories.{between, thread-from, places-fit, between-first}
 use Rattle.system.specs.Stages.{idle}
 use Rattle.runs.specs.Items.{handOf}
-use Rattle.runs.specs.Counters.{Within}
 use Rattle.runs.proofs.Invariant.{followers, pendingOf, Buffered}
-use Rattle.runs.proofs.Waiting.{waiting-none}
-use Rattle.runs.proofs.Honest.{Honest, ends-sound}
+use Rattle.runs.proofs.Rings as rings
+use Rattle.runs.proofs.Honest.{Honest}
 use Rattle.runs.proofs.Weights.{honest-within}
 use Rattle.runs.proofs.Live.{within-range, row-phase, joined-recorded, task-ranged}
 
@@ -89,15 +92,17 @@ none-pending s r b e = go (r .buffer) refl
           sym (length-drop (r .cursor) (followers s (r .buffer))) ∙ ap length e,
         ))
 
--- a number that isn't a task's has no successors
-successors-task : (p k : ℕ) (m : Mem) (t : ℕ) → 0 < length (successorsOf (stateOf p k m) t) → t < tasks m
-unfolding stateOf
-successors-task p k m t h =
-    stable (decLt t (tasks m))
+-- a number that isn't a task's has no successors, in a memory of any family
+pub successors-task : {F : Family} (p k : ℕ) (m : memory.Mem F) (entries : List (Entry (F .Item))) (t : ℕ)
+    → 0 < length (successorsOf (stateFrom p k m entries) t) → t < words.tasks m
+successors-task p k m entries t h =
+    stable (decLt t (words.tasks m))
     (λ n. omega (
       arith,
       h,
-      ap length (List·getD-eq-default (tabulate (tasks m) (successorsIn m)) [] {n = t} (omega (arith, n, length-tabulate (tasks m) (successorsIn m)))),
+      ap length
+          (List·getD-eq-default (tabulate (words.tasks m) (reading.successorsIn m)) [] {n = t}
+          (omega (arith, n, length-tabulate (words.tasks m) (reading.successorsIn m)))),
     ))
 
 -- the places after a Release
@@ -109,12 +114,16 @@ advanced count r h = go (ℕ-discrete (suc (r .cursor)) count)
     go (no n) = (_, next (omega (arith, h, n)))
 
 -- all P·P counters are in their range
-pub counters-within : (p : ℕ) (m : Mem) → ((i j : ℕ) → i < p → j < p → Within (counterIn m (ringNumber p i j))) → ¬ (BadCounter (p * p) (m .counters))
-counters-within p m within (q, l, beyond) =
+pub counters-within : (p : ℕ) (counters : List ℤ) → ((i j : ℕ) → i < p → j < p → ¬ (Beyond2^30 (getD counters (ringNumber p i j) (pos 0))))
+    → ¬ (BadCounter (p * p) counters)
+counters-within p counters within (q, l, beyond) =
     let (i, j, hi, hj, e) = place-parts p p q l in
-    within-range (counterIn m q) (rw e at (within i j hi hj)) beyond
+    rw e at (within i j hi hj) beyond
 
 module _ {limits : Limits} {p k : ℕ} {m : Mem} (h : Honest limits p k m) (i : ℕ) (worker : i < p) where
+  pub counters-good : ¬ (BadCounter (p * p) (m .counters))
+  counters-good = counters-within p (m .counters) (λ o j ho hj. within-range (counterIn m (ringNumber p o j)) (honest-within h o j ho hj))
+
   -- the buffer places end within N
   pub few-places : rowIn m i .write ≤ tasks m
   few-places = omega (arith, joined-recorded h i worker, h .words .entries)
@@ -147,6 +156,10 @@ module _ {limits : Limits} {p k : ℕ} {m : Mem} (h : Honest limits p k m) (i : 
       none : threadOf (stateOf p k m) i .buffer ≡ []
       none = none-pending (stateOf p k m) (threadOf (stateOf p k m) i) (h .sane .buffers i) e
 
+  task-due : (t : ℕ) → 0 < length (successorsOf (stateOf p k m) t) → t < tasks m
+  unfolding stateOf
+  task-due = successors-task p k m (recordIn m)
+
   -- the first that is due is the successor that the rules release, and their words are in their ranges
   pub releasing : (x : ℕ) (rest : List ℕ) → pendingOf (stateOf p k m) (threadOf (stateOf p k m) i) ≡ x ∷ rest
       → x < tasks m → 1 ≤ degreeIn m x → degreeIn m x ≤ tasks m → (to : Places) × Releasing i m to
@@ -173,7 +186,7 @@ module _ {limits : Limits} {p k : ℕ} {m : Mem} (h : Honest limits p k m) (i : 
       is-oldest = buffer-oldest (due .task) (due .others) (due .buffer)
 
       task : oldest m i < tasks m
-      task = rw is-oldest at (successors-task p k m (due .task) (omega (arith, due .inside)))
+      task = rw is-oldest at (task-due (due .task) (omega (arith, due .inside)))
 
       ranged : Ranged m (oldest m i)
       ranged = task-ranged h i worker (oldest m i) task
@@ -190,31 +203,12 @@ module _ {limits : Limits} {p k : ℕ} {m : Mem} (h : Honest limits p k m) (i : 
 
   -- no search for room comes to damaged ends
   pub room-sound : (j : ℕ) → ¬ (BadEnds p k (Full k) (offeredEnds p i m j))
-  room-sound j (e, near, on, bad) = bad (ends-sound h ((j + e) % p) (mod-lt (j + e) (h .fits .limits .oneWorker)) i worker)
+  room-sound = rings.room-sound (h .fits) (h .words .ends) i worker
 
-  -- an empty ring isn't full: it has two slots or more
-  empty-room : (o : ℕ) → o < p → queueOf (stateOf p k m) o i ≡ [] → ¬ (Full k (endsIn m (ringNumber p o i)))
-  empty-room o owner none full =
-      omega (
-        arith,
-        h .fits .limits .twoSlots,
-        capacity-is k,
-        sym (queue-full 0 k (ringsIn m) (ringNumber p o i) (ends-sound h o owner i worker) .0 full)
-            ∙ ap length (sym (queue-at p k m o i owner worker) ∙ none),
-      )
-
-  -- so where nothing waits, the search stops at its first ring
+  -- where nothing waits, the search stops at its first ring
   room-first : ((o : ℕ) → o < p → waitingFor p (stateOf p k m) o ≡ []) → (j : ℕ) → StopsAt p k (Full k) (offeredEnds p i m j) 0
-  room-first none j =
-      record {
-        inside = h .fits .limits .oneWorker;
-        goesOn = λ d l. absurd (omega (arith, l));
-        sound = ends-sound h ((j + 0) % p) owner i worker;
-        stops = empty-room ((j + 0) % p) owner (waiting-none p (stateOf p k m) ((j + 0) % p) (none ((j + 0) % p) owner) i worker);
-      }
-    where
-      owner : (j + 0) % p < p
-      owner = mod-lt (j + 0) (h .fits .limits .oneWorker)
+  unfolding stateOf
+  room-first = rings.room-first (h .fits) (h .words .ends) i worker (recordIn m)
 
   -- the run isn't finished
   module _ (low : acceptedIn m < 3 * tasks m + edges m) where
@@ -239,7 +233,7 @@ module _ {limits : Limits} {p k : ℕ} {m : Mem} (h : Honest limits p k m) (i : 
               to = to;
               common = common;
               ready = e;
-              counters = counters-within p m (honest-within h);
+              counters = counters-good;
               target = j;
               least = least-worker p (load p (m .counters)) (h .fits .limits .oneWorker) .0;
               distance = 0;

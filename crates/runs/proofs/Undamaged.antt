@@ -38,23 +38,23 @@ use Rattle.runs.proofs.Hands.{hand-running, hand-holds}
 use Rattle.runs.proofs.Honest.{Honest, honest-run}
 use Rattle.runs.proofs.Weights.{honest-within}
 use Rattle.runs.proofs.Live.{within-range, row-held, row-pointer, joined-recorded, task-ranged, next-waits, scan-sound}
-use Rattle.runs.proofs.LiveRelease.{counters-within, few-places, places-good, pending-none, releasing, room-sound}
+use Rattle.runs.proofs.LiveRelease.{counters-good, few-places, places-good, pending-none, releasing, room-sound}
 use Rattle.runs.proofs.Demand.{running-task, waiting-task, pending-task, running-open, low, unfinished-free, held-task}
 use Rattle.runs.proofs.Afterwards.{rests, scan-none}
 
 -- rows of which none that is given has one of the two numbers
-abbrev Ordinary : ℕ → Type 0
+abbrev pub Ordinary : ℕ → Type 0
 Ordinary n = ¬ (n ≡ damaged) × ¬ (n ≡ recordFull)
 
-record Harmless (rows : List Refusal) : Type 0 where
-  given : (n d : ℕ) → Given rows n d → Ordinary n
+pub record Harmless (rows : List Refusal) : Type 0 where
+  pub given : (n d : ℕ) → Given rows n d → Ordinary n
 
-harmless-end : Harmless []
+pub harmless-end : Harmless []
 harmless-end = record { given = λ n d g. absurd g }
 
 module _ {r : Refusal} {rows : List Refusal} where
   -- a row with another number
-  ordinary-row : Ordinary (r .number) → (Passed r → Harmless rows) → Harmless (r ∷ rows)
+  pub ordinary-row : Ordinary (r .number) → (Passed r → Harmless rows) → Harmless (r ∷ rows)
   ordinary-row o rest = record { given = go }
     where
       go : (n d : ℕ) → Given (r ∷ rows) n d → Ordinary n
@@ -62,7 +62,7 @@ module _ {r : Refusal} {rows : List Refusal} where
       go n d (inr (q, g)) = rest q .given n d g
 
   -- a row whose condition fails
-  failing-row : Passed r → Harmless rows → Harmless (r ∷ rows)
+  pub failing-row : Passed r → Harmless rows → Harmless (r ∷ rows)
   failing-row q rest = record { given = go }
     where
       go : (n d : ℕ) → Given (r ∷ rows) n d → Ordinary n
@@ -160,7 +160,7 @@ module _ (r : Run) where
         (failing-row (λ d c. omega (arith, c .1, found .cursor))
         (failing-row (λ d c. omega (arith, c .1, found .below))
         (failing-row (λ d c. released-good found (c .1))
-        (failing-row (λ d c. counters-within p now (honest-within h) (c .1 .1))
+        (failing-row (λ d c. counters-good h i worker (c .1 .1))
         (failing-row (λ d c. room-sound h i worker (c .1 .1 .0) (c .1 .1 .2))
         (ordinary-row (omega arith) (λ _.
         failing-row (λ d c. omega (arith, c .1 .1, h .graph .light (successor now i) (found .below)))

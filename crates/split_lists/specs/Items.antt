@@ -1,6 +1,6 @@
 -- The state of Algorithm 1 of source document 001, with the split lists and counters of its section 5.1, over the items that wait in its lists, are
 -- held and recorded. They are of any type A, and nothing here looks inside one. What the paper keeps of each task, and a thread's buffer of
--- completed tasks, goes by the task's number. A plain job's items are its tasks.
+-- completed tasks, goes by the task's number. A plain job's items are its tasks, a weak job's are copies of tasks.
 use Prim.Native.Nat.{ℕ}
 use mathlib.Core.List.{List, []}
 use lib.ListN.{getD}

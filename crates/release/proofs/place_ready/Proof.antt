@@ -18,7 +18,7 @@ place-requires c κs = (
   (
     c .before .before .before .before .before .before .before .before .before .before .before .before .before .before .before .before .before .pre .1,
     owner-takes _ _ _ _ _ _ _
-        (c .before .before .before .before .before .before .before .before .find-owner .ensures) _ _
+        (c .before .before .before .before .before .before .before .before .find-owner .ensures .1) _ _
         (c .before .before .before .before .before .before .found2 .given .1),
   ),
 )
@@ -32,7 +32,7 @@ same-length-2 c = search needs
 returns : tie.Need-returns
 returns c = (
   ready-refused _ _ _ _ _ _ _ _ _
-      (c .before .before .before .find-owner .ensures) _ _
+      (c .before .before .before .find-owner .ensures .1) _ _
       (c .before .found .given .1),
   tt,
 )
@@ -55,7 +55,7 @@ same-length-7 c = search needs
 returns-2 : tie.Need-returns-2
 returns-2 c = (
   ready-placed _ _ _ _ _ _ _ _ _
-      (c .before .before .before .before .before .before .before .before .before .before .before .before .before .before .before .before .before .before .find-owner .ensures) _ _
+      (c .before .before .before .before .before .before .before .before .before .before .before .before .before .before .before .before .before .before .find-owner .ensures .1) _ _
       (c .before .before .before .before .before .before .before .before .before .before .before .before .before .before .before .before .found2 .given .1) _ (c .before .before .before .before .before .before .before .before .before .place .result)
       (c .before .before .before .before .before .before .before .before .before .place .ensures .0),
   c .before .before .before .before .before .before .before .before .before .place .ensures .1,

@@ -25,7 +25,7 @@ ring-number-requires : tie.Need-ring-number-requires
 ring-number-requires c κs =
     omega (
       arith,
-      owner-ready _ _ _ _ _ _ _ _ _ (c .before .before .before .before .before .before .before .pre .0) (c .before .before .before .before .before .before .before .pre .1),
+      owner-ready _ _ _ _ _ _ _ _ _ (c .before .before .before .before .before .before .before .pre .0 .dealt) (c .before .before .before .before .before .before .before .pre .1),
     )
 
 mul-weight : tie.Need-mul-weight
@@ -40,7 +40,7 @@ ends-at-requires c κs = search needs
 append-in-requires : tie.Need-append-in-requires
 append-in-requires c κs =
     ring-ready _ _ _ _ _ _ _ _ _
-    (c .before .before .before .before .before .before .before .before .before .before .before .before .before .pre .0)
+    (c .before .before .before .before .before .before .before .before .before .before .before .before .before .pre .0 .dealt)
     (c .before .before .before .before .before .before .before .before .before .before .before .before .before .pre .1)
     _
     (c .before .before .before .before .before .ring-number .ensures .1)
@@ -50,7 +50,7 @@ append-in-requires c κs =
 raise-requires : tie.Need-raise-requires
 raise-requires c κs =
     counter-ready _ _ _ _ _ _ _ _ _
-    (c .before .before .before .before .before .before .before .before .before .before .before .before .before .before .before .before .before .before .before .pre .0)
+    (c .before .before .before .before .before .before .before .before .before .before .before .before .before .before .before .before .before .before .before .pre .0 .dealt)
     (c .before .before .before .before .before .before .before .before .before .before .before .before .before .before .before .before .before .before .before .pre .1)
     _
     (omega (arith, c .before .before .before .before .before .before .before .before .before .before .before .ring-number .ensures))
@@ -58,7 +58,7 @@ raise-requires c κs =
 after-worker-requires : tie.Need-after-worker-requires
 after-worker-requires c κs =
     owner-ready _ _ _ _ _ _ _ _ _
-    (c .before .before .before .before .before .before .before .before .before .before .before .before .before .before .before .before .before .before .before .before .before .pre .0)
+    (c .before .before .before .before .before .before .before .before .before .before .before .before .before .before .before .before .before .before .before .before .before .pre .0 .dealt)
     (c .before .before .before .before .before .before .before .before .before .before .before .before .before .before .before .before .before .before .before .before .before .pre .1) .1
 
 same-length : tie.Need-same-length
