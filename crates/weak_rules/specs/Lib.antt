@@ -1,0 +1,9 @@
+pub mod Memory
+pub mod Words
+pub mod Updates
+pub mod Plans
+pub mod Steps
+pub mod Begin
+pub mod Begun
+pub mod Tables
+pub mod Moves
