@@ -1,0 +1,4 @@
+pub mod State
+pub mod Algorithm
+pub mod Reading
+pub mod Promise
