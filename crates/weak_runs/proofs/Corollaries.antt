@@ -1,0 +1,192 @@
+-- What follows for a weak run at any time: no copy is recorded before the copies of its predecessor, copies of one task are in no order, no two workers
+-- hold copies of one task; and for a finished one: it records the same copies as any other of its graph, and accepts no further step. With N 0 begun is finished.
+use Prim.Native.Nat.{ℕ, _<_}
+use mathlib.Core.Path.{_≡_, sym, ap, _∙_}
+use mathlib.Core.Logic.{inl}
+use mathlib.Core.List.{List}
+use native.Mathlib.Omega.{arith}
+use native.Mathlib.Decide.{ℕ-discrete}
+use lib.ListN.{length, getD}
+use lib.IntN.{pos}
+use Rattle.lists.specs.Decided.{tally}
+use Rattle.lists.specs.Lists.{occOf, placeOf}
+use Rattle.lists.specs.Sums.{sumOf}
+use Rattle.lists.proofs.Blocks.{getD-tabulate}
+use Rattle.lists.proofs.Decided.{stable, both?}
+use Rattle.lists.proofs.Occurrences.{at-occ}
+use Rattle.lists.proofs.Positions.{place-member, place-at, place-least, before-member}
+use Rattle.lists.proofs.Sums.{sum-zero}
+use Rattle.task.specs.Refusals.{Said, answerSays, refused, recordFull}
+use Rattle.task.specs.Rows.{Acceptance}
+use Rattle.task.specs.declared.Limits.{Limits}
+use Rattle.task.specs.declared.Answer.{Answer}
+use Rattle.task.specs.declared.Answer.the-variants as answer
+use Rattle.task.specs.declared.Step.{Step}
+use Rattle.task.specs.declared.Step.the-variants.{Complete}
+use Rattle.weak_task.specs.Says.{stepSays}
+use Rattle.weak_task.specs.declared.WeakOutcome.{WeakOutcome}
+use Rattle.weak_task.specs.declared.WeakAnswer.{WeakAnswer}
+use Rattle.weak_task.specs.declared.WeakAnswer.the-variants.{Refused}
+use Rattle.graph.specs.Graph.{Graph, predsOf}
+use Rattle.graph.specs.Conditions.{EndsFit}
+use Rattle.graph.proofs.Reversed.{length-roots}
+use Rattle.choice.specs.Least.{load, Least}
+use Rattle.choice.proofs.Least.{least-same}
+use Rattle.exchange.specs.Exchange.{Unordered}
+use Rattle.machine.specs.Jobs as jobs
+use Rattle.copies.specs.Copies.{Copy, sameCopy, Before}
+use Rattle.copies.proofs.Runs.{weak-order}
+use Rattle.copies.proofs.Unordered.{copies-unordered}
+use Rattle.plans.specs.Sizes.{KeepsLimits}
+use Rattle.plans.proofs.Headers.{kept, not-beyond}
+use Rattle.weak_rules.specs.Memory.{Mem, tasks, edges, graphIn, weightIn, rowIn, held, entriesIn}
+use Rattle.weak_rules.specs.Updates.{Update}
+use Rattle.weak_rules.specs.Plans.{Result, resultOf}
+use Rattle.weak_rules.specs.Steps.{step}
+use Rattle.weak_rules.specs.Begin.{begin}
+use Rattle.weak_rules.specs.Moves.{ReleasesFirst}
+use Rattle.weak_rules.proofs.Limits.{beyond-2}
+use Rattle.weak_rules.proofs.Moves.{accepted-step}
+use Rattle.weak_rules.proofs.Numbers.{TwoOrOne, other-step, other-begin}
+use Rattle.weak_algorithm.specs.State.{noItem}
+use Rattle.weak_runs.specs.Calls.{stepCall, beginCall, says, leaves, acceptedSteps, acceptedCompletes, Run, KeptBy, memoryOf, eventsOf, graphOf, rootsOf}
+use Rattle.weak_runs.specs.Counters.{openOf}
+use Rattle.weak_runs.specs.Demand.{Finished, copyWords, orderOf, OneGraph}
+use Rattle.weak_runs.proofs.Invariant.{systemIn}
+use Rattle.weak_runs.proofs.Calls.{accepted-fits, graph-reached, tasks-reached, edges-reached}
+use Rattle.weak_runs.proofs.Events.{entries-word, roots-word}
+use Rattle.weak_runs.proofs.Honest.{honest-run}
+use Rattle.weak_runs.proofs.Live.{recorded-length}
+use Rattle.weak_runs.proofs.Sums.{counters-add-up}
+use Rattle.weak_runs.proofs.FixedWorkers.{fixed-workers}
+use Rattle.weak_runs.proofs.Ranges.{undamaged}
+use Rattle.weak_runs.proofs.Demand.{run-sound, run-once, recorded-words, finished-count, finished-order, order-agreed, demand-3}
+
+module _ (r : Run) where
+  abbrev now : Mem
+  now = memoryOf r
+
+  -- no two workers hold copies of one task: they are all its worker's
+  pub one-holder : (i j : ℕ) → i < r .workers → j < r .workers → ¬ (_≡_ {A = ℕ} (rowIn (memoryOf r) i .phase) 0)
+      → ¬ (_≡_ {A = ℕ} (rowIn (memoryOf r) j .phase) 0) → held (memoryOf r) i .task ≡ held (memoryOf r) j .task → i ≡ j
+  one-holder i j hi hj bi bj e =
+      omega (arith, fixed-workers .inHand r i hi bi, fixed-workers .inHand r j hj bj, ap (λ (t : ℕ). getD (now .fixed) t 0) e)
+
+  -- a copy of a recorded copy's predecessor is recorded before it
+  recorded-early : (x : ℕ) (b : Copy) → x < entriesIn now → Before (graphIn now) b (copyWords now x) → (y : ℕ) × (y < x) × (copyWords now y ≡ b)
+  recorded-early x b inside e =
+      (y, omega (arith, before, place-least sameCopy noItem l x within, ap (λ (c : Copy). placeOf sameCopy c l) (at x inside)), there)
+    where
+      l : List Copy
+      l = systemIn (r .workers) (r .slots) now .stages .done
+
+      within : x < length l
+      within = omega (arith, inside, recorded-length (honest-run r))
+
+      at : (z : ℕ) → z < entriesIn now → getD l z noItem ≡ copyWords now z
+      at z h = ap (λ (l : List Copy). getD l z noItem) (recorded-words r) ∙ getD-tabulate (entriesIn now) (copyWords now) noItem z h
+
+      y : ℕ
+      y = placeOf sameCopy b l
+
+      before : y < placeOf sameCopy (copyWords now x) l
+      before =
+          weak-order (graphIn now) (run-sound r) (run-once r) (r .workers) (honest-run r .weak) b (copyWords now x) e
+          (rw (at x inside) at (at-occ sameCopy noItem l x within))
+
+      member : 0 < occOf sameCopy b l
+      member = before-member sameCopy b (copyWords now x) l before
+
+      there : copyWords now y ≡ b
+      there = sym (at y (omega (arith, place-member sameCopy b l member, recorded-length (honest-run r)))) ∙ place-at sameCopy noItem b l member
+
+-- finished runs of one graph record the same copies
+pub same-copies : (r r′ : Run) → OneGraph r r′ → Finished r → Finished r′ → (c : Copy) → occOf sameCopy c (orderOf r) ≡ occOf sameCopy c (orderOf r′)
+same-copies r r′ o f f′ c = finished-order r f .once c ∙ sym (order-agreed r r′ o (finished-order r′ f′) .once c)
+
+-- in an unfinished run too, the record has every copy behind all copies of its predecessor
+pub never-early : (r : Run) (x : ℕ) (b : Copy) → x < acceptedCompletes (eventsOf r) → Before (graphOf r) b (copyWords (memoryOf r) x)
+    → (y : ℕ) × (y < x) × (copyWords (memoryOf r) y ≡ b)
+never-early r x b h e = recorded-early r x b (omega (arith, h, entries-word r)) (before-as (graph-reached r) e)
+  where
+    before-as : {g g′ : Graph} {c : Copy} → g′ ≡ g → Before g b c → Before g′ b c
+    before-as q e = rw q e
+
+-- "copies of one task may pass each other": the graph doesn't order them
+pub copies-pass : (r : Run) (b c : Copy) → b .task ≡ c .task → Unordered (Before (graphOf r)) b c
+copies-pass r b c e = rw (sym (graph-reached r)) (copies-unordered (graphIn (memoryOf r)) (run-sound r) (honest-run r .graph .graph) b c e)
+
+-- a finished run accepts no further step, whatever the limits, P, K and worker
+pub no-more : (r : Run) → Finished r → (limits : Limits) (p k i : ℕ) (s : Step) → ¬ (Acceptance (stepSays (step limits p k i s (memoryOf r) .answer)))
+no-more r f limits p k i s a =
+    omega (arith, accepted-step limits p k i s (memoryOf r) a .allowed .low, finished-count r f, edges-reached r, roots-word r)
+
+-- N 0: "0 steps, begun is finished", whatever is called
+pub nothing-finished : (r : Run) → _≡_ {A = ℕ} (tasks (r .lent)) 0 → Finished r × (_≡_ {A = ℕ} (acceptedSteps (eventsOf r)) 0)
+nothing-finished r none = (finished, omega (arith, no-edges, no-roots, demand-3 .one r .steps finished))
+  where
+    ends : EndsFit (graphOf r)
+    ends = rw (graph-reached r) at (run-sound r .ends)
+
+    no-edges : _≡_ {A = ℕ} (edges (r .lent)) 0
+    no-edges = omega (arith, rw none at (ends .last), ends .first)
+
+    no-roots : _≡_ {A = ℕ} (rootsOf r) 0
+    no-roots =
+        length-roots (graphOf r)
+        ∙ sum-zero (tasks (r .lent)) (λ t. tally (ℕ-discrete (length (predsOf (graphOf r) t)) 0)) (λ t h. absurd (omega (arith, h, none)))
+
+    finished : Finished r
+    finished = record { completes = omega (arith, no-edges, no-roots) }
+
+-- "A call with another P or K than begin's meets 2 or 1.", a step or a begin, at any time of the run and whatever its limits
+pub other-numbers : (r : Run) (limits : Limits) (p k : ℕ) → ¬ ((p ≡ r .workers) × (k ≡ r .slots))
+    → ((i : ℕ) (s : Step) → TwoOrOne (stepSays (step limits p k i s (memoryOf r) .answer)))
+    × TwoOrOne (answerSays (begin limits p k (memoryOf r) .answer))
+other-numbers r limits p k n = (
+  other-step limits (r .workers) (r .slots) p k (memoryOf r) (honest-run r .fits .lengths) n,
+  other-begin limits (r .workers) (r .slots) p k (memoryOf r) (honest-run r .fits .lengths) n,
+)
+
+-- a call beyond its limits is refused with 2 and leaves all words, a step or a begin, at any time of the run
+pub beyond-limits : (r : Run) (limits : Limits) (p k : ℕ) → ¬ (KeepsLimits limits p k (tasks (r .lent)) (edges (r .lent)))
+    → ((i : ℕ) (s : Step) → (says (stepCall limits p k i s) (memoryOf r) ≡ refused 2 0) × (leaves (stepCall limits p k i s) (memoryOf r) ≡ memoryOf r))
+    × ((says (beginCall limits p k) (memoryOf r) ≡ refused 2 0) × (leaves (beginCall limits p k) (memoryOf r) ≡ memoryOf r))
+unfolding jobs.says jobs.leaves
+beyond-limits r limits p k n = (
+  λ i s. (ap (λ (x : Result WeakAnswer). stepSays (x .answer)) (two .1 i s), ap (λ (x : Result WeakAnswer). x .memory) (two .1 i s)),
+  (ap (λ (x : Result Answer). answerSays (x .answer)) (two .0), ap (λ (x : Result Answer). x .memory) (two .0)),
+)
+  where
+    two : (begin limits p k (memoryOf r) ≡ resultOf (answer.Refused 2 0) (memoryOf r))
+        × ((i : ℕ) (s : Step) → step limits p k i s (memoryOf r) ≡ resultOf (Refused 2 0) (memoryOf r))
+    two = beyond-2 limits p k (memoryOf r) (λ w. n (rw (sym (tasks-reached r), sym (edges-reached r)) w))
+
+-- so the run keeps the limits of every step and begin that is accepted, whatever its P and K
+pub accepted-kept : (r : Run) (limits : Limits) (p k : ℕ)
+    → ((i : ℕ) (s : Step) → Acceptance (says (stepCall limits p k i s) (memoryOf r)) → KeptBy limits r)
+    × (Acceptance (says (beginCall limits p k) (memoryOf r)) → KeptBy limits r)
+unfolding jobs.says
+accepted-kept r limits p k = (
+  λ i s a. keeps _ a (λ n. beyond-limits r limits p k n .0 i s .0) (λ n. other-numbers r limits p k n .0 i s),
+  λ a. keeps _ a (λ n. beyond-limits r limits p k n .1 .0) (λ n. other-numbers r limits p k n .1),
+)
+  where
+    keeps : (said : Said) → Acceptance said → (¬ (KeepsLimits limits p k (tasks (r .lent)) (edges (r .lent))) → said ≡ refused 2 0)
+        → (¬ ((p ≡ r .workers) × (k ≡ r .slots)) → TwoOrOne said) → KeptBy limits r
+    keeps said a beyond other =
+        let (ep, ek) = stable (both? p k (r .workers) (r .slots)) (λ n. accepted-fits said a (other n)) in
+        rw (sym ep, sym ek, sym (tasks-reached r), sym (edges-reached r))
+        (kept limits p k (memoryOf r)
+        (λ b. accepted-fits said a (inl (beyond (λ w. not-beyond limits p k (memoryOf r) (rw (tasks-reached r, edges-reached r) w) b)))))
+
+-- in memory begun and stepped by the engine Complete never meets 12, whatever the limits, P, K and worker
+pub never-full : (r : Run) (limits : Limits) (p k i d : ℕ) → ¬ (stepSays (step limits p k i Complete (memoryOf r) .answer) ≡ refused recordFull d)
+never-full r limits p k i d = undamaged .next r limits p k i Complete .notFull d
+
+-- "target j is the worker with the least sum of its P counters": in a run that is the least weight of the tasks fixed to it and not complete. Of
+-- every Release that makes a task's first copy.
+pub lightest : (r : Run) (i : ℕ) (o : WeakOutcome) (us : List Update) (f : ReleasesFirst (r .workers) (r .slots) i (memoryOf r) o us)
+    → Least (λ h. h < r .workers) (λ h. pos (sumOf (weightIn (r .lent)) (openOf (memoryOf r) h))) (f .target)
+unfolding load
+lightest r i o us f = least-same (λ h l. sym (counters-add-up .words r h l)) (f .least)

@@ -1,0 +1,154 @@
+-- Weak runs, computed: the weak diamond by the desk's turns and by one worker, what demand 3's `two` says of these two, and an unfinished run in which a
+-- Release is refused with 11 while another worker may go on.
+use Prim.Native.Nat.{ℕ}
+use mathlib.Core.Path.{_≡_, refl}
+use mathlib.Core.List.{List, [], _∷_, _++_}
+use native.Mathlib.Omega.{arith}
+use native.Mathlib.Decide.{ℕ-discrete, decLe, decLt}
+use lib.ListN.{replicate}
+use Rattle.lists.specs.Decided.{firstBelow}
+use Rattle.lists.specs.Lists.{occOf, placeOf, joined, tabulate, allOf}
+use Rattle.lists.specs.Sums.{sumTo, sumToZ}
+use Rattle.lists.specs.Circles.{after, around}
+use Rattle.task.specs.Types.{engine, capped}
+use Rattle.task.specs.Phases.{nextPhase}
+use Rattle.task.specs.Refusals.{refused, accepted}
+use Rattle.task.specs.declared.Step.{Step}
+use Rattle.task.specs.declared.Step.the-variants.{Fetch, Start, Complete, Release}
+use Rattle.weak_task.specs.Types.{Copy, copy}
+use Rattle.weak_task.specs.Says.{copyFetched}
+use Rattle.graph.specs.Graph.{part}
+use Rattle.graph.specs.Check.{sizesFit, firstBad, firstTwice, firstOnCycle, tablesAnswer, checkAnswer}
+use Rattle.graph.specs.Decide.{below?, among?, light?, good?, bad?, endsFit?, twice?, twiceIn?, find-twice, edge?, thru?, path?, leads?, onCycle?}
+use Rattle.graph.specs.Successors.{succsBelow, succStart, succStarts, succWords, roots}
+use Rattle.ring.specs.Ring.{capacity, slotAt, endsAt, storeEnds, sound, empty, full, headOn, tailOn}
+use Rattle.choice.specs.Least.{load, leastFrom, least}
+use Rattle.choice.specs.Search.{search}
+use Rattle.exchange.specs.Exchange.{Chain, ahead, differ}
+use Rattle.copies.specs.Copies.{sameCopy, isCopy, Before}
+use Rattle.machine.specs.Jobs as jobs
+use Rattle.machine.specs.Machine as machine
+use Rattle.memory.specs.Shape.{allFit}
+use Rattle.memory.specs.Updates.{storeWords, updated, written}
+use Rattle.plans.specs.Sizes.{numbersFit, othersFit, lengthsFit}
+use Rattle.plans.specs.Laying.{rootsLaid}
+use Rattle.weak_rules.specs.Memory.{Mem, graphIn, allSteps, allEntries}
+use Rattle.weak_rules.specs.Words.{countersFit}
+use Rattle.weak_rules.specs.Plans.{counted, carriedOut}
+use Rattle.weak_rules.specs.Steps.{scan, fetchCopy, fetchFrom, fetchRule, startRule, completeCopy, completeSink, completeInner, completeLast, completeRule, advanced, findRoom, releaseTo, releaseFirst, releaseLater, releaseRule, ruleOf, stepPlan, step}
+use Rattle.weak_rules.specs.Begin.{weakDegrees, cleared, begun, rootsAnswer, beginAnswer, begin}
+use Rattle.weak_rules.proofs.Examples.{lent, beginSays, diamond, crowded}
+use Rattle.weak_runs.specs.Calls.{Call, stepCall, acceptedSteps, Run, memoryOf, eventsOf}
+use Rattle.weak_runs.specs.Demand.{Finished, orderOf, OneGraph, nextSays}
+use Rattle.weak_runs.proofs.Demand.{demand-3}
+
+-- the diamond for one worker
+abbrev pub alone : Mem
+alone = lent 1 4 (0 ∷ 5 ∷ 3 ∷ 0 ∷ []) (0 ∷ 0 ∷ 1 ∷ 2 ∷ 4 ∷ []) (0 ∷ 0 ∷ 1 ∷ 2 ∷ [])
+
+pub begins : (beginSays 2 4 diamond ≡ accepted) × (beginSays 1 4 alone ≡ accepted) × (beginSays 2 2 crowded ≡ accepted)
+unfolding ℕ-discrete decLe decLt firstBelow occOf joined tabulate allOf sumTo after around capped nextPhase part sizesFit firstBad firstTwice firstOnCycle tablesAnswer checkAnswer below? among? light? good? bad? endsFit? twice? twiceIn? find-twice edge? thru? path? leads? onCycle? succsBelow succStart succStarts succWords roots capacity slotAt endsAt storeEnds sound empty full headOn tailOn sumToZ load leastFrom least search allSteps allEntries numbersFit allFit othersFit lengthsFit countersFit storeWords updated written counted carriedOut scan fetchCopy fetchFrom fetchRule startRule completeCopy completeSink completeInner completeLast completeRule advanced findRoom releaseTo releaseFirst releaseLater releaseRule ruleOf stepPlan step weakDegrees rootsLaid cleared begun rootsAnswer beginAnswer begin
+begins = (refl, refl, refl)
+
+-- the desk's turns: the steps that were accepted in them, and worker 1's first Fetch, when its rings are empty
+abbrev by : ℕ → Step → Call
+by = stepCall engine 2 4
+
+abbrev pub deskTurns : Run
+deskTurns =
+    record {
+      limits = engine;
+      workers = 2;
+      slots = 4;
+      lent = diamond;
+      accepts = begins .0;
+      calls =
+          by 0 Fetch ∷ by 1 Fetch ∷ by 0 Start ∷ by 0 Complete ∷ by 0 Release ∷ by 0 Release ∷ by 1 Fetch ∷ by 0 Fetch ∷ by 1 Start ∷ by 0 Start
+          ∷ by 1 Complete ∷ by 0 Complete ∷ by 1 Release ∷ by 0 Release ∷ by 0 Fetch ∷ by 0 Start ∷ by 0 Complete ∷ by 0 Fetch ∷ by 0 Start
+          ∷ by 0 Complete ∷ [];
+    }
+
+-- one worker, which releases what it can before it fetches
+abbrev runsOne : List Call
+runsOne = stepCall engine 1 4 0 Fetch ∷ stepCall engine 1 4 0 Start ∷ stepCall engine 1 4 0 Complete ∷ []
+
+abbrev releases : Call
+releases = stepCall engine 1 4 0 Release
+
+abbrev pub oneWorker : Run
+oneWorker =
+    record {
+      limits = engine;
+      workers = 1;
+      slots = 4;
+      lent = alone;
+      accepts = begins .1;
+      calls = runsOne ++ (releases ∷ releases ∷ []) ++ runsOne ++ (releases ∷ []) ++ runsOne ++ (releases ∷ []) ++ runsOne ++ runsOne;
+    }
+
+-- the second copy of task 4 finds the ring of its worker full
+abbrev crowd : ℕ → Step → Call
+crowd = stepCall engine 2 2
+
+abbrev pub crowdedRun : Run
+crowdedRun =
+    record {
+      limits = engine;
+      workers = 2;
+      slots = 2;
+      lent = crowded;
+      accepts = begins .2;
+      calls =
+          crowd 0 Fetch ∷ crowd 0 Start ∷ crowd 0 Complete ∷ crowd 0 Release ∷ crowd 1 Fetch ∷ crowd 1 Start ∷ crowd 1 Complete ∷ crowd 1 Release
+          ∷ crowd 1 Release ∷ [];
+    }
+
+abbrev pub deskOrder : List Copy
+deskOrder = copy 0 65535 ∷ copy 2 0 ∷ copy 1 0 ∷ copy 3 2 ∷ copy 3 1 ∷ []
+
+abbrev pub risingOrder : List Copy
+risingOrder = copy 0 65535 ∷ copy 1 0 ∷ copy 2 0 ∷ copy 3 1 ∷ copy 3 2 ∷ []
+
+pub record Examples : Type 0 where
+  pub finished : Finished deskTurns × Finished oneWorker
+  pub agree : OneGraph deskTurns oneWorker
+  -- "4E + 3R accepted steps", "E + R copies used", nine words of the record unused
+  pub steps : (acceptedSteps (eventsOf deskTurns) ≡ 19) × (acceptedSteps (eventsOf oneWorker) ≡ 19)
+  pub counted : (memoryOf deskTurns .run ≡ 5 ∷ 19 ∷ 1 ∷ []) × (memoryOf oneWorker .run ≡ 5 ∷ 19 ∷ 1 ∷ [])
+  pub recorded : memoryOf deskTurns .executed ≡ 0 ∷ 65535 ∷ 0 ∷ 2 ∷ 0 ∷ 1 ∷ 1 ∷ 0 ∷ 0 ∷ 3 ∷ 2 ∷ 0 ∷ 3 ∷ 1 ∷ 0 ∷ replicate 9 0
+  pub recordedAlone : memoryOf oneWorker .executed ≡ 0 ∷ 65535 ∷ 0 ∷ 1 ∷ 0 ∷ 0 ∷ 2 ∷ 0 ∷ 0 ∷ 3 ∷ 1 ∷ 0 ∷ 3 ∷ 2 ∷ 0 ∷ replicate 9 0
+  pub orders : (orderOf deskTurns ≡ deskOrder) × (orderOf oneWorker ≡ risingOrder)
+  -- the copies of tasks 1 and 2, and the two copies of task 3: "copies of one task may pass each other"
+  pub differing : differ sameCopy deskOrder risingOrder ≡ 2
+  -- an unfinished run: worker 1's Release is refused with 11, and worker 0 may fetch
+  pub unfinished : ¬ (Finished crowdedRun)
+  pub full : nextSays engine crowdedRun 1 Release ≡ refused 11 4
+  pub goesOn : nextSays engine crowdedRun 0 Fetch ≡ copyFetched (copy 2 1)
+
+pub examples : Examples
+unfolding ℕ-discrete decLe decLt firstBelow occOf joined tabulate allOf sumTo after around capped nextPhase part sizesFit firstBad firstTwice firstOnCycle tablesAnswer checkAnswer below? among? light? good? bad? endsFit? twice? twiceIn? find-twice edge? thru? path? leads? onCycle? succsBelow succStart succStarts succWords roots capacity slotAt endsAt storeEnds sound empty full headOn tailOn sumToZ load leastFrom least search allSteps allEntries numbersFit allFit othersFit lengthsFit countersFit storeWords updated written counted carriedOut scan fetchCopy fetchFrom fetchRule startRule completeCopy completeSink completeInner completeLast completeRule advanced findRoom releaseTo releaseFirst releaseLater releaseRule ruleOf stepPlan step weakDegrees rootsLaid cleared begun rootsAnswer beginAnswer begin jobs.says jobs.leaves machine.began machine.memoryAfter machine.recalled machine.eventsAfter machine.acceptedOf orderOf placeOf ahead differ sameCopy
+examples =
+    record {
+      finished = (record { completes = omega arith }, record { completes = omega arith });
+      agree = record { sameTasks = refl; sameEdges = λ u t. (λ e. e, λ e. e) };
+      steps = (refl, refl);
+      counted = (refl, refl);
+      recorded = refl;
+      recordedAlone = refl;
+      orders = (refl, refl);
+      differing = refl;
+      unfinished = λ f. omega (arith, f .completes);
+      full = refl;
+      goesOn = refl;
+    }
+
+-- two exchanges of neighbours that the graph doesn't order lead from one record's order to the other's, every list on the way being allowed
+pub two-exchanges : Chain sameCopy (isCopy (graphIn diamond)) (Before (graphIn diamond)) deskOrder risingOrder 2
+two-exchanges =
+    as-computed (examples .orders .0) (examples .orders .1) (examples .differing)
+    (demand-3 .two deskTurns oneWorker (examples .agree) (examples .finished .0) (examples .finished .1) .chain)
+  where
+    as-computed : {a b k l : List Copy} {n : ℕ} → a ≡ k → b ≡ l → differ sameCopy k l ≡ n
+        → Chain sameCopy (isCopy (graphIn diamond)) (Before (graphIn diamond)) a b (differ sameCopy a b)
+        → Chain sameCopy (isCopy (graphIn diamond)) (Before (graphIn diamond)) k l n
+    as-computed e q d c = rw (← d, ← e, ← q) c

@@ -1,0 +1,10 @@
+pub mod Calls
+pub mod Demand
+pub mod RunWords
+pub mod Counters
+pub mod Fixed
+pub mod Fairness
+pub mod Undamaged
+pub mod AtRest
+pub mod Hosted
+pub mod HostedFair
