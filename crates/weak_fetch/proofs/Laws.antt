@@ -1,0 +1,286 @@
+-- Laws over plain lists and numbers that the functions' proofs cite: the rule's stages, each with its test.
+use Prim.Native.Nat.{ℕ, _+_, _*_, _%_, _≤_, _<_}
+use mathlib.Core.Path.{_≡_, refl, sym, ap, subst, _∙_}
+use mathlib.Core.Bool.{Bool, not, true, false}
+use mathlib.Core.List.{List, [], _∷_}
+use native.Mathlib.Omega.{arith}
+use native.Mathlib.Nat.{mod-lt}
+use borrow.Author.Tests.{lt-ltb, le-ltb, not-true, not-false}
+use lib.ListN.{length, getD, set}
+use Rattle.lists.specs.Circles.{after}
+use Rattle.lists.proofs.Places.{place-end}
+use Rattle.task.specs.Types.{engine}
+use Rattle.task.specs.Phases.{leadsTo}
+use Rattle.task.specs.declared.Ends.{Ends}
+use Rattle.task.specs.declared.Limits.{Limits}
+use Rattle.task.specs.declared.Step.the-variants.{Fetch}
+use Rattle.task.specs.declared.WorkerId.{WorkerId}
+use Rattle.weak_task.specs.Types.{Copy, copy, copyOf, idle}
+use Rattle.weak_task.specs.Rows.{withHand, withPointer}
+use Rattle.weak_task.specs.declared.TaskCopy.{TaskCopy}
+use Rattle.weak_task.specs.declared.WeakRow.{WeakRow}
+use Rattle.weak_task.specs.declared.WeakOutcome.the-variants.{Fetched}
+use Rattle.ring.specs.Ring.{endWords, Sound, Empty, empty, slotAt, endsAt, storeEnds, headOn}
+use Rattle.ring.proofs.Ends.{empty-told}
+use Rattle.choice.specs.Search as rules
+use Rattle.memory.specs.Field as list
+use Rattle.memory.specs.Updates.{updated, written}
+use Rattle.memory.proofs.Fields.{set-again}
+use Rattle.plans.proofs.Searches.{Looked, search-looked}
+use Rattle.searches.specs.Searches.{foundOf, Reads}
+use Rattle.searches.specs.declared.Found.{Found}
+use Rattle.searches.specs.declared.Found.the-variants as found
+use Rattle.weak_rules.specs.Memory.{Mem, ringNumber, rowIn, pointerIn}
+use Rattle.weak_rules.specs.Updates.{Update, putEnds, putHand, putPointer}
+use Rattle.weak_rules.specs.Plans.{accept, withCount}
+use Rattle.weak_rules.specs.Steps.{scan, fetchCopy, fetchFrom, fetchRule, ruleOf}
+use Rattle.admission.specs.declared.Judged.{Judged}
+use Rattle.weak_admission.specs.Admission.{Measured, Knows, Admits, Enters}
+use Rattle.weak_admission.specs.Count.{copyWithin, countOf}
+use Rattle.weak_admission.specs.declared.Counted.{Counted}
+use Rattle.weak_admission.specs.declared.Counted.the-variants.{Damaged, At}
+use Rattle.weak_admission.specs.declared.WeakAdmitted.{WeakAdmitted}
+use Rattle.weak_admission.specs.declared.WeakAdmitted.the-variants as admitted
+use Rattle.weak_admission.specs.declared.WeakSizes.{WeakSizes}
+use Rattle.weak_admission.specs.declared.WeakStepped.{WeakStepped}
+use Rattle.weak_admission.specs.declared.WeakStepped.the-variants as stepped
+use Rattle.weak_admission.proofs.Rows.{admission-measured, admission-refused, admission-entered, admission-enters, few-steps, extent-of, counts-are, count-refused, count-accepted, refused-result, rule-refused, rule-accepted}
+use Rattle.weak_fetch.specs.Fetch.{lent, Extent, FetchesAdmitted, Fetches, HandAndPointer}
+use Rattle.weak_fetch.specs.Plan.{Ready, Sized, scanOf, PlansCopy, Takes, PlansFetch}
+use Rattle.weak_fetch.specs.declared.CopyHead.{CopyHead}
+use Rattle.weak_fetch.specs.declared.CopyPlan.{CopyPlan}
+use Rattle.weak_fetch.specs.declared.CopyPlan.the-variants.{Refused, Take}
+
+-- a memory before the step
+abbrev old : List Copy → List ℕ → List ℕ → Mem → Mem
+old rings ends run m = lent m rings ends run (m .rows)
+
+-- Copy c, of the ring filled by j, with these ends; `fits` is what its words were found to be.
+module _ (n e : ℕ) (run : List ℕ) (j : ℕ) (both : Ends) (c : Copy) (fits : Bool) (hf : fits ≡ copyWithin n c) where
+  pub copy-damaged : not fits ≡ true → PlansCopy n e run j both c (Refused 8 0)
+  unfolding PlansCopy fetchCopy
+  copy-damaged a p k i rings ends m x = rw (x .0, sym hf ∙ not-true fits a)
+
+  module _ (a : not fits ≡ false) (found : Counted) (hc : found ≡ countOf n e run) where
+    pub copy-counted : found ≡ Damaged → PlansCopy n e run j both c (Refused 8 0)
+    unfolding PlansCopy fetchCopy
+    copy-counted v p k i rings ends m x =
+        rw (x .0, sym hf ∙ not-false fits a) (count-refused n e (old rings ends run m) x _ _ (sym hc ∙ v))
+
+    pub copy-fetchable : (w : ℕ) → found ≡ At w → (filler : WorkerId) (taken : TaskCopy) → filler .0 ≡ j → copyOf taken ≡ c
+        → PlansCopy n e run j both c (Take (record { filler = filler; ends = both; copy = taken; accepted = w }))
+    unfolding PlansCopy
+    copy-fetchable w v filler taken g h = (g, (refl, (h, record { known = subst (λ x. copyWithin n x ≡ true) (sym h) (sym hf ∙ not-false fits a); counts = sym hc ∙ v })))
+
+-- Where the scan stops.
+module _ (p k i pointer : ℕ) (ends : List ℕ) (x : Found) (hx : foundOf x ≡ scanOf p k i pointer ends)
+    (reads : Reads (λ j. endsAt ends (ringNumber p i j)) x) (j : WorkerId) (both : Ends) (v : x ≡ found.At j both) where
+  found-at : scanOf p k i pointer ends ≡ rules.at (j .0)
+  found-at = sym hx ∙ ap foundOf v
+
+  ends-found : both ≡ endsAt ends (ringNumber p i (j .0))
+  ends-found = subst (Reads (λ j. endsAt ends (ringNumber p i j))) v reads
+
+  pub scan-stops : pointer < p → (j .0 < p) × (Sound k both × ¬ (Empty both))
+  scan-stops h =
+      go (subst (Looked p k Empty (λ d. endsAt ends (ringNumber p i ((pointer + d) % p))) pointer) found-at
+      (search-looked p k pointer Empty empty empty-told (λ j. endsAt ends (ringNumber p i j))))
+    where
+      go : Looked p k Empty (λ d. endsAt ends (ringNumber p i ((pointer + d) % p))) pointer (rules.at (j .0))
+          → (j .0 < p) × (Sound k both × ¬ (Empty both))
+      go (d, s, q) = rw (ends-found, q) (mod-lt (pointer + d) (omega arith), (s .sound, s .stops))
+
+-- from the pointer on
+goes-on : (p k i pointer : ℕ) (rings : List Copy) (ends run : List ℕ) → pointer < p
+    → (f : rules.Found) → f ≡ scanOf p k i pointer ends → (m : Mem) → pointerIn m i ≡ pointer
+    → fetchRule p k i (old rings ends run m) ≡ fetchFrom p k i (old rings ends run m) f
+unfolding fetchRule scan
+goes-on p k i pointer rings ends run h f hf m q = rw (hf, q, lt-ltb pointer p h)
+
+-- The whole rule, with the pointer of worker i.
+module _ (p k i n e pointer : ℕ) (rings : List Copy) (ends run : List ℕ) where
+  pub pointer-damaged : p ≤ pointer → PlansFetch p k i n e pointer rings ends run (Refused 8 0)
+  unfolding PlansFetch fetchRule
+  pointer-damaged h m x q = rw (q, le-ltb pointer p h)
+
+  module _ (h : pointer < p) (x : Found) (hx : foundOf x ≡ scanOf p k i pointer ends) where
+    follows : (y : Found) → x ≡ y → (m : Mem) → pointerIn m i ≡ pointer
+        → fetchRule p k i (old rings ends run m) ≡ fetchFrom p k i (old rings ends run m) (foundOf y)
+    follows y v m q = rw (← v) (goes-on p k i pointer rings ends run h (foundOf x) hx m q)
+
+    pub scan-unsound : x ≡ found.Unsound → PlansFetch p k i n e pointer rings ends run (Refused 8 0)
+    unfolding PlansFetch fetchFrom
+    scan-unsound v m y q = follows found.Unsound v m q
+
+    pub scan-none : x ≡ found.None → PlansFetch p k i n e pointer rings ends run (Refused 10 0)
+    unfolding PlansFetch fetchFrom
+    scan-none v m y q = follows found.None v m q
+
+    -- the copy is the one at the head of ring q, which is the ring found
+    module _ (reads : Reads (λ j. endsAt ends (ringNumber p i j)) x) (j : WorkerId) (both : Ends) (v : x ≡ found.At j both)
+        (q : ℕ) (hq : q ≡ ringNumber p i (j .0)) (c : Copy) (hc : c ≡ getD rings (slotAt k q (both .head)) (copy 0 0)) where
+      copy-at : c ≡ getD rings (slotAt k (ringNumber p i (j .0)) (both .head)) (copy 0 0)
+      copy-at = rw (← hq) hc
+
+      pub scan-takes : (r : CopyPlan) → PlansCopy n e run (j .0) both c r → PlansFetch p k i n e pointer rings ends run r
+      unfolding PlansCopy PlansFetch fetchFrom
+      scan-takes (Refused number detail) plans =
+          λ m y w. follows (found.At j both) v m w ∙ rw (← ends-found p k i pointer ends x hx reads j both v, ← copy-at) (plans p k i rings ends m y)
+      scan-takes (Take head) (a, (b, (d, f))) =
+          let stops : (j .0 < p) × (Sound k both × ¬ (Empty both)) = scan-stops p k i pointer ends x hx reads j both v h in
+          record {
+            points = h;
+            found = rw a (found-at p k i pointer ends x hx reads j both v);
+            filler = rw a (stops .0);
+            reads = rw (a, b) (ends-found p k i pointer ends x hx reads j both v);
+            sound = rw b (stops .1 .0);
+            waits = rw b (stops .1 .1);
+            first = rw (a, b, d) copy-at;
+            fit = f;
+          }
+
+-- what is needed to read the head of ring q
+pub head-ready : (p k i n e : ℕ) (rings : List (List ℕ)) (ends run : List ℕ) → Sized p k i n e rings ends run
+    → (q : ℕ) → q < p * p → (both : Ends) → Sound k both → (q * k + k ≤ length rings) × Sound k both
+head-ready p k i n e rings ends run s q h both f = (rw (s .allRings) (place-end k (p * p) q h), f)
+
+-- What is needed to write at place q.
+module _ (p k i : ℕ) (ends run : List ℕ) (s : Ready p k i ends run) (q r : ℕ) (h : (q ≡ r) × (q < p * p)) where
+  pub ends-ready : (both : Ends) → both ≡ endsAt ends r → Sound k both → ¬ (Empty both)
+      → (q * endWords + endWords ≤ length ends) × ((both ≡ endsAt ends q) × (Sound k both × ((k ≤ engine .slots) × ¬ (Empty both))))
+  ends-ready both e f n = (omega (arith, s .allEnds, h .1), (rw (h .0) e, (f, (s .fewSlots, n))))
+
+-- what is stored as the ends of ring q are those of the ring filled by j
+pub stored-at : (ends new : List ℕ) (q r : ℕ) (both : Ends) → q ≡ r → new ≡ storeEnds ends q both → new ≡ storeEnds ends r both
+stored-at ends new q r both e h = rw (← e) h
+
+-- A plan that takes.
+module _ (p k i n e pointer : ℕ) (rings : List Copy) (ends run : List ℕ) (x : CopyPlan)
+    (hx : PlansFetch p k i n e pointer rings ends run x) (head : CopyHead) (v : x ≡ Take head) where
+  takes-of : Takes p k i n e pointer rings ends run head
+  unfolding PlansFetch
+  takes-of = subst (PlansFetch p k i n e pointer rings ends run) v hx
+
+  pub fetch-filler : head .filler .0 < p
+  fetch-filler = takes-of .filler
+
+  pub fetch-ready : (cells : List (List ℕ)) → Sized p k i n e cells ends run
+      → Ready p k i ends run × ((head .filler .0 < p) × ((head .ends ≡ endsAt ends (ringNumber p i (head .filler .0)))
+      × (Sound k (head .ends) × (¬ (Empty (head .ends)) × (head .accepted ≤ 65535)))))
+  fetch-ready cells s = (
+    s .ready,
+    (
+      takes-of .filler,
+      (
+        takes-of .reads,
+        (
+          takes-of .sound,
+          (takes-of .waits, omega (arith, few-steps n e run (s .counts .fewTasks) (s .counts .fewEdges) (head .accepted) (takes-of .fit .counts))),
+        ),
+      ),
+    ),
+  )
+
+-- A plan carried out, for a worker with this row.
+module _ (p k i n e : ℕ) (row : WeakRow) (rings : List Copy) (ends run : List ℕ) (x : CopyPlan)
+    (hx : PlansFetch p k i n e (row .pointer .0) rings ends run x) where
+  abbrev before : Mem → Mem
+  before = old rings ends run
+
+  -- Fetch sets out from the pointer that stands in the worker's row
+  points-at : (limits : Limits) (m : Mem) → Enters limits p k i Fetch (before m) row → pointerIn m i ≡ row .pointer .0
+  points-at limits m enters = sym (ap (λ (r : WeakRow). r .pointer .0) (enters .leads))
+
+  pub fetch-refused : (number detail : ℕ) → x ≡ Refused number detail
+      → FetchesAdmitted n e p k i row rings ends ends run run (stepped.Refused number detail)
+  unfolding PlansFetch ruleOf
+  fetch-refused number detail v limits m y enters =
+      rule-refused limits p k i Fetch (before m) row enters number detail
+      (subst (PlansFetch p k i n e (row .pointer .0) rings ends run) v hx m y (points-at limits m enters))
+
+  module _ (head : CopyHead) (v : x ≡ Take head) where
+    takes : Takes p k i n e (row .pointer .0) rings ends run head
+    takes = takes-of p k i n e (row .pointer .0) rings ends run x hx head v
+
+    -- the ring that the copy leaves
+    abbrev ring : ℕ
+    ring = ringNumber p i (head .filler .0)
+
+    abbrev updates : Mem → List Update
+    updates m =
+        withCount (before m)
+        (putEnds ring (headOn k (endsAt ends ring)) ∷ putHand i (leadsTo Fetch) (copyOf (head .copy)) ∷ putPointer i (after p (head .filler .0)) ∷ [])
+
+    planned : (m : Mem) → Extent n e m → pointerIn m i ≡ row .pointer .0
+        → fetchRule p k i (before m) ≡ accept (Fetched (head .copy)) (updates m)
+    unfolding fetchFrom fetchCopy
+    planned m y h =
+        goes-on p k i (row .pointer .0) rings ends run (takes .points) (rules.at (head .filler .0)) (sym (takes .found)) m h
+        ∙ rw (← takes .reads, ← takes .first, y .0, takes .fit .known)
+        (count-accepted n e (before m) y (Fetched (head .copy)) _ (head .accepted) (takes .fit .counts))
+
+    pub fetch-taken : (new-ends new-run : List ℕ) (next : ℕ)
+        → (new-ends ≡ storeEnds ends ring (headOn k (head .ends))) × (new-run ≡ set run 1 (head .accepted + 1)) → next ≡ after p (head .filler .0)
+        → FetchesAdmitted n e p k i row rings ends new-ends run new-run
+        (stepped.Taken (Fetched (head .copy)) (withPointer next (withHand (row .phase) (head .copy) row)))
+    unfolding written updated ruleOf
+    fetch-taken new-ends new-run next (a, b) f limits m y enters =
+        rw (
+          a,
+          b,
+          f,
+          enters .leads,
+          takes .reads,
+          counts-are n e run (head .accepted) (takes .fit .counts) .0,
+          ← set-again (m .rows) i (withHand (leadsTo Fetch) (head .copy) (rowIn m i)) idle (withPointer (after p (head .filler .0))),
+        )
+        (rule-accepted limits p k i Fetch (before m) row enters (Fetched (head .copy)) (updates m) (planned m y (points-at limits m enters)))
+
+-- What is known of the numbers and of the lengths, once the step is admitted.
+module _ (p k i : ℕ) (sizes : WeakSizes) (judged : Judged) (known : Knows p k i sizes judged) (row : WeakRow) (x : WeakAdmitted)
+    (told : Admits row Fetch judged x) (row′ : WeakRow) (v : x ≡ admitted.To row′) where
+  measured : Measured p k i sizes
+  measured = admission-measured p k i sizes row Fetch judged known x told row′ v
+
+  pub row-sized : (rings : List (List ℕ)) (ends run : List ℕ) → (length rings ≡ sizes .rings) × ((length ends ≡ sizes .ends) × (length run ≡ sizes .run))
+      → Sized p k i (sizes .weights) (sizes .preds) rings ends run
+  row-sized rings ends run (r, (e, n)) =
+      record {
+        ready = record {
+          fewWorkers = measured .fewWorkers;
+          fewSlots = measured .fewSlots;
+          worker = measured .worker;
+          allEnds = e ∙ measured .lengths .list list.ends;
+          allWords = n ∙ measured .lengths .list list.run;
+        };
+        counts = record {
+          allWords = n ∙ measured .lengths .list list.run;
+          fewTasks = measured .fewTasks;
+          fewEdges = measured .fewEdges;
+        };
+        allRings = r ∙ measured .lengths .list list.rings;
+      }
+
+-- What the admission has told.
+module _ (p k i : ℕ) (sizes : WeakSizes) (judged : Judged) (row : WeakRow) (rings : List Copy) (ends run : List ℕ) (x : WeakAdmitted)
+    (told : Admits row Fetch judged x) where
+  pub row-refused : (number detail : ℕ) → x ≡ admitted.Refused number detail
+      → Fetches p k i sizes judged row rings ends ends run run (stepped.Refused number detail)
+  row-refused number detail v limits m judges e h =
+      refused-result limits p k i Fetch (old rings ends run m) number detail
+      (admission-refused p k i sizes row Fetch limits (old rings ends run m) e h judged judges x told number detail v)
+
+  module _ (row′ : WeakRow) (v : x ≡ admitted.To row′) where
+    -- what the rule keeps of the row in its new phase, it keeps of the worker's row
+    kept : (r : WeakStepped) → HandAndPointer row′ r → HandAndPointer row r
+    kept (stepped.Refused number detail) h = h
+    kept (stepped.Taken o after) h = h ∙ rw (admission-entered row Fetch judged x told row′ v .1) refl
+
+    pub row-fetches : (new-ends new-run : List ℕ) (r : WeakStepped)
+        → FetchesAdmitted (sizes .weights) (sizes .preds) p k i row′ rings ends new-ends run new-run r × HandAndPointer row′ r
+        → Fetches p k i sizes judged row rings ends new-ends run new-run r × HandAndPointer row r
+    row-fetches new-ends new-run r (f, w) = (
+      (λ limits m judges e h. f limits m (extent-of sizes (old rings ends run m) e)
+          (admission-enters p k i sizes row Fetch limits (old rings ends run m) e h judged judges x told row′ v)),
+      kept r w,
+    )
