@@ -2,7 +2,6 @@
 -- the exports sees a run (`hosted`, `hosted-fair`, `crates/runs/proofs/Hosted.antt`).
 use Prim.Native.Nat.{ℕ}
 use mathlib.Core.Path.{_≡_, refl}
-use Rattle.task.specs.Refusals.{accepted}
 use Rattle.task.specs.declared.Limits.{Limits}
 use Rattle.task.specs.declared.Side.{Side}
 use Rattle.task.specs.declared.Step.{Step}
@@ -23,7 +22,7 @@ use Rattle.replies.specs.Replies.{replyOf, stepReplyOf}
 use Rattle.engine_export.specs.Replies.{replied}
 use Rattle.engine_export.proofs.Told.{begin-zero, step-zero}
 use Rattle.hosts.specs.Heard.{heard, stepHeard}
-use Rattle.hosts.proofs.Heard.{heard-zero, heard-said, step-heard-said}
+use Rattle.hosts.proofs.Heard.{heard-said, step-heard-said}
 
 module _ (m : Mem) where
   -- a step, with the limits of its export
@@ -35,11 +34,6 @@ module _ (m : Mem) where
   pub exported-begin : (limits : Limits) (p k : ℕ) (r : Reply) (m′ : Mem) → resultOf r m′ ≡ replied replyOf (begin limits p k m)
       → Link m (seenAs (beginCall limits p k) (heard r) m′)
   exported-begin limits p k = replied-begin m limits p k replyOf heard (heard-said (begin limits p k m .answer) (begin-zero limits p k m .0))
-
-  -- answered 0, it is the accepted begin that a run starts at
-  pub exported-start : (limits : Limits) (p k : ℕ) (r : Reply) (m′ : Mem) → resultOf r m′ ≡ replied replyOf (begin limits p k m) → _≡_ {A = ℕ} (r .number) 0
-      → Link m (seenAs (beginCall limits p k) accepted m′)
-  exported-start limits p k r m′ contract e = rw (heard-zero r e) at (exported-begin limits p k r m′ contract)
 
   abbrev lentNow : Lent
   lentNow = lentOf (m .weights) (m .predStarts) (m .preds) (m .succStarts) (m .succs)

@@ -40,6 +40,10 @@ diamond = 0 ∷ 5 ∷ 3 ∷ 0 ∷ []
 abbrev listing : List ℕ
 listing = 0 ∷ 0 ∷ 2 ∷ 1 ∷ 1 ∷ 0 ∷ 3 ∷ 0 ∷ []
 
+-- the weak diamond's, (task, predecessor, worker) to an entry
+abbrev copies : List ℕ
+copies = 0 ∷ 65535 ∷ 0 ∷ 2 ∷ 0 ∷ 1 ∷ 1 ∷ 0 ∷ 0 ∷ 3 ∷ 2 ∷ 0 ∷ 3 ∷ 1 ∷ 0 ∷ replicate 9 0
+
 abbrev done : List ℕ
 done = 4 ∷ 16 ∷ []
 
@@ -88,6 +92,10 @@ table =
     ∷ refuses 17 2 diamond [] done (room 9) 2
     ∷ refuses 2 0 diamond (0 ∷ 0 ∷ []) (5 ∷ 16 ∷ []) (room 9) 1
     ∷ refuses 2 0 diamond listing (5 ∷ 16 ∷ 0 ∷ []) (room 9) 1
+    -- a weak job's lists, of 24 words for its five copies and three run words; and each of the two alone
+    ∷ refuses 2 2 diamond copies (5 ∷ 19 ∷ 1 ∷ []) (room 12) 1
+    ∷ refuses 2 2 diamond copies (4 ∷ 19 ∷ []) (room 9) 1
+    ∷ refuses 2 2 diamond listing (4 ∷ 16 ∷ 1 ∷ []) (room 9) 1
     -- smaller limits
     ∷ record {
       limits = preview;
@@ -109,4 +117,4 @@ Each P (x ∷ l) = P x × Each P l
 pub windows-computed : Each (λ x. (answerSays (call x .answer) ≡ x .said) × (call x .results ≡ x .after)) table
 unfolding joined tabulate sumTo capped addedBy loadIn windowSums largestOf smallestOf spreadOf withSpread windows countsFit entryFits recordFits windowsAnswer windowLoads
 windows-computed =
-    ((refl, refl), ((refl, refl), ((refl, refl), ((refl, refl), ((refl, refl), ((refl, refl), ((refl, refl), ((refl, refl), ((refl, refl), ((refl, refl), ((refl, refl), ((refl, refl), ((refl, refl), ((refl, refl), ((refl, refl), ((refl, refl), ((refl, refl), ((refl, refl), ((refl, refl), ((refl, refl), ((refl, refl), ((refl, refl), ((refl, refl), ((refl, refl), ((refl, refl), ((refl, refl), ((refl, refl), ((refl, refl), ((refl, refl), ((refl, refl), tt))))))))))))))))))))))))))))))
+    ((refl, refl), ((refl, refl), ((refl, refl), ((refl, refl), ((refl, refl), ((refl, refl), ((refl, refl), ((refl, refl), ((refl, refl), ((refl, refl), ((refl, refl), ((refl, refl), ((refl, refl), ((refl, refl), ((refl, refl), ((refl, refl), ((refl, refl), ((refl, refl), ((refl, refl), ((refl, refl), ((refl, refl), ((refl, refl), ((refl, refl), ((refl, refl), ((refl, refl), ((refl, refl), ((refl, refl), ((refl, refl), ((refl, refl), ((refl, refl), ((refl, refl), ((refl, refl), ((refl, refl), tt)))))))))))))))))))))))))))))))))

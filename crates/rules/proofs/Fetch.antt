@@ -1,31 +1,21 @@
 -- Fetch follows its rows of the table.
-use Prim.Native.Nat.{ℕ, _+_, _%_}
+use Prim.Native.Nat.{ℕ}
 use mathlib.Core.Path.{_≡_, sym, ap, _∙_}
 use lib.ListN.{drop}
 use Rattle.lists.proofs.Told.{lt-told, only-told}
 use Rattle.task.specs.Refusals.{damaged, nothingThere, outcomeSays}
-use Rattle.ring.specs.Ring.{Empty, empty}
-use Rattle.ring.proofs.Ends.{empty-told}
+use Rattle.ring.specs.Ring.{Empty}
 use Rattle.choice.specs.Search.{Found, unsound, none, at}
-use Rattle.rules.specs.Memory.{Mem, tasks, ringNumber, endsIn, headWord, pointerIn}
+use Rattle.rules.specs.Memory.{Mem, tasks, ringNumber, headWord, pointerIn}
 use Rattle.rules.specs.Steps.{scan, fetchTask, fetchFrom, fetchRule}
-use Rattle.rules.specs.Tables.{StopsAt, scanned, scannedEnds, NextTask, fetchRows}
+use Rattle.rules.specs.Tables.{scanned, scannedEnds, NextTask, fetchRows}
 use Rattle.rules.proofs.Plans.{PlanFollows, given-row, passed-row, checked-row, counted-row}
-use Rattle.plans.proofs.Searches.{Looked, stop-unique, all-not-bad, stop-not-bad, stop-not-all, search-looked, search-stops}
+use Rattle.plans.proofs.Searches.{Looked, stop-unique, all-not-bad, stop-not-bad, stop-not-all, scan-looked}
 
 module _ (p k i : ℕ) (m : Mem) where
   -- two first rings that aren't empty are the same
   next-unique : (t u : ℕ) → NextTask p k i m t → NextTask p k i m u → t ≡ u
   next-unique t u (d, a, h) (e, b, l) = sym h ∙ ap (λ (x : ℕ). headWord k m (scanned p i m x)) (stop-unique p k Empty (scannedEnds p i m) a b) ∙ l
-
-  -- what the scan finds, and that it stops where it would
-  pub scan-looked : Looked p k Empty (scannedEnds p i m) (pointerIn m i) (scan p k i m)
-  unfolding scan
-  scan-looked = search-looked p k (pointerIn m i) Empty empty empty-told (λ j. endsIn m (ringNumber p i j))
-
-  pub scan-stops : (e : ℕ) → StopsAt p k Empty (scannedEnds p i m) e → scan p k i m ≡ at ((pointerIn m i + e) % p)
-  unfolding scan
-  scan-stops = search-stops p k (pointerIn m i) Empty empty empty-told (λ j. endsIn m (ringNumber p i j))
 
   -- the rows after 10, where t is the next task
   task-follows : (j t : ℕ) → NextTask p k i m t → PlanFollows (drop 3 (fetchRows p k i m)) (fetchTask p k i m j t)

@@ -32,8 +32,7 @@ use Rattle.rules.specs.Moves.{Fetches, Ranged, Completing, sink, inner, 
 use Rattle.rules.proofs.Plans.{outcome-accepts}
 use Rattle.plans.proofs.Headers.{headed-reaches}
 use Rattle.rules.proofs.Words.{counter-told, counters-told, accepted-told, entries-told, recorded-told}
-use Rattle.rules.proofs.Fetch.{scan-stops}
-use Rattle.rules.proofs.Release.{room-stops}
+use Rattle.plans.proofs.Searches.{scan-stops, room-stops}
 
 -- the tests that both kinds of Complete pass, and both of Release
 completing-passes : (p i : ℕ) (m : Mem) → Completing p i m

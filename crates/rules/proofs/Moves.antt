@@ -40,9 +40,7 @@ use Rattle.rules.proofs.Untouched.{refused-step}
 use Rattle.plans.proofs.Headers.{fits-are}
 use Rattle.plans.proofs.Accepted.{IfAccepted, if-refused, if-required, if-cond}
 use Rattle.rules.proofs.Words.{counter-told, counters-told, accepted-told, entries-told, recorded-told}
-use Rattle.plans.proofs.Searches.{Looked}
-use Rattle.rules.proofs.Fetch.{scan-looked}
-use Rattle.rules.proofs.Release.{room-looked}
+use Rattle.plans.proofs.Searches.{Looked, scan-looked, room-looked}
 
 -- updates that add 1 to an accepted word in its range, and the others
 record Counted (m : Mem) (M : StepOutcome → List Update → Type 0) (o : StepOutcome) (us : List Update) : Type 0 where

@@ -13,28 +13,17 @@ use Rattle.lists.proofs.Circles.{mod-reached}
 use Rattle.task.specs.Refusals.{damaged, nothingThere, ringsFull, outcomeSays}
 use Rattle.task.specs.Rows.{Refusal}
 use Rattle.task.specs.declared.Ends.{Ends}
-use Rattle.ring.specs.Ring.{Sound, Full, full}
-use Rattle.ring.proofs.Ends.{full-told}
+use Rattle.ring.specs.Ring.{Sound, Full}
 use Rattle.choice.specs.Least.{load, Least, least}
 use Rattle.choice.specs.Search.{Found, unsound, none, at}
 use Rattle.choice.proofs.Least.{least-one, least-worker}
 use Rattle.rules.specs.Memory.{Mem, tasks, edges, ringNumber, endsIn, weightIn, degreeIn, firstSucc, pastSucc, succCount, rowIn, oldest, successor}
 use Rattle.rules.specs.Plans.{Plan}
 use Rattle.rules.specs.Steps.{findRoom, releaseTo, releaseReady, releaseWaiting, releaseRule}
-use Rattle.rules.specs.Tables.{GoesOn, BadEnds, StopsAt, offeredEnds, Ready, releaseRows}
+use Rattle.rules.specs.Tables.{GoesOn, BadEnds, offeredEnds, Ready, releaseRows}
 use Rattle.rules.proofs.Plans.{PlanFollows, given-row, passed-row, refuse-row, checked-row, counted-row}
-use Rattle.plans.proofs.Searches.{Looked, all-not-bad, stop-not-bad, search-looked, search-stops}
+use Rattle.plans.proofs.Searches.{Looked, all-not-bad, stop-not-bad, room-looked}
 use Rattle.rules.proofs.Words.{counters-told}
-
--- what the search for room finds from owner j on, and that it stops where it would
-module _ (p k i j : ℕ) (m : Mem) where
-  pub room-looked : Looked p k (Full k) (offeredEnds p i m j) j (findRoom p k i m (around p j))
-  unfolding findRoom
-  room-looked = search-looked p k j (Full k) (full k) (full-told k) (λ o. endsIn m (ringNumber p o i))
-
-  pub room-stops : (e : ℕ) → StopsAt p k (Full k) (offeredEnds p i m j) e → findRoom p k i m (around p j) ≡ at ((j + e) % p)
-  unfolding findRoom
-  room-stops = search-stops p k j (Full k) (full k) (full-told k) (λ o. endsIn m (ringNumber p o i))
 
 module _ (p k i : ℕ) (m : Mem) where
   -- the table's rows but the first n

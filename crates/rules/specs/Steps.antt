@@ -1,7 +1,7 @@
 -- The four steps, each as its sentences go: P workers, K slots, worker i. A definition stands above what uses it, so a step is read from
 -- its rule (`fetchRule`, `startRule`, `completeRule`, `releaseRule`) upward.
 use Prim.Native.Nat.{ℕ, _+_, _-_}
-use mathlib.Core.Bool.{cond, not}
+use mathlib.Core.Bool.{cond}
 use mathlib.Core.List.{List, [], _∷_}
 use lib.Dec.{eqb}
 use lib.IntN.{pos, _-ℤ_}
@@ -17,20 +17,17 @@ use Rattle.task.specs.declared.Step.the-variants.{Fetch, Start, Complete, Relea
 use Rattle.task.specs.declared.StepAnswer.{StepAnswer}
 use Rattle.task.specs.declared.StepOutcome.the-variants.{Moved, Fetched, Released}
 use Rattle.task.specs.declared.ReleaseOutcome.the-variants.{DegreeLeft, Placed}
-use Rattle.ring.specs.Ring.{empty, full, headOn}
+use Rattle.ring.specs.Ring.{headOn}
 use Rattle.choice.specs.Least.{load, least}
-use Rattle.choice.specs.Search.{Found, unsound, none, at, search}
+use Rattle.choice.specs.Search.{Found, unsound, none, at}
 use Rattle.memory.specs.Family.{Places}
 use Rattle.plans.specs.Headed.{headed}
 use Rattle.plans.specs.Laying.{joinRing}
+unfoldable pub use Rattle.plans.specs.Searches.{scan, findRoom}
 use Rattle.rules.specs.Memory.{Mem, allEntries, ringNumber, endsIn, headWord, counterIn, weightIn, degreeIn, succCount, bufferAt, rowIn, held, pointerIn, entriesIn, oldest, successor}
-use Rattle.rules.specs.Words.{endsFit, taskFits, pointerFits, counterFits, countersFit, degreeFits, placesFit, joinFits, cursorFits, rangeFits, weightFits, entriesFit}
+use Rattle.rules.specs.Words.{taskFits, pointerFits, counterFits, countersFit, degreeFits, placesFit, joinFits, cursorFits, rangeFits, weightFits, entriesFit}
 use Rattle.rules.specs.Updates.{Update, putDegree, putEnds, putCounter, putBuffer, putEntry, putEntries, putHand, putPointer, putPlaces}
 use Rattle.rules.specs.Plans.{Plan, refuse, refuseIf, checked, counted, Result, carriedOut}
-
--- "Fetch by i: scan the rings of owner i from the ring pointer upward, modulo P; the scan stops at the first ring that isn't empty."
-unfoldable pub scan : ℕ → ℕ → ℕ → Mem → Found
-scan p k i m = search (λ j. endsFit k m (ringNumber p i j)) (λ j. not (empty (endsIn m (ringNumber p i j)))) (around p (pointerIn m i))
 
 -- "Take its head, which becomes the held task; the slot's word stays. .. The pointer becomes the ring after, modulo P." Neither weight nor
 -- counter is read: document 02's No. 3 has the weight leave at Complete
@@ -104,10 +101,6 @@ advance i m = putPlaces i (advanced (succCount m (oldest m i)) (rowIn m i))
 -- a task joins the ring of owner o filled by worker i, and "The weight joins the counter of the ring really used."
 abbrev pub join : ℕ → ℕ → ℕ → ℕ → ℕ → Mem → List Update
 join p k o i s m = joinRing p k o i s s m
-
--- "the first ring filled by i that isn't full", among those of the owners, in their order
-unfoldable pub findRoom : ℕ → ℕ → ℕ → Mem → List ℕ → Found
-findRoom p k i m owners = search (λ o. endsFit k m (ringNumber p o i)) (λ o. not (full k (endsIn m (ringNumber p o i)))) owners
 
 -- 11: "Release: degree would be 0 and all P rings filled by this worker are full"; its detail is "the successor"
 unfoldable pub releaseTo : ℕ → ℕ → ℕ → Mem → Found → Plan

@@ -1,0 +1,3 @@
+pub mod Heard
+pub mod Exported
+pub mod Exports

@@ -1,0 +1,32 @@
+-- The two cases.
+use mathlib.Core.Path.{refl}
+use Rattle.weak_replies.specs.Replies.{weakReplyOf}
+use Rattle.replies.proofs.Laws.{in-case}
+use borrow.Author.Needs.{needs}
+use Rattle.weak_replies.proofs.weak_reply_of.Statement.{statement}
+use Rattle.weak_replies.proofs.weak_reply_of.Tie as tie
+
+enum-known-answer : tie.Need-enum-known-answer
+enum-known-answer c = search needs
+
+enum-known-answer-2 : tie.Need-enum-known-answer-2
+enum-known-answer-2 c = search needs
+
+outcome-reply-of-requires : tie.Need-outcome-reply-of-requires
+outcome-reply-of-requires c κs = search needs
+
+returns : tie.Need-returns
+returns c = in-case weakReplyOf _ _ _ (c .before .answer .given .1) refl
+
+returns-2 : tie.Need-returns-2
+returns-2 c = in-case weakReplyOf _ _ _ (c .before .before .answer2 .given .1) (c .outcome-reply-of .ensures)
+
+pub weak-reply-of-spec : {M : Type 1} → statement M
+weak-reply-of-spec =
+    tie.close
+    (tie.spec
+    enum-known-answer
+    enum-known-answer-2
+    outcome-reply-of-requires
+    returns
+    returns-2)
