@@ -10,7 +10,7 @@
 PREFIX ?= /usr/local
 KIT := target/kit
 HEADERS := include/yolluvek.h include/yolluvek_job.h
-ARCHIVES := $(patsubst %,target/staticlib/lib%.a,graph_export stg_export engine_export preview_export windows_export)
+ARCHIVES := $(patsubst %,target/staticlib/lib%.a,graph_export stg_export engine_export preview_export windows_export weak_export)
 VERSION := $(shell sed -n 's/^.define YOLLUVEK_VERSION "\(.*\)"/\1/p' include/yolluvek_job.h)
 NAME := yolluvek-$(VERSION)-x86_64-linux
 

@@ -15,10 +15,14 @@
  * A preview, for a planning window with less memory, makes the same runs by yolluvek_preview_begin and so on, within
  * smaller limits.
  *
+ * A weak job, begun by yolluvek_weak_begin, has a copy of a task for each of its predecessors: what waits, is fetched
+ * and is recorded is a copy, so that a seam is corrected with each finished neighbour alone.
+ *
  * Link libyolluvek.a, which `make install` installs (x86-64 Linux), or the archives that it is merged from:
- * libgraph_export.a, libstg_export.a, libengine_export.a, libpreview_export.a and libwindows_export.a, which
- * `rt staticlib` writes to target/staticlib. Of these the last has the load windows, the fourth the preview's calls, the
- * third begin and the steps, the second the reader and the writer, the first the other calls.
+ * libgraph_export.a, libstg_export.a, libengine_export.a, libpreview_export.a, libwindows_export.a and libweak_export.a,
+ * which `rt staticlib` writes to target/staticlib. Of these the last has the calls of weak jobs, the fifth the load
+ * windows, the fourth the preview's calls, the third begin and the steps, the second the reader and the writer, the first
+ * the other calls.
  *
  * What is assumed of the pointers:
  *   - each is aligned and good for as many elements as the length after it says; an empty list may have any pointer
@@ -62,8 +66,11 @@ extern "C" {
 /* Words of results that suffice for any load windows: a window for each of 1,024 entries, and 17 words for each. */
 #define YOLLUVEK_MAX_RESULTS 17408
 
-/* The held task of a worker whose hand is empty. */
+/* The held task of a worker whose hand is empty; in a weak job both words of it, and the predecessor of a root's copy. */
 #define YOLLUVEK_NIL 65535
+
+/* The fixed word of a weak job's task that has no worker yet. */
+#define YOLLUVEK_UNFIXED 65535
 
 /*
  * The number that a call answers, 0 where it is accepted. A refused call leaves every word of every list as it was. The
@@ -104,10 +111,11 @@ enum {
     /* Fetch: no task waits in the worker's rings; Release: no completed task of the worker has a successor left */
     YOLLUVEK_NOTHING_THERE = 10,
 
-    /* Release: all rings that the worker fills are full; detail: the task to be placed, which isn't lost */
+    /* Release: all rings that the worker fills are full, or, of a later copy of a weak job, the one ring that it can go
+       to; detail: the task to be placed, which isn't lost */
     YOLLUVEK_NO_ROOM = 11,
 
-    /* Complete with N entries recorded: something else has written the lists */
+    /* Complete with N entries recorded, in a weak job E + R: something else has written the lists */
     YOLLUVEK_RECORD_FULL = 12,
 
     /* the text breaks the layout; detail: the line, from 1 */
@@ -173,6 +181,39 @@ typedef struct {
     uint32_t write;   /* the place behind the newest one */
     uint32_t cursor;  /* which successor of the oldest task its next Release looks at */
 } yolluvek_row;
+
+/* A copy of a task in a weak job: the task that is to be worked on, and the finished predecessor it is worked on with. */
+typedef struct {
+    uint32_t task;
+    uint32_t predecessor; /* YOLLUVEK_NIL in the one copy of a root */
+} yolluvek_copy;
+
+/* A worker's row in a weak job. A host reads it, and doesn't write it during a run. */
+typedef struct {
+    uint32_t phase;     /* 0 idle, 1 fetched, 2 running */
+    yolluvek_copy held; /* the copy in its hand, or YOLLUVEK_NIL twice */
+    uint32_t pointer;   /* the ring at which its next Fetch starts to look */
+    uint32_t read;      /* the place of the oldest task in its buffer */
+    uint32_t write;     /* the place behind the newest one */
+    uint32_t cursor;    /* which successor of the oldest task its next Release looks at */
+} yolluvek_weak_row;
+
+/* What a step of a weak job answers. */
+typedef struct {
+    uint32_t number;
+    uint32_t detail;
+    uint32_t kind;   /* one of the three below */
+    uint32_t first;  /* the task of the copy fetched or placed; else 0 */
+    uint32_t second; /* the predecessor of that copy; else 0 */
+    uint32_t third;  /* the worker that owns the ring of the copy placed; else 0 */
+} yolluvek_weak_step_reply;
+
+/* The kinds of the answer of a weak job's step. */
+enum {
+    YOLLUVEK_WEAK_MOVED = 0,   /* a refused step, an accepted Start or Complete */
+    YOLLUVEK_WEAK_FETCHED = 1, /* an accepted Fetch: the copy (`first`, `second`) */
+    YOLLUVEK_WEAK_PLACED = 2   /* an accepted Release: the copy (`first`, `second`) in a ring of worker `third` */
+};
 
 /* Sides of a lookup. */
 enum {
@@ -506,6 +547,143 @@ yolluvek_step_reply yolluvek_preview_release(
     yolluvek_row *rows, size_t rows_len,
     size_t p, size_t k, uint32_t worker);
 
+/*
+ * Weak jobs: seams that blend neighbour by neighbour. A task isn't worked on once, when all its predecessors are
+ * completed, but once with each of them: it has a copy (task, predecessor) for each predecessor, and a task without
+ * predecessors, a root, has one copy, with YOLLUVEK_NIL. With R roots there are E + R copies, and they take the place of
+ * tasks in rings, hands and record. The first copy of a task picks its ring as a plain job's task does, and fixes the
+ * task's worker; later copies go only to that worker's ring. A task is complete when its last copy is: then it joins the
+ * buffer of the worker, and its successors' copies can be released.
+ *
+ * A weak job has calls of its own, on lists of its own; limits, P, K and the lists not named here are those of
+ * yolluvek_begin:
+ *
+ *   degrees      N            how many copies of each task aren't completed yet; 1 of a root at begin
+ *   fixed        N            the worker that each task is fixed to, YOLLUVEK_UNFIXED before its first copy
+ *   rings        P * P * K    copies: the slots of the ring of owner i, filled by worker j, begin at (i * P + j) * K
+ *   counters     P * P        the load of worker i is the sum of its P counters: the weight of the tasks that are fixed to
+ *                             it and aren't complete, from the first copy to the last
+ *   executed     3 * (E + N)  the record: task, predecessor and worker of each completed copy, in order; E + R are used
+ *   run          3            how many entries the record has, how many steps were accepted, and R
+ *   rows         P            a row for each worker
+ *
+ * The lists come in this order, `fixed` behind `degrees`. `ends` still has words, three of each ring, and so have
+ * `executed` and `run`; `rings` and `rows` have records, and their lengths count records.
+ *
+ * The run is finished when the record has E + R entries; it has 4E + 3R accepted steps then. Until then some worker has
+ * a step that is accepted. The lookup and the writer take a weak job's lists as any other; the load windows, which read
+ * records of two words, don't. A preview has no weak calls.
+ */
+
+/*
+ * Begins a weak run, as yolluvek_begin begins a plain one: the weights and the predecessor table stay, and everything
+ * else is written. The copies of the roots are dealt to the workers 0, 1, .., P - 1, 0, .. in the order of their
+ * numbers, and each root is fixed to its worker.
+ *
+ * Refused: 2, 1, 3, 4, 5, 6, the first in this order.
+ */
+yolluvek_reply yolluvek_weak_begin(
+    const uint32_t *weights, size_t weights_len,
+    const uint32_t *pred_starts, size_t pred_starts_len,
+    const uint32_t *preds, size_t preds_len,
+    uint32_t *succ_starts, size_t succ_starts_len,
+    uint32_t *succs, size_t succs_len,
+    uint32_t *degrees, size_t degrees_len,
+    uint32_t *fixed, size_t fixed_len,
+    yolluvek_copy *rings, size_t rings_len,
+    uint32_t *ends, size_t ends_len,
+    int32_t *counters, size_t counters_len,
+    uint32_t *buffers, size_t buffers_len,
+    uint32_t *executed, size_t executed_len,
+    uint32_t *run, size_t run_len,
+    yolluvek_weak_row *rows, size_t rows_len,
+    size_t p, size_t k);
+
+/*
+ * The four steps of a weak job. Refused in the order of the plain ones.
+ *
+ * Fetch: an idle worker takes a copy that waits in its rings. Answers the copy; loads stay.
+ */
+yolluvek_weak_step_reply yolluvek_weak_fetch(
+    const uint32_t *weights, size_t weights_len,
+    const uint32_t *pred_starts, size_t pred_starts_len,
+    const uint32_t *preds, size_t preds_len,
+    const uint32_t *succ_starts, size_t succ_starts_len,
+    const uint32_t *succs, size_t succs_len,
+    const uint32_t *degrees, size_t degrees_len,
+    const uint32_t *fixed, size_t fixed_len,
+    const yolluvek_copy *rings, size_t rings_len,
+    uint32_t *ends, size_t ends_len,
+    const int32_t *counters, size_t counters_len,
+    const uint32_t *buffers, size_t buffers_len,
+    const uint32_t *executed, size_t executed_len,
+    uint32_t *run, size_t run_len,
+    yolluvek_weak_row *rows, size_t rows_len,
+    size_t p, size_t k, uint32_t worker);
+
+/* Start: a worker starts the copy that it has fetched. */
+yolluvek_weak_step_reply yolluvek_weak_start(
+    const uint32_t *weights, size_t weights_len,
+    const uint32_t *pred_starts, size_t pred_starts_len,
+    const uint32_t *preds, size_t preds_len,
+    const uint32_t *succ_starts, size_t succ_starts_len,
+    const uint32_t *succs, size_t succs_len,
+    const uint32_t *degrees, size_t degrees_len,
+    const uint32_t *fixed, size_t fixed_len,
+    const yolluvek_copy *rings, size_t rings_len,
+    const uint32_t *ends, size_t ends_len,
+    const int32_t *counters, size_t counters_len,
+    const uint32_t *buffers, size_t buffers_len,
+    const uint32_t *executed, size_t executed_len,
+    uint32_t *run, size_t run_len,
+    yolluvek_weak_row *rows, size_t rows_len,
+    size_t p, size_t k, uint32_t worker);
+
+/*
+ * Complete: the copy that a worker is running joins the record, and its task waits for one copy less. With the last copy
+ * the task is complete: it joins the worker's buffer if it has successors, and its weight leaves the worker's load.
+ */
+yolluvek_weak_step_reply yolluvek_weak_complete(
+    const uint32_t *weights, size_t weights_len,
+    const uint32_t *pred_starts, size_t pred_starts_len,
+    const uint32_t *preds, size_t preds_len,
+    const uint32_t *succ_starts, size_t succ_starts_len,
+    const uint32_t *succs, size_t succs_len,
+    uint32_t *degrees, size_t degrees_len,
+    const uint32_t *fixed, size_t fixed_len,
+    const yolluvek_copy *rings, size_t rings_len,
+    const uint32_t *ends, size_t ends_len,
+    int32_t *counters, size_t counters_len,
+    uint32_t *buffers, size_t buffers_len,
+    uint32_t *executed, size_t executed_len,
+    uint32_t *run, size_t run_len,
+    yolluvek_weak_row *rows, size_t rows_len,
+    size_t p, size_t k, uint32_t worker);
+
+/*
+ * Release: of the oldest task in an idle worker's buffer and its next successor one copy is made, and placed into a ring
+ * that the worker fills. The first copy of the successor goes to the worker with the least load or to one after it, and
+ * fixes the successor to the worker that owns the ring used, whose load its weight joins. A later copy goes to the ring
+ * of the worker that it is fixed to; 11 is given exactly if that ring is full, and no load changes. Answers the copy and
+ * the ring's owner.
+ */
+yolluvek_weak_step_reply yolluvek_weak_release(
+    const uint32_t *weights, size_t weights_len,
+    const uint32_t *pred_starts, size_t pred_starts_len,
+    const uint32_t *preds, size_t preds_len,
+    const uint32_t *succ_starts, size_t succ_starts_len,
+    const uint32_t *succs, size_t succs_len,
+    const uint32_t *degrees, size_t degrees_len,
+    uint32_t *fixed, size_t fixed_len,
+    yolluvek_copy *rings, size_t rings_len,
+    uint32_t *ends, size_t ends_len,
+    int32_t *counters, size_t counters_len,
+    const uint32_t *buffers, size_t buffers_len,
+    const uint32_t *executed, size_t executed_len,
+    uint32_t *run, size_t run_len,
+    yolluvek_weak_row *rows, size_t rows_len,
+    size_t p, size_t k, uint32_t worker);
+
 /* The layouts that the library has: words without gaps, in the order declared. */
 #if defined(__cplusplus) && __cplusplus >= 201103L
 #define YOLLUVEK_ASSERT(fact) static_assert(fact, #fact)
@@ -535,6 +713,20 @@ YOLLUVEK_ASSERT(offsetof(yolluvek_row, pointer) == 8);
 YOLLUVEK_ASSERT(offsetof(yolluvek_row, read) == 12);
 YOLLUVEK_ASSERT(offsetof(yolluvek_row, write) == 16);
 YOLLUVEK_ASSERT(offsetof(yolluvek_row, cursor) == 20);
+YOLLUVEK_ASSERT(sizeof(yolluvek_copy) == 8);
+YOLLUVEK_ASSERT(offsetof(yolluvek_copy, predecessor) == 4);
+YOLLUVEK_ASSERT(sizeof(yolluvek_weak_row) == 28);
+YOLLUVEK_ASSERT(offsetof(yolluvek_weak_row, held) == 4);
+YOLLUVEK_ASSERT(offsetof(yolluvek_weak_row, pointer) == 12);
+YOLLUVEK_ASSERT(offsetof(yolluvek_weak_row, read) == 16);
+YOLLUVEK_ASSERT(offsetof(yolluvek_weak_row, write) == 20);
+YOLLUVEK_ASSERT(offsetof(yolluvek_weak_row, cursor) == 24);
+YOLLUVEK_ASSERT(sizeof(yolluvek_weak_step_reply) == 24);
+YOLLUVEK_ASSERT(offsetof(yolluvek_weak_step_reply, detail) == 4);
+YOLLUVEK_ASSERT(offsetof(yolluvek_weak_step_reply, kind) == 8);
+YOLLUVEK_ASSERT(offsetof(yolluvek_weak_step_reply, first) == 12);
+YOLLUVEK_ASSERT(offsetof(yolluvek_weak_step_reply, second) == 16);
+YOLLUVEK_ASSERT(offsetof(yolluvek_weak_step_reply, third) == 20);
 #undef YOLLUVEK_ASSERT
 #endif
 

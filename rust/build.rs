@@ -3,12 +3,13 @@
 use std::env;
 use std::path::Path;
 
-const ARCHIVES: [&str; 6] = [
+const ARCHIVES: [&str; 7] = [
     "graph_export",
     "stg_export",
     "engine_export",
     "preview_export",
     "windows_export",
+    "weak_export",
     "ref_export",
 ];
 

@@ -4,12 +4,13 @@
 use std::env;
 use std::path::{Path, PathBuf};
 
-const ARCHIVES: [&str; 5] = [
+const ARCHIVES: [&str; 6] = [
     "graph_export",
     "stg_export",
     "engine_export",
     "preview_export",
     "windows_export",
+    "weak_export",
 ];
 
 fn main() {

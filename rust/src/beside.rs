@@ -2,10 +2,11 @@
 //! are compared, with guard words around the lists that the other engine is lent.
 
 use crate::engine::Engine;
-use crate::memory::{Memory, Outcome, Step, ROW_WORDS};
+use crate::memory::{Lists, Memory, Outcome, Step, ROW_WORDS};
 use crate::model::{Answer, Refusal};
 use crate::plain_engine::Lent;
 use crate::runs::{Call, Case, Reply};
+use std::fmt::Debug;
 
 /// Elements before and after each lent list, which no call may touch.
 const GUARDS: usize = 16;
@@ -27,25 +28,25 @@ pub const ANSWERS: [usize; 13] = [0, 1, 2, 3, 4, 5, 6, 7, 8, 9, 10, 11, 12];
 pub const STEP_ANSWERS: [usize; 6] = [0, 8, 9, 10, 11, 12];
 
 /// A lent list between guards that are all the same.
-struct Between<T> {
+pub(crate) struct Between<T> {
     elements: Vec<T>,
     guard: T,
 }
 
 impl<T: Copy + PartialEq> Between<T> {
-    fn of(list: &[T], guard: T) -> Between<T> {
+    pub fn of(list: &[T], guard: T) -> Between<T> {
         let guards = [guard; GUARDS];
         let elements = [&guards, list, &guards].concat();
         Between { elements, guard }
     }
 
-    fn list(&mut self) -> &mut [T] {
+    pub fn list(&mut self) -> &mut [T] {
         let end = self.elements.len() - GUARDS;
         &mut self.elements[GUARDS..end]
     }
 
     /// Whether the list is this one and all guards are as they were.
-    fn holds(&self, list: &[T]) -> bool {
+    pub fn holds(&self, list: &[T]) -> bool {
         let end = self.elements.len() - GUARDS;
         let (before, rest) = self.elements.split_at(GUARDS);
         let (found, after) = rest.split_at(end - GUARDS);
@@ -53,7 +54,15 @@ impl<T: Copy + PartialEq> Between<T> {
     }
 }
 
-/// All lent lists, each between guards.
+/// All lists that a call is lent, each between guards.
+pub(crate) trait Guards<M> {
+    fn of(memory: &M, guard: u32) -> Self;
+
+    /// The first list that isn't the memory's, or whose guards are touched.
+    fn differing(&self, memory: &M) -> Option<&'static str>;
+}
+
+/// A plain job's lists.
 struct Guarded {
     weights: Between<u32>,
     pred_starts: Between<u32>,
@@ -70,7 +79,7 @@ struct Guarded {
     rows: Between<[u32; ROW_WORDS]>,
 }
 
-impl Guarded {
+impl Guards<Memory> for Guarded {
     fn of(memory: &Memory, guard: u32) -> Guarded {
         let words = |list: &[u32]| Between::of(list, guard);
         Guarded {
@@ -90,25 +99,6 @@ impl Guarded {
         }
     }
 
-    fn lent(&mut self) -> Lent<'_> {
-        Lent {
-            weights: self.weights.list(),
-            pred_starts: self.pred_starts.list(),
-            preds: self.preds.list(),
-            succ_starts: self.succ_starts.list(),
-            succs: self.succs.list(),
-            degrees: self.degrees.list(),
-            rings: self.rings.list(),
-            ends: self.ends.list(),
-            counters: self.counters.list(),
-            buffers: self.buffers.list(),
-            executed: self.executed.list(),
-            run: self.run.list(),
-            rows: self.rows.list(),
-        }
-    }
-
-    /// The first list that isn't the memory's, or whose guards are touched.
     fn differing(&self, memory: &Memory) -> Option<&'static str> {
         let lists = [
             ("weights", self.weights.holds(&memory.weights)),
@@ -129,6 +119,26 @@ impl Guarded {
     }
 }
 
+impl Guarded {
+    fn lent(&mut self) -> Lent<'_> {
+        Lent {
+            weights: self.weights.list(),
+            pred_starts: self.pred_starts.list(),
+            preds: self.preds.list(),
+            succ_starts: self.succ_starts.list(),
+            succs: self.succs.list(),
+            degrees: self.degrees.list(),
+            rings: self.rings.list(),
+            ends: self.ends.list(),
+            counters: self.counters.list(),
+            buffers: self.buffers.list(),
+            executed: self.executed.list(),
+            run: self.run.list(),
+            rows: self.rows.list(),
+        }
+    }
+}
+
 /// The engine's answer; what isn't the engine's call is made on the model's memory alone.
 fn reply(side: &Side, call: Call, guarded: &mut Guarded) -> Reply {
     match call {
@@ -145,22 +155,41 @@ pub fn compare(case: &Case, side: &Side, guard: u32) -> Result<Counts, String> {
 
 /// The same where the call at each place is made by the side named for it, on the lists that the calls before it left.
 pub fn compare_by<'a>(case: &Case, side_of: impl Fn(usize) -> &'a Side, guard: u32) -> Result<Counts, String> {
+    let beside = |place| side_of(place).beside;
+    compare_guarded(
+        case,
+        beside,
+        |place, call, guarded: &mut Guarded| reply(side_of(place), call, guarded),
+        guard,
+    )
+}
+
+/// The same for either kind of job: the calls are made with the engines named for their places, and beside them on guarded lists.
+pub(crate) fn compare_guarded<M: Lists, G: Guards<M>>(
+    case: &Case<M>,
+    beside: impl Fn(usize) -> Engine<M>,
+    reply: impl Fn(usize, Call, &mut G) -> Reply<M::Outcome>,
+    guard: u32,
+) -> Result<Counts, String>
+where
+    M::Outcome: Debug + PartialEq,
+{
     let mut memory = case.memory.clone();
-    let mut guarded = Guarded::of(&memory, guard);
+    let mut guarded = G::of(&memory, guard);
     let mut counts = Counts::default();
     for (place, &call) in case.calls.iter().enumerate() {
-        let side = side_of(place);
-        let expected = call.make(&side.beside, &mut memory);
-        let found = reply(side, call, &mut guarded);
+        let engine = beside(place);
+        let expected = call.make(&engine, &mut memory);
+        let found = reply(place, call, &mut guarded);
         if found != expected {
-            let name = side.beside.name;
+            let name = engine.name;
             return Err(format!(
                 "call {place}, {call:?}: {found:?}, where the {name} has {expected:?}"
             ));
         }
         if expected == Reply::Changed {
             // the lists were equal before it, so they are lent anew
-            guarded = Guarded::of(&memory, guard);
+            guarded = G::of(&memory, guard);
             continue;
         }
         if let Some(list) = guarded.differing(&memory) {

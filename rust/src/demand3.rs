@@ -6,9 +6,9 @@ use crate::memory::{Memory, Outcome, Step};
 use crate::runs::{Call, Case, Reply};
 
 /// What is wrong, if anything.
-type Found<T> = Result<T, String>;
+pub(crate) type Found<T> = Result<T, String>;
 
-fn ensure(holds: bool, wrong: impl FnOnce() -> String) -> Found<()> {
+pub(crate) fn ensure(holds: bool, wrong: impl FnOnce() -> String) -> Found<()> {
     if holds {
         Ok(())
     } else {
@@ -23,6 +23,10 @@ fn ensure(holds: bool, wrong: impl FnOnce() -> String) -> Found<()> {
 pub struct Edges(Vec<Vec<u32>>);
 
 impl Edges {
+    pub(crate) fn of_lists(lists: Vec<Vec<u32>>) -> Edges {
+        Edges(lists)
+    }
+
     /// The edges of tables that a begin has accepted; "Two runs are of one graph if N and the edges agree", so the order of
     /// a task's predecessors doesn't count.
     pub fn of(memory: &Memory) -> Edges {

@@ -84,14 +84,15 @@ impl From<WriteReply> for Result<u32, Refusal> {
     }
 }
 
-/// Declares exports that take the lent lists in document 01's order, P, K and what is named here. Whether an export writes a
-/// list is named for each that some export writes and another doesn't.
+/// Declares exports that take the lent lists in document 01's order, P, K and what is named here: a slot of a ring, a row, and
+/// whether an export writes a list, for each that some export writes and another doesn't. Weak jobs alone have fixed workers.
 #[cfg(feature = "linked")]
 macro_rules! declare {
-    ($($export:ident(
+    ($slot:ty, $row:ty: $($export:ident(
         succ_starts: $succ_starts:tt,
         succs: $succs:tt,
         degrees: $degrees:tt,
+        $(fixed: $fixed:tt,)?
         rings: $rings:tt,
         ends: $ends:tt,
         counters: $counters:tt,
@@ -113,7 +114,9 @@ macro_rules! declare {
                 succs_len: usize,
                 degrees: *$degrees u32,
                 degrees_len: usize,
-                rings: *$rings u32,
+                $(fixed: *$fixed u32,
+                fixed_len: usize,)?
+                rings: *$rings $slot,
                 rings_len: usize,
                 ends: *$ends u32,
                 ends_len: usize,
@@ -125,7 +128,7 @@ macro_rules! declare {
                 executed_len: usize,
                 run: *mut u32,
                 run_len: usize,
-                rows: *mut [u32; $crate::memory::ROW_WORDS],
+                rows: *mut $row,
                 rows_len: usize,
                 p: usize,
                 k: usize,

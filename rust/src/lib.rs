@@ -10,10 +10,13 @@
 //! `runs` draws lists of calls over a lent `memory`, `damages` lists damaged words, `engine` says what each must answer, and
 //! `demand3` checks whole runs; `mixed` shares lists of calls out between the engine and the preview.
 //! `plain_engine` is begin and the steps without proofs, `plain_preview` the same with the preview's limits; `measured` has the
-//! runs that costs are compared on, and `beside` makes the calls of an engine beside the model's. `proved`, `proved_engine` and
-//! `ref_engine` call the proved code; `exports` is the interface of the exports, and `plain_export` puts the plain engine,
+//! runs that costs are compared on, and `beside` makes the calls of an engine beside the model's. `proved`, `proved_engine`,
+//! `proved_weak` and `ref_engine` call the proved code; `exports` is the interface of the exports, and `plain_export` puts the plain engine,
 //! writer and load windows behind it.
-//! `rule` and `refusals` make the tables that stand in the pages of `docs`, and `pages` puts them there.
+//! `weak` is the model of weak jobs, `plain_weak` the plain one, `weak_beside` compares, `weak_demand3` checks whole runs, and
+//! `weak_exports` is the interface of their exports, behind which `plain_weak_export` puts the plain one; `runs` and `damages` draw
+//! their calls too.
+//! `rule`, `weak_rule` and `refusals` make the tables that stand in the pages of `docs`, and `pages` puts them there.
 
 pub mod beside;
 pub mod damages;
@@ -34,12 +37,16 @@ pub mod plain;
 pub mod plain_engine;
 pub mod plain_export;
 pub mod plain_preview;
+pub mod plain_weak;
+pub mod plain_weak_export;
 pub mod plain_windows;
 pub mod plain_writer;
 #[cfg(feature = "linked")]
 pub mod proved;
 #[cfg(feature = "linked")]
 pub mod proved_engine;
+#[cfg(feature = "linked")]
+pub mod proved_weak;
 pub mod reader;
 #[cfg(feature = "linked")]
 pub mod ref_engine;
@@ -52,5 +59,10 @@ pub mod scripts;
 pub mod text;
 pub mod texts;
 pub mod trials;
+pub mod weak;
+pub mod weak_beside;
+pub mod weak_demand3;
+pub mod weak_exports;
+pub mod weak_rule;
 pub mod windows;
 pub mod writer;

@@ -3,14 +3,16 @@
 //! that load windows are.
 
 use crate::draw::Draw;
-use crate::engine::Limits;
+use crate::engine::{Engine, Limits};
 use crate::frames::LENT;
 use crate::loads;
-use crate::memory::{Memory, Step};
+use crate::memory::{Lists, Memory, Step};
 use crate::model::{word, Graph, Table};
 use crate::plain;
 use crate::plain_engine::{self, Lent};
+use crate::plain_weak;
 use crate::runs::{Call, Case};
+use crate::weak;
 
 pub const SLOTS: usize = 64;
 pub const EDGES_PER_TASK: usize = 8;
@@ -42,6 +44,12 @@ fn graph_of(tasks: usize, edges: usize) -> Graph {
 pub fn memory(tasks: usize, workers: usize) -> Memory {
     let Graph { weights, preds } = graph(tasks);
     Memory::sized(weights, preds.starts, preds.words, workers, SLOTS, FILL)
+}
+
+/// The lent memory of the same job begun weak, before begin.
+pub fn weak_memory(tasks: usize, workers: usize) -> weak::Memory {
+    let Graph { weights, preds } = graph(tasks);
+    weak::Memory::sized(weights, preds.starts, preds.words, workers, SLOTS, FILL)
 }
 
 /// The lent memory of a graph with N, E, P and K at the preview's limits, before begin.
@@ -101,17 +109,28 @@ fn layers(draw: &mut Draw, tasks: usize, all: usize) -> Vec<Vec<u32>> {
 
 /// The accepted steps of one run: turns go round the workers, and each takes the first accepted of Release, Fetch, Start,
 /// Complete, or nothing.
-pub fn accepted_steps(mut memory: Memory, workers: usize, slots: usize) -> Vec<(u32, Step)> {
-    let due = 3 * memory.n() + memory.e();
-    let mut lent = Lent::of(&mut memory);
-    plain_engine::begin(&mut lent, workers, slots).expect("the graph is sound and has few roots");
+pub fn accepted_steps(memory: Memory, workers: usize, slots: usize) -> Vec<(u32, Step)> {
+    accepted_steps_by(plain_engine::PLAIN, memory, workers, slots)
+}
+
+/// The same of a weak job.
+pub fn weak_accepted_steps(memory: weak::Memory, workers: usize, slots: usize) -> Vec<(u32, Step)> {
+    accepted_steps_by(plain_weak::PLAIN, memory, workers, slots)
+}
+
+fn accepted_steps_by<M: Lists>(engine: Engine<M>, mut memory: M, workers: usize, slots: usize) -> Vec<(u32, Step)> {
+    (engine.begin)(&mut memory, workers, slots).expect("the graph is sound and has few roots");
+    let [_, due] = memory.counts();
     let mut steps = Vec::with_capacity(due);
+    let mut idle = 0;
     for worker in (0..word(workers)).cycle() {
         if steps.len() == due {
             break;
         }
         let mut order = [Step::Release, Step::Fetch, Step::Start, Step::Complete].into_iter();
-        let taken = order.find(|&step| plain_engine::step(&mut lent, workers, slots, worker, step).is_ok());
+        let taken = order.find(|&step| (engine.step)(&mut memory, workers, slots, worker, step).is_ok());
+        idle = if taken.is_some() { 0 } else { idle + 1 };
+        assert!(idle < workers, "an unfinished run has a step that would be accepted");
         steps.extend(taken.map(|step| (worker, step)));
     }
     steps
@@ -142,10 +161,21 @@ pub fn preview_case() -> Case {
     case_of(preview_memory(), Limits::PREVIEW.workers, Limits::PREVIEW.slots)
 }
 
+/// A weak run as a list of calls.
+pub fn weak_case(tasks: usize, workers: usize) -> Case<weak::Memory> {
+    let memory = weak_memory(tasks, workers);
+    let steps = weak_accepted_steps(memory.clone(), workers, SLOTS);
+    case_by(memory, workers, SLOTS, steps)
+}
+
 fn case_of(memory: Memory, p: usize, k: usize) -> Case {
+    let steps = accepted_steps(memory.clone(), p, k);
+    case_by(memory, p, k, steps)
+}
+
+fn case_by<M: Lists>(memory: M, p: usize, k: usize, steps: Vec<(u32, Step)>) -> Case<M> {
     let begin = Call::Begin { p, k };
-    let steps = accepted_steps(memory.clone(), p, k).into_iter();
-    let steps = steps.map(|(worker, step)| Call::Step { p, k, worker, step });
-    let calls = std::iter::once(begin).chain(steps).collect();
+    let step = |(worker, step)| Call::Step { p, k, worker, step };
+    let calls = std::iter::once(begin).chain(steps.into_iter().map(step)).collect();
     Case { memory, p, k, calls }
 }

@@ -1,5 +1,8 @@
 //! The lent memory of begin and the steps, one field for each list of document 01.
 
+use crate::engine::{Engine, MODEL};
+use std::fmt::Debug;
+
 /// Words of a worker's row.
 pub const ROW_WORDS: usize = 6;
 
@@ -82,6 +85,103 @@ impl Memory {
     }
 }
 
+/// What the calls of one kind of job are lent, and how that kind answers.
+pub trait Lists: Clone + Debug + PartialEq + Eq + 'static {
+    /// What an accepted step answers.
+    type Outcome: Copy + Debug + PartialEq + Eq;
+
+    /// The model of this kind of job.
+    const MODEL: Engine<Self>;
+
+    /// The lists that are lent, in their order.
+    const LISTS: &'static [List];
+
+    /// The lists sized for a graph, P and K; all words outside weights and predecessor tables are `fill`.
+    fn sized(weights: Vec<u32>, pred_starts: Vec<u32>, preds: Vec<u32>, p: usize, k: usize, fill: u32) -> Self;
+
+    fn weights(&self) -> &[u32];
+
+    fn preds(&self) -> &[u32];
+
+    /// The ends of the rings, three words for each.
+    fn ends(&mut self) -> &mut [u32];
+
+    /// What the entries and the accepted word are judged by: the entries and the steps of a finished run.
+    fn counts(&self) -> [usize; 2];
+
+    /// The list's length, that of records in records.
+    fn length(&self, list: List) -> usize;
+
+    /// The words of a list, those of records counted through all of them.
+    fn words(&self, list: List) -> usize;
+
+    /// Gives the list another length; what is added is this word.
+    fn lend(&mut self, list: List, length: usize, fill: u32);
+
+    /// Writes a word and answers the one that was there; the words of records are counted through all of them. A place outside the
+    /// list has no word.
+    fn replace(&mut self, list: List, place: usize, word: u32) -> Option<u32>;
+
+    /// "N and E are the lengths of weights and predecessors": N.
+    fn n(&self) -> usize {
+        self.weights().len()
+    }
+
+    /// "N and E are the lengths of weights and predecessors": E.
+    fn e(&self) -> usize {
+        self.preds().len()
+    }
+}
+
+impl Lists for Memory {
+    type Outcome = Outcome;
+
+    const MODEL: Engine = MODEL;
+
+    const LISTS: &'static [List] = &List::ALL;
+
+    fn sized(weights: Vec<u32>, pred_starts: Vec<u32>, preds: Vec<u32>, p: usize, k: usize, fill: u32) -> Memory {
+        Memory::sized(weights, pred_starts, preds, p, k, fill)
+    }
+
+    fn weights(&self) -> &[u32] {
+        &self.weights
+    }
+
+    fn preds(&self) -> &[u32] {
+        &self.preds
+    }
+
+    fn ends(&mut self) -> &mut [u32] {
+        &mut self.ends
+    }
+
+    /// N entries and 3N+E steps.
+    fn counts(&self) -> [usize; 2] {
+        let (n, e) = (self.n(), self.e());
+        [n, 3 * n + e]
+    }
+
+    fn length(&self, list: List) -> usize {
+        Memory::length(self, list)
+    }
+
+    fn words(&self, list: List) -> usize {
+        match list {
+            List::Rows => self.rows.len() * ROW_WORDS,
+            _ => self.length(list),
+        }
+    }
+
+    fn lend(&mut self, list: List, length: usize, fill: u32) {
+        Memory::lend(self, list, length, fill);
+    }
+
+    fn replace(&mut self, list: List, place: usize, word: u32) -> Option<u32> {
+        Memory::replace(self, list, place, word)
+    }
+}
+
 /// The lent lists by name, in document 01's order.
 #[derive(Clone, Copy, Debug, PartialEq, Eq)]
 pub enum List {
@@ -91,6 +191,8 @@ pub enum List {
     SuccStarts,
     Succs,
     Degrees,
+    /// Of weak jobs alone.
+    Fixed,
     Rings,
     Ends,
     Counters,
@@ -101,6 +203,7 @@ pub enum List {
 }
 
 impl List {
+    /// The lists of a plain job.
     pub const ALL: [List; 13] = [
         List::Weights,
         List::PredStarts,
@@ -126,14 +229,15 @@ enum Named<'a> {
 }
 
 impl Memory {
-    fn named(&mut self, list: List) -> Named<'_> {
-        match list {
+    fn named(&mut self, list: List) -> Option<Named<'_>> {
+        Some(match list {
             List::Weights => Named::Words(&mut self.weights),
             List::PredStarts => Named::Words(&mut self.pred_starts),
             List::Preds => Named::Words(&mut self.preds),
             List::SuccStarts => Named::Words(&mut self.succ_starts),
             List::Succs => Named::Words(&mut self.succs),
             List::Degrees => Named::Words(&mut self.degrees),
+            List::Fixed => return None,
             List::Rings => Named::Words(&mut self.rings),
             List::Ends => Named::Words(&mut self.ends),
             List::Counters => Named::Counters(&mut self.counters),
@@ -141,7 +245,7 @@ impl Memory {
             List::Executed => Named::Words(&mut self.executed),
             List::Run => Named::Words(&mut self.run),
             List::Rows => Named::Rows(&mut self.rows),
-        }
+        })
     }
 
     /// The list's length, that of the rows in records.
@@ -153,6 +257,7 @@ impl Memory {
             List::SuccStarts => self.succ_starts.len(),
             List::Succs => self.succs.len(),
             List::Degrees => self.degrees.len(),
+            List::Fixed => 0,
             List::Rings => self.rings.len(),
             List::Ends => self.ends.len(),
             List::Counters => self.counters.len(),
@@ -166,16 +271,17 @@ impl Memory {
     /// Gives the list another length; what is added is this word.
     pub fn lend(&mut self, list: List, length: usize, fill: u32) {
         match self.named(list) {
-            Named::Words(words) => words.resize(length, fill),
-            Named::Counters(counters) => counters.resize(length, fill as i32),
-            Named::Rows(rows) => rows.resize(length, [fill; ROW_WORDS]),
+            Some(Named::Words(words)) => words.resize(length, fill),
+            Some(Named::Counters(counters)) => counters.resize(length, fill as i32),
+            Some(Named::Rows(rows)) => rows.resize(length, [fill; ROW_WORDS]),
+            None => {}
         }
     }
 
     /// Writes a word and answers the one that was there; the words of the rows are counted through all records. A place
     /// outside the list has no word.
     pub fn replace(&mut self, list: List, place: usize, word: u32) -> Option<u32> {
-        match self.named(list) {
+        match self.named(list)? {
             Named::Words(words) => words.get_mut(place).map(|found| std::mem::replace(found, word)),
             Named::Counters(counters) => {
                 let found = counters.get_mut(place)?;

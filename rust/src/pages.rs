@@ -1,7 +1,7 @@
 //! The pages of `docs` with tables that are made here, so that what they show is what the model does. `make-pages` writes
 //! them again; a test says when that is due.
 
-use crate::{refusals, rule};
+use crate::{refusals, rule, weak_rule};
 use std::fs;
 use std::path::{Path, PathBuf};
 
@@ -23,7 +23,7 @@ pub struct Page {
 pub fn rule() -> Page {
     Page {
         file: "RULE.md",
-        blocks: rule::blocks(),
+        blocks: [rule::blocks(), weak_rule::blocks()].into_iter().flatten().collect(),
     }
 }
 

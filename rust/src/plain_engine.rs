@@ -16,16 +16,16 @@ use crate::model::{refused, Refusal, MAX_EDGES, MAX_TASKS};
 use graph::Preds;
 use std::ops::{Range, RangeInclusive};
 
-const WORKERS: RangeInclusive<usize> = 1..=16;
-const SLOTS: RangeInclusive<usize> = 2..=64;
-const MAX_WEIGHT: u32 = 65_535;
+pub(crate) const WORKERS: RangeInclusive<usize> = 1..=16;
+pub(crate) const SLOTS: RangeInclusive<usize> = 2..=64;
+pub(crate) const MAX_WEIGHT: u32 = 65_535;
 /// "counter beyond ±2^30"
-const COUNTERS: RangeInclusive<i32> = -(1 << 30)..=1 << 30;
+pub(crate) const COUNTERS: RangeInclusive<i32> = -(1 << 30)..=1 << 30;
 
 /// "Phases: 0 idle, 1 fetched, 2 running."
-const IDLE: u32 = 0;
-const FETCHED: u32 = 1;
-const RUNNING: u32 = 2;
+pub(crate) const IDLE: u32 = 0;
+pub(crate) const FETCHED: u32 = 1;
+pub(crate) const RUNNING: u32 = 2;
 
 /// The engine of this file, lent the lists of a `Memory`.
 pub const PLAIN: Engine = Engine {
@@ -264,17 +264,17 @@ struct Ends {
 }
 
 /// 8: "a damaged word", detail 0.
-fn damaged<T>() -> Result<T, Refusal> {
+pub(crate) fn damaged<T>() -> Result<T, Refusal> {
     refused(8, 0)
 }
 
 /// A place or a number as a word: once the limits hold, all of them are far below 2^32.
-fn word(value: usize) -> u32 {
+pub(crate) fn word(value: usize) -> u32 {
     value as u32
 }
 
 /// The number after this one, modulo `bound`, which is above both.
-fn after(number: usize, bound: usize) -> usize {
+pub(crate) fn after(number: usize, bound: usize) -> usize {
     if number + 1 == bound {
         0
     } else {

@@ -2,7 +2,7 @@
 
 use crate::engine::Engine;
 use crate::exports::{call, declare, Reply, StepReply};
-use crate::memory::{Outcome, Step};
+use crate::memory::{Outcome, Step, ROW_WORDS};
 use crate::model::Refusal;
 use crate::plain_engine::Lent;
 
@@ -14,6 +14,8 @@ pub const PROVED: Engine = Engine {
 };
 
 declare! {
+    u32, [u32; ROW_WORDS]:
+
     yolluvek_begin(
         succ_starts: mut, succs: mut, degrees: mut, rings: mut,
         ends: mut, counters: mut, buffers: mut, executed: mut,
@@ -79,7 +81,7 @@ pub fn release(lent: &mut Lent, p: usize, k: usize, worker: u32) -> Result<Outco
 
 /// The preview's five calls, with the engine's parameters and replies.
 pub mod preview {
-    use super::{call, declare, Engine, Lent, Outcome, Refusal, Reply, Step, StepReply};
+    use super::{call, declare, Engine, Lent, Outcome, Refusal, Reply, Step, StepReply, ROW_WORDS};
 
     /// The proved preview, lent the lists of a `Memory`.
     pub const PREVIEW: Engine = Engine {
@@ -89,6 +91,8 @@ pub mod preview {
     };
 
     declare! {
+        u32, [u32; ROW_WORDS]:
+
         yolluvek_preview_begin(
             succ_starts: mut, succs: mut, degrees: mut, rings: mut,
             ends: mut, counters: mut, buffers: mut, executed: mut,

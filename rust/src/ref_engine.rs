@@ -3,7 +3,7 @@
 
 use crate::engine::Engine;
 use crate::exports::{call, declare, Reply, StepReply};
-use crate::memory::{Outcome, Step};
+use crate::memory::{Outcome, Step, ROW_WORDS};
 use crate::model::Refusal;
 use crate::plain_engine::Lent;
 
@@ -15,6 +15,8 @@ pub const RECORDS: Engine = Engine {
 };
 
 declare! {
+    u32, [u32; ROW_WORDS]:
+
     yolluvek_ref_begin(
         succ_starts: mut, succs: mut, degrees: mut, rings: mut,
         ends: mut, counters: mut, buffers: mut, executed: mut,

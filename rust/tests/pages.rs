@@ -163,11 +163,11 @@ fn lines(files: &[PathBuf]) -> usize {
 #[test]
 fn what_is_counted() {
     let counts = [
-        ("7,600 lines of code", 7_600, lines(&files("src", "rt"))),
-        ("7,200 lines of definitions", 7_200, lines(&files("specs", "antt"))),
-        ("47,800 lines of proof", 47_800, lines(&files("proofs", "antt"))),
-        ("about 300 wrong programs", 300, files("must-fail", "edit").len()),
-        ("about 75 crates", 75, entries(&file("crates")).len()),
+        ("10,100 lines of code", 10_100, lines(&files("src", "rt"))),
+        ("9,800 lines of definitions", 9_800, lines(&files("specs", "antt"))),
+        ("63,600 lines of proof", 63_600, lines(&files("proofs", "antt"))),
+        ("about 390 wrong programs", 390, files("must-fail", "edit").len()),
+        ("about 92 crates", 92, entries(&file("crates")).len()),
     ];
     let page = text(FRONT);
     for (told, about, counted) in counts {

@@ -3,11 +3,13 @@
 use engine_model::draw::Draw;
 use engine_model::engine::Engine;
 use engine_model::engines;
-use engine_model::memory::{Memory, Outcome, Step, HELD};
+use engine_model::memory::{Memory, Outcome, Step, HELD, NIL};
 use engine_model::model::{Refusal, Table};
 use engine_model::pages;
 use engine_model::rule::{diamond, fallback, long_task, past_the_last, room, running, tie, Example, View};
 use engine_model::runs::{next_case, Call, Case, Reply};
+use engine_model::weak::Copied;
+use engine_model::weak_rule::{seam, Row};
 
 #[test]
 fn the_tables_of_the_page_are_the_model_s() {
@@ -138,6 +140,43 @@ fn exercise_3() {
     assert_eq!(before_the_refusal.waiting(0), [(0, &[0][..]), (1, &[4, 5])]);
     assert_eq!(before_the_refusal.waiting(1), [(1, &[2, 3][..])]);
     assert_told("The fifth and the sixth Release are refused, both with 11 and task 6.");
+}
+
+/// Tiles 1 and 2 weigh 5 and 3; their seam, task 3, weighs 4. Both tiles are complete when worker 1 makes the seam's first copy: a
+/// tie. Worker 0 fetches from filler 1 first, since it took both its tasks from filler 0.
+#[test]
+fn the_seam_s_rows() {
+    let complete = |worker, [task, pred]: [u32; 2], loads, left| Row {
+        step: Step::Complete,
+        worker,
+        copy: Copied { task, pred },
+        loads,
+        fixed: None,
+        owner: None,
+        left,
+    };
+    let release = |worker, [task, pred]: [u32; 2], loads, fixed, owner, left| Row {
+        step: Step::Release,
+        worker,
+        copy: Copied { task, pred },
+        loads,
+        fixed,
+        owner: Some(owner),
+        left,
+    };
+    let expected = [
+        complete(0, [0, NIL], [1, 0], 0),
+        release(0, [1, 0], [0, 0], None, 0, 1),
+        release(0, [2, 0], [5, 0], None, 1, 1),
+        complete(1, [2, 0], [5, 3], 0),
+        complete(0, [1, 0], [5, 0], 0),
+        release(1, [3, 2], [0, 0], None, 0, 2),
+        release(0, [3, 1], [4, 0], Some(0), 0, 2),
+        complete(0, [3, 2], [4, 0], 1),
+        complete(0, [3, 1], [4, 0], 0),
+    ];
+    assert_eq!(seam(), expected);
+    assert_told("The load of worker 0 is 4 until both copies are completed, and not 8: the weight counts once.");
 }
 
 /// The page says so, wherever its lines break.

@@ -13,12 +13,14 @@
 //! calls of a run the lists are private to a `JobOf`, which lends them to these calls alone.
 
 use crate::ids::{TaskId, WorkerId};
+use crate::kinds::{Copied, Kind, Plain, Recorded, Weak, WeakRun};
 use crate::memory::{Ends, Entry, Memory, Row, Run};
+use std::mem::{size_of, size_of_val};
 
 /// What begin, the check, the judging call and the load windows answer.
 #[derive(Clone, Copy, Debug, PartialEq, Eq)]
 #[repr(C)]
-pub(crate) struct Reply {
+pub struct Reply {
     pub number: u32,
     pub detail: u32,
 }
@@ -27,12 +29,25 @@ pub(crate) struct Reply {
 /// Release with the degree left, 3 of one with the task placed and its owner.
 #[derive(Clone, Copy, Debug, PartialEq, Eq)]
 #[repr(C)]
-pub(crate) struct StepReply {
+pub struct StepReply {
     pub number: u32,
     pub detail: u32,
     pub kind: u32,
     pub first: u32,
     pub second: u32,
+}
+
+/// What a step of a weak job answers. The kind is 0 of a refused step, of Start and of Complete, 1 of a Fetch with its copy,
+/// 2 of a Release with the copy placed and its owner.
+#[derive(Clone, Copy, Debug, PartialEq, Eq)]
+#[repr(C)]
+pub struct WeakStepReply {
+    pub number: u32,
+    pub detail: u32,
+    pub kind: u32,
+    pub first: u32,
+    pub second: u32,
+    pub third: u32,
 }
 
 /// What the reader answers.
@@ -212,7 +227,7 @@ macro_rules! lookups {
         }
 
         $($(#[$says])*
-        pub(crate) fn $name(memory: &Memory, side: u32, task: TaskId) -> $reply {
+        pub(crate) fn $name<K: Kind>(memory: &Memory<K>, side: u32, task: TaskId) -> $reply {
             // SAFETY: good, alone: five vectors of one borrow; apart: none is written
             unsafe {
                 $call(
@@ -252,15 +267,22 @@ macro_rules! lent {
     };
 }
 
-/// Declares calls on the lists of a run, and makes them on those of a `Memory`. Whether a call writes a list is named for
-/// each that some call writes and another doesn't; none writes the first three, and each writes the last two.
+/// The words of a list, which has no gaps.
+fn words_in<T>(list: &[T]) -> usize {
+    size_of_val(list) / size_of::<u32>()
+}
+
+/// Declares calls on the lists of a run, and makes them on those of a `Memory` of the kind named, whose slots, entries and
+/// run words have the types behind it. Whether a call writes a list is named for each that some call writes and another
+/// doesn't; none writes the first three, and each writes the last two. Weak jobs alone have fixed workers.
 macro_rules! run_calls {
-    ($(
+    ($kind:ty, $slot:ty, $entry:ty, $run:ty: $(
         $(#[$says:meta])*
         $name:ident = $call:ident(
             succ_starts: $succ_starts:tt,
             succs: $succs:tt,
             degrees: $degrees:tt,
+            $(fixed: $fixed:tt,)?
             rings: $rings:tt,
             ends: $ends:tt,
             counters: $counters:tt,
@@ -283,7 +305,9 @@ macro_rules! run_calls {
                 succs_len: usize,
                 degrees: *$degrees u32,
                 degrees_len: usize,
-                rings: *$rings TaskId,
+                $(fixed: *$fixed u32,
+                fixed_len: usize,)?
+                rings: *$rings $slot,
                 rings_len: usize,
                 ends: *$ends Ends,
                 ends_len: usize,
@@ -291,11 +315,11 @@ macro_rules! run_calls {
                 counters_len: usize,
                 buffers: *$buffers TaskId,
                 buffers_len: usize,
-                executed: *$executed Entry,
+                executed: *$executed $entry,
                 executed_len: usize,
-                run: *mut Run,
+                run: *mut $run,
                 run_len: usize,
-                rows: *mut Row,
+                rows: *mut Row<$slot>,
                 rows_len: usize,
                 p: usize,
                 k: usize,
@@ -304,10 +328,9 @@ macro_rules! run_calls {
         }
 
         $($(#[$says])*
-        pub(crate) fn $name(memory: &mut Memory, p: usize, k: usize $(, $worker: $number)?) -> $reply {
-            // SAFETY: good: twelve vectors, and a Run, which is its two words; an Entry is two words and Ends are three, so
-            // their counts are twice and three times the vector's length, which is at most 1,024. Apart, alone: fields of
-            // one mutable borrow
+        pub(crate) fn $name(memory: &mut Memory<$kind>, p: usize, k: usize $(, $worker: $number)?) -> $reply {
+            // SAFETY: good: vectors, and the run words, which are a field; slots and rows are lent as records, and entries,
+            // ends and run words as the words that they are, without gaps. Apart, alone: fields of one mutable borrow
             unsafe {
                 $call(
                     memory.tables.weights.as_ptr(),
@@ -322,18 +345,20 @@ macro_rules! run_calls {
                     memory.succs.len(),
                     lent!($degrees memory.degrees),
                     memory.degrees.len(),
+                    $(lent!($fixed memory.fixed),
+                    memory.fixed.len(),)?
                     lent!($rings memory.rings),
                     memory.rings.len(),
                     lent!($ends memory.ends),
-                    3 * memory.ends.len(),
+                    words_in(&memory.ends),
                     lent!($counters memory.counters),
                     memory.counters.len(),
                     lent!($buffers memory.buffers),
                     memory.buffers.len(),
                     lent!($executed memory.executed),
-                    2 * memory.executed.len(),
+                    words_in(&memory.executed),
                     &mut memory.run,
-                    2,
+                    size_of::<$run>() / size_of::<u32>(),
                     memory.rows.as_mut_ptr(),
                     memory.rows.len(),
                     p,
@@ -346,6 +371,8 @@ macro_rules! run_calls {
 }
 
 run_calls! {
+    Plain, TaskId, Entry, Run:
+
     /// Begin, with P and K.
     begin = yolluvek_begin(
         succ_starts: mut, succs: mut, degrees: mut, rings: mut,
@@ -383,6 +410,8 @@ run_calls! {
 
 // The preview's calls: the engine's parameters and replies.
 run_calls! {
+    Plain, TaskId, Entry, Run:
+
     /// Begin by the preview, with P and K.
     preview_begin = yolluvek_preview_begin(
         succ_starts: mut, succs: mut, degrees: mut, rings: mut,
@@ -418,17 +447,56 @@ run_calls! {
     ) -> StepReply;
 }
 
+// The calls of weak jobs.
+run_calls! {
+    Weak, Copied, Recorded, WeakRun:
+
+    /// Begin of a weak job, with P and K.
+    weak_begin = yolluvek_weak_begin(
+        succ_starts: mut, succs: mut, degrees: mut, fixed: mut, rings: mut,
+        ends: mut, counters: mut, buffers: mut, executed: mut,
+    ) -> Reply;
+
+    /// Fetch of a weak job, with P, K and the worker.
+    weak_fetch = yolluvek_weak_fetch(
+        succ_starts: const, succs: const, degrees: const, fixed: const, rings: const,
+        ends: mut, counters: const, buffers: const, executed: const,
+        worker: WorkerId,
+    ) -> WeakStepReply;
+
+    /// Start of a weak job, with P, K and the worker.
+    weak_start = yolluvek_weak_start(
+        succ_starts: const, succs: const, degrees: const, fixed: const, rings: const,
+        ends: const, counters: const, buffers: const, executed: const,
+        worker: WorkerId,
+    ) -> WeakStepReply;
+
+    /// Complete of a weak job, with P, K and the worker.
+    weak_complete = yolluvek_weak_complete(
+        succ_starts: const, succs: const, degrees: mut, fixed: const, rings: const,
+        ends: const, counters: mut, buffers: mut, executed: mut,
+        worker: WorkerId,
+    ) -> WeakStepReply;
+
+    /// Release of a weak job, with P, K and the worker.
+    weak_release = yolluvek_weak_release(
+        succ_starts: const, succs: const, degrees: const, fixed: mut, rings: mut,
+        ends: mut, counters: mut, buffers: const, executed: const,
+        worker: WorkerId,
+    ) -> WeakStepReply;
+}
+
 /// A step, with P, K and the worker.
-pub(crate) type StepCall = fn(&mut Memory, usize, usize, WorkerId) -> StepReply;
+pub type StepCall<K = Plain> = fn(&mut Memory<K>, usize, usize, WorkerId) -> <K as Kind>::Reply;
 
 /// Begin and the steps of one caller.
 #[derive(Clone, Copy)]
-pub(crate) struct Calls {
-    pub begin: fn(&mut Memory, usize, usize) -> Reply,
-    pub fetch: StepCall,
-    pub start: StepCall,
-    pub complete: StepCall,
-    pub release: StepCall,
+pub struct Calls<K: Kind = Plain> {
+    pub begin: fn(&mut Memory<K>, usize, usize) -> Reply,
+    pub fetch: StepCall<K>,
+    pub start: StepCall<K>,
+    pub complete: StepCall<K>,
+    pub release: StepCall<K>,
 }
 
 pub(crate) const ENGINE: Calls = Calls {
@@ -445,4 +513,12 @@ pub(crate) const PREVIEW: Calls = Calls {
     start: preview_start,
     complete: preview_complete,
     release: preview_release,
+};
+
+pub(crate) const WEAK: Calls<Weak> = Calls {
+    begin: weak_begin,
+    fetch: weak_fetch,
+    start: weak_start,
+    complete: weak_complete,
+    release: weak_release,
 };

@@ -1,4 +1,4 @@
-//! Task and worker numbers.
+//! Task and worker numbers, and copies.
 
 use std::fmt;
 
@@ -18,6 +18,39 @@ pub struct TaskId(u32);
 #[derive(Clone, Copy, Debug, PartialEq, Eq, PartialOrd, Ord, Hash)]
 #[repr(transparent)]
 pub struct WorkerId(u32);
+
+/// A copy of a task in a weak job: the task, and the finished predecessor that it is worked on with.
+///
+/// Prints "3·2" for task 3 with predecessor 2, and "3" for a root's copy.
+#[derive(Clone, Copy, Debug, PartialEq, Eq, PartialOrd, Ord, Hash)]
+pub struct TaskCopy {
+    /// The task.
+    pub task: TaskId,
+    /// The predecessor; None in the one copy of a root.
+    pub predecessor: Option<TaskId>,
+}
+
+/// The word for "no task".
+pub(crate) const NIL: u32 = 65_535;
+
+impl TaskCopy {
+    /// The copy with this word for its predecessor.
+    pub(crate) fn of(task: TaskId, predecessor: u32) -> TaskCopy {
+        TaskCopy {
+            task,
+            predecessor: (predecessor != NIL).then_some(TaskId::new(predecessor)),
+        }
+    }
+}
+
+impl fmt::Display for TaskCopy {
+    fn fmt(&self, to: &mut fmt::Formatter<'_>) -> fmt::Result {
+        match self.predecessor {
+            Some(predecessor) => to.pad(&format!("{}·{predecessor}", self.task)),
+            None => self.task.fmt(to),
+        }
+    }
+}
 
 impl TaskId {
     /// The task with this number; whether there is one is judged by the calls.

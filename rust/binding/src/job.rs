@@ -1,12 +1,13 @@
 //! A job: a task graph and the memory of its run.
 
-use crate::callers::{Caller, Engine, Planner};
+use crate::callers::{Caller, Engine, ItemOf, Planner, ReleasedOf, WeakEngine};
 use crate::ffi;
 use crate::ids::{TaskId, WorkerId};
+use crate::kinds::Kind;
 use crate::memory::Memory;
 use crate::refusal::{Asked, Refusal};
-use crate::reply::{self, Reply};
-use crate::step::{Call, Outcome, Released, Step};
+use crate::reply::{self, Reply, Said};
+use crate::step::{Call, Outcome, Step};
 use crate::tables::Tables;
 use std::hash::{Hash, Hasher};
 use std::marker::PhantomData;
@@ -124,10 +125,46 @@ pub type Job = JobOf<Engine>;
 /// ```
 pub type Preview = JobOf<Planner>;
 
-/// What a [`Job`] and a [`Preview`] share: a task graph with the memory of its run, and the calls of one caller on it.
+/// A weak job, for seams that blend neighbour by neighbour: a task is worked on once with each of its predecessors, as soon
+/// as that one is complete. What waits, is fetched, held and recorded is a [copy](crate::TaskCopy) of a task.
+///
+/// It is made and driven as a [`Job`] is, within the same limits, and has all its calls and views ([`JobOf`] lists them) but
+/// the load windows. Each accepted Release makes one copy. The first copy of a task picks its worker as a job's task does, and
+/// [fixes](WeakJob::fixed) the task to it; later copies go only to that worker, and are refused with
+/// [`RingFull`](Refusal::RingFull) where its ring is full. The weight counts in that worker's load from the first copy's
+/// Release to the last copy's Complete, which completes the task.
+///
+/// ```
+/// use yolluvek::{Refusal, Step, WeakJob, WorkerId};
+///
+/// // tasks 1 and 2 wait for task 0, and task 3 is worked on with 1 and with 2
+/// let text = b"2\n0 0 0\n1 5 1 0\n2 3 1 0\n3 0 2 1 2\n";
+/// let mut job = WeakJob::from_text(text, 2, 4)?;
+/// job.begin()?;
+/// let mut workers = job.worker_ids().cycle();
+/// while !job.is_finished() {
+///     let worker = workers.next().expect("they take turns for ever");
+///     // a turn is the first of these that is accepted, or nothing
+///     let turn = [Step::Release, Step::Fetch, Step::Start, Step::Complete];
+///     turn.into_iter().find(|&step| job.step(step, worker).is_ok());
+/// }
+/// // with E edges and R roots, 4E + 3R steps and E + R copies
+/// assert_eq!(job.accepted(), 19);
+/// let record: Vec<(String, u32)> = job
+///     .record()
+///     .map(|entry| (entry.copy.to_string(), entry.worker.number()))
+///     .collect();
+/// let copies = [("0", 0), ("2·0", 1), ("1·0", 0), ("3·2", 0), ("3·1", 0)];
+/// assert_eq!(record, copies.map(|(copy, worker)| (copy.to_owned(), worker)));
+/// # Ok::<(), Refusal>(())
+/// ```
+pub type WeakJob = JobOf<WeakEngine>;
+
+/// What a [`Job`], a [`Preview`] and a [`WeakJob`] share: a task graph with the memory of its run, and the calls of one caller
+/// on it. Where it says task, a weak job has a copy.
 #[derive(Clone, Debug)]
 pub struct JobOf<C: Caller> {
-    pub(crate) memory: Memory,
+    pub(crate) memory: Memory<C::Kind>,
     pub(crate) workers: usize,
     pub(crate) slots: usize,
     pub(crate) begun: bool,
@@ -205,7 +242,7 @@ impl<C: Caller> JobOf<C> {
     }
 
     /// All that tells a job from another.
-    fn state(&self) -> (&Memory, usize, usize, bool) {
+    fn state(&self) -> (&Memory<C::Kind>, usize, usize, bool) {
         (&self.memory, self.workers, self.slots, self.begun)
     }
 
@@ -239,7 +276,7 @@ impl<C: Caller> JobOf<C> {
     /// assert_eq!(job.begin(), Ok(()));
     /// ```
     pub fn begin(&mut self) -> Result<(), Refusal> {
-        let reply = (C::WHOSE.calls().begin)(&mut self.memory, self.workers, self.slots);
+        let reply = (C::CALLS.begin)(&mut self.memory, self.workers, self.slots);
         let asked = Asked::Begin {
             whose: C::WHOSE,
             tables: &self.memory.tables,
@@ -273,7 +310,7 @@ impl<C: Caller> JobOf<C> {
     /// assert_eq!((refusal.number(), refusal.detail()), (9, 2));
     /// # Ok::<(), Refusal>(())
     /// ```
-    pub fn step(&mut self, step: Step, worker: WorkerId) -> Result<Outcome, Refusal> {
+    pub fn step(&mut self, step: Step, worker: WorkerId) -> Result<Outcome<ItemOf<C>, ReleasedOf<C>>, Refusal> {
         match step {
             Step::Fetch => self.fetch(worker).map(Outcome::Fetched),
             Step::Start => self.start(worker).map(|()| Outcome::Started),
@@ -297,8 +334,8 @@ impl<C: Caller> JobOf<C> {
     /// assert_eq!(job.fetch(WorkerId::new(0)), Ok(TaskId::new(0)));
     /// # Ok::<(), Refusal>(())
     /// ```
-    pub fn fetch(&mut self, worker: WorkerId) -> Result<TaskId, Refusal> {
-        self.taken(Step::Fetch, worker)?.fetched()
+    pub fn fetch(&mut self, worker: WorkerId) -> Result<ItemOf<C>, Refusal> {
+        C::Kind::fetched(&self.taken(Step::Fetch, worker)?)
     }
 
     /// Start: the worker starts the task that it has fetched.
@@ -323,7 +360,7 @@ impl<C: Caller> JobOf<C> {
     }
 
     /// Complete: the task that the worker is running joins the record, and the worker's buffer if it has successors. Its
-    /// weight leaves the worker's load.
+    /// weight leaves the worker's load. In a weak job the copy joins the record, and the rest comes with the last copy.
     ///
     /// # Errors
     ///
@@ -346,7 +383,8 @@ impl<C: Caller> JobOf<C> {
     }
 
     /// Release: the next successor of the oldest task in the worker's buffer waits for one task less; if that was the
-    /// last, it is placed into a ring that the worker fills, of the worker with the least load or of one after it.
+    /// last, it is placed into a ring that the worker fills, of the worker with the least load or of one after it. In a weak
+    /// job a copy of it is placed, the first one so, and later ones with the worker that the successor is fixed to.
     ///
     /// # Errors
     ///
@@ -379,20 +417,20 @@ impl<C: Caller> JobOf<C> {
     /// assert_eq!(job.release(worker), Ok(Released::DegreeLeft { degree: 1 }));
     /// # Ok::<(), Refusal>(())
     /// ```
-    pub fn release(&mut self, worker: WorkerId) -> Result<Released, Refusal> {
-        self.taken(Step::Release, worker)?.released()
+    pub fn release(&mut self, worker: WorkerId) -> Result<ReleasedOf<C>, Refusal> {
+        C::Kind::released(&self.taken(Step::Release, worker)?)
     }
 
     /// The library's reply to a step that it accepts.
     fn taken(&mut self, step: Step, worker: WorkerId) -> Result<Reply, Refusal> {
-        let calls = C::WHOSE.calls();
+        let calls = C::CALLS;
         let call = match step {
             Step::Fetch => calls.fetch,
             Step::Start => calls.start,
             Step::Complete => calls.complete,
             Step::Release => calls.release,
         };
-        let words = call(&mut self.memory, self.workers, self.slots, worker);
+        let said: Said = call(&mut self.memory, self.workers, self.slots, worker).into();
         let asked = Asked::Step {
             whose: C::WHOSE,
             step,
@@ -400,14 +438,15 @@ impl<C: Caller> JobOf<C> {
             workers: self.workers,
             slots: self.slots,
             begun: self.begun,
+            fixed: &self.memory.fixed,
         };
-        asked.answered(words.number, words.detail)?;
+        asked.answered(said.number, said.detail)?;
         // a log starts at a begin, so that it tells the whole run or nothing
         if let Some(log) = self.log.as_mut().filter(|log| !log.is_empty()) {
             log.push(Call::Step(step, worker));
         }
         Ok(Reply {
-            words,
+            words: said.words,
             tasks: self.tasks(),
             workers: self.workers,
         })
@@ -465,7 +504,7 @@ impl<C: Caller> JobOf<C> {
         self.log.get_or_insert_with(Vec::new);
     }
 
-    /// The accepted calls of this run in their order, the begin first, where a log is kept: at most 1 + 3N + E. Refused
+    /// The accepted calls of this run in their order, the begin first, where a log is kept: at most 1 more than [`all_steps`](JobOf::all_steps). Refused
     /// calls changed nothing, and aren't in it. Replayed, a log that isn't empty gives the job as it is.
     ///
     /// ```

@@ -7,18 +7,23 @@ use crate::memory::{Ends, Entry, Memory, Row, Run};
 use crate::tables::Tables;
 use std::mem::{align_of, offset_of, size_of};
 
+mod weak;
+
 const P: usize = 2;
 const K: usize = 4;
 const NIL: u32 = 65_535;
 
 /// Tasks 1 and 2 after task 0, task 3 after both.
-fn diamond() -> Memory {
-    let tables = Tables {
+fn tables() -> Tables {
+    Tables {
         weights: vec![0, 5, 3, 0],
         pred_starts: vec![0, 0, 1, 2, 4],
         preds: [0, 0, 1, 2].map(TaskId::new).to_vec(),
-    };
-    Memory::sized(tables, P, K, Whose::Engine)
+    }
+}
+
+fn diamond() -> Memory {
+    Memory::sized(tables(), P, K, Whose::Engine)
 }
 
 /// Begin and the steps of the engine, and those of the preview, which are declared alike.
@@ -50,7 +55,7 @@ fn row(words: [u32; 6]) -> Row {
     let [phase, held, pointer, read, write, cursor] = words;
     Row {
         phase,
-        held,
+        held: TaskId::new(held),
         pointer: WorkerId::new(pointer),
         read,
         write,
@@ -225,7 +230,7 @@ fn steps_read_the_fields_of_a_row() {
 fn steps_read_the_fields_of_a_row_by(by: Calls) {
     let damages: [fn(&mut Row); 6] = [
         |row| row.phase = 3,
-        |row| row.held = 4,
+        |row| row.held = TaskId::new(4),
         |row| row.pointer = WorkerId::new(P as u32),
         |row| row.read = 2,
         |row| row.write = 5,
@@ -386,7 +391,7 @@ fn replies_of_the_writer() {
         weights,
         pred_starts,
         preds,
-    } = diamond().tables;
+    } = tables();
     let write = |weights: &[u32], preds: &[TaskId], bytes: usize| {
         let mut text = vec![b'x'; bytes];
         let WriteReply { number, detail, used } = ffi::write_text(weights, &pred_starts, preds, &mut text);

@@ -7,7 +7,8 @@
 //! another scheduler the graph is saved as such a text again ([`Tables::to_text`]). [`Job::windows`] says which weight each
 //! worker finished in every run of neighbouring entries of the record.
 //!
-//! A [`Preview`] is a job with smaller limits, for a planning window that has less memory.
+//! A [`Preview`] is a job with smaller limits, for a planning window that has less memory. A [`WeakJob`] works on each task
+//! once with each of its predecessors, by [copies](TaskCopy).
 //!
 //! # Example
 //!
@@ -67,8 +68,8 @@
 //!
 //! # Linking
 //!
-//! The build script links the archives `libgraph_export.a`, `libstg_export.a`, `libengine_export.a`, `libpreview_export.a`
-//! and `libwindows_export.a` (x86-64 Linux), which `rt staticlib` writes to `target/staticlib` of the repository; the
+//! The build script links the archives `libgraph_export.a`, `libstg_export.a`, `libengine_export.a`, `libpreview_export.a`,
+//! `libwindows_export.a` and `libweak_export.a` (x86-64 Linux), which `rt staticlib` writes to `target/staticlib` of the repository; the
 //! environment variable `YOLLUVEK_LIB` names another folder. A relative name counts from the folder that cargo is called
 //! in, or else from the nearest folder around this package that has it. A call allocates nothing and uses at most about
 //! 41 KB of stack.
@@ -81,6 +82,7 @@ mod dummies;
 mod ffi;
 mod ids;
 mod job;
+mod kinds;
 #[cfg(test)]
 mod layout;
 pub mod limits;
@@ -90,16 +92,18 @@ mod reply;
 mod step;
 mod tables;
 mod views;
+mod weak;
 mod windows;
 
-pub use callers::{Caller, Engine, Planner};
+pub use callers::{Caller, Engine, ItemOf, Planner, ReleasedOf, WeakEngine};
 pub use dummies::Lack;
-pub use ids::{TaskId, WorkerId};
-pub use job::{Job, JobOf, Preview, Side};
+pub use ids::{TaskCopy, TaskId, WorkerId};
+pub use job::{Job, JobOf, Preview, Side, WeakJob};
 pub use memory::{Ends, Entry};
 pub use refusal::Refusal;
-pub use step::{Call, NextRelease, Outcome, Phase, Released, Step};
+pub use step::{Call, NextRelease, Outcome, Phase, Placed, Released, Step};
 pub use tables::Tables;
+pub use weak::CopyEntry;
 pub use windows::{Window, Windows, WindowsIter};
 
 /// The program of the front page, compiled and run as it stands there.

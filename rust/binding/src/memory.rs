@@ -2,7 +2,18 @@
 
 use crate::callers::Whose;
 use crate::ids::{TaskId, WorkerId};
+use crate::kinds::{Kind, Plain, RunWords};
 use crate::tables::Tables;
+use std::fmt::Debug;
+use std::hash::Hash;
+
+/// What is lent as words without gaps.
+pub trait Words: Copy + Debug + Eq + Hash {
+    /// Words that no run has.
+    const UNWRITTEN: Self;
+    /// Its words.
+    fn words(self) -> Vec<u32>;
+}
 
 /// An entry of the record: a task, and the worker that completed it.
 #[derive(Clone, Copy, Debug, PartialEq, Eq, Hash)]
@@ -14,12 +25,13 @@ pub struct Entry {
     pub worker: WorkerId,
 }
 
-/// A worker's row: "phase, held task, ring pointer, buffer read place, buffer write place, cursor".
+/// A worker's row: "phase, held task, ring pointer, buffer read place, buffer write place, cursor"; in a weak job it holds a
+/// copy.
 #[derive(Clone, Copy, Debug, PartialEq, Eq, Hash)]
 #[repr(C)]
-pub(crate) struct Row {
+pub struct Row<S = TaskId> {
     pub phase: u32,
-    pub held: u32,
+    pub held: S,
     pub pointer: WorkerId,
     pub read: u32,
     pub write: u32,
@@ -38,35 +50,47 @@ pub struct Ends {
     pub count: u32,
 }
 
-/// The two run words.
+/// The two run words of document 01.
 #[derive(Clone, Copy, Debug, PartialEq, Eq, Hash)]
 #[repr(C)]
-pub(crate) struct Run {
+pub struct Run {
     pub entries: u32,
     pub accepted: u32,
 }
 
 /// A word that is no phase, no start and no task.
-const UNWRITTEN: u32 = u32::MAX;
+pub const UNWRITTEN: u32 = u32::MAX;
 
-/// The thirteen lists in document 01's order. No call but an accepted one of the engine writes them.
+/// The lists in document 01's order, with the fixed workers of a weak job behind the degrees. No call but an accepted one of the engine writes them.
 #[derive(Clone, Debug, PartialEq, Eq, Hash)]
-pub(crate) struct Memory {
+pub struct Memory<K: Kind = Plain> {
     /// The first three.
     pub tables: Tables,
     pub succ_starts: Vec<u32>,
     pub succs: Vec<TaskId>,
     pub degrees: Vec<u32>,
-    pub rings: Vec<TaskId>,
+    /// Empty in a plain job.
+    pub fixed: Vec<u32>,
+    pub rings: Vec<K::Slot>,
     pub ends: Vec<Ends>,
     pub counters: Vec<i32>,
     pub buffers: Vec<TaskId>,
-    pub executed: Vec<Entry>,
-    pub run: Run,
-    pub rows: Vec<Row>,
+    pub executed: Vec<K::Entry>,
+    pub run: K::Run,
+    pub rows: Vec<Row<K::Slot>>,
 }
 
-impl Memory {
+impl<K: Kind> Memory<K> {
+    /// N.
+    pub fn tasks(&self) -> usize {
+        self.tables.weights.len()
+    }
+
+    /// E.
+    pub fn edges(&self) -> usize {
+        self.tables.preds.len()
+    }
+
     /// All lists with their stated lengths, where N, E, P and K are within the caller's limits.
     ///
     /// A number beyond its limit counts as the limit here, so that no product is large. Each call that judges lengths
@@ -75,7 +99,7 @@ impl Memory {
     /// Begin writes every word but the tables'. Before that the rows and the successor table hold words that no run
     /// has, so that a job which isn't begun can't be taken for one that is: a step that passes 2, 1 and 7 is refused with 8,
     /// a lookup of successors with 3.
-    pub fn sized(tables: Tables, workers: usize, slots: usize, whose: Whose) -> Memory {
+    pub fn sized(tables: Tables, workers: usize, slots: usize, whose: Whose) -> Memory<K> {
         let n = tables.weights.len().min(whose.tasks());
         let e = tables.preds.len().min(whose.edges());
         let p = workers.min(whose.workers());
@@ -85,50 +109,71 @@ impl Memory {
             succ_starts: vec![UNWRITTEN; n + 1],
             succs: vec![TaskId::new(UNWRITTEN); e],
             degrees: vec![0; n],
-            rings: vec![TaskId::new(0); p * p * k],
+            fixed: vec![UNWRITTEN; K::fixed_words(n)],
+            rings: vec![K::Slot::UNWRITTEN; p * p * k],
             ends: vec![Ends::EMPTY; p * p],
             counters: vec![0; p * p],
             buffers: vec![TaskId::new(0); p * n],
-            executed: vec![Entry::UNWRITTEN; n],
-            run: Run {
-                entries: 0,
-                accepted: 0,
-            },
+            executed: vec![K::Entry::UNWRITTEN; K::record_room(n, e)],
+            run: K::Run::NONE,
             rows: vec![Row::UNWRITTEN; p],
         }
     }
 
     /// The words of each list.
-    pub fn lists(&self) -> [Vec<u32>; 13] {
+    pub fn lists(&self) -> Vec<Vec<u32>> {
         let numbers = |tasks: &[TaskId]| tasks.iter().map(|task| task.number()).collect();
         let counters = self.counters.iter().map(|&counter| counter as u32);
-        let entries = self.executed.iter().flat_map(|entry| entry.words());
-        [
+        vec![
             self.tables.weights.clone(),
             self.tables.pred_starts.clone(),
             numbers(&self.tables.preds),
             self.succ_starts.clone(),
             numbers(&self.succs),
             self.degrees.clone(),
-            numbers(&self.rings),
-            self.ends.iter().flat_map(|ends| ends.words()).collect(),
+            self.fixed.clone(),
+            words_of(&self.rings),
+            words_of(&self.ends),
             counters.collect(),
             numbers(&self.buffers),
-            entries.collect(),
-            vec![self.run.entries, self.run.accepted],
-            self.rows.iter().flat_map(|row| row.words()).collect(),
+            words_of(&self.executed),
+            self.run.words(),
+            words_of(&self.rows),
         ]
     }
 }
 
-impl Entry {
+fn words_of<W: Words>(list: &[W]) -> Vec<u32> {
+    list.iter().flat_map(|one| one.words()).collect()
+}
+
+impl Words for TaskId {
+    const UNWRITTEN: TaskId = TaskId::new(UNWRITTEN);
+
+    fn words(self) -> Vec<u32> {
+        vec![self.number()]
+    }
+}
+
+impl Words for Entry {
     const UNWRITTEN: Entry = Entry {
-        task: TaskId::new(UNWRITTEN),
+        task: TaskId::UNWRITTEN,
         worker: WorkerId::new(UNWRITTEN),
     };
 
-    fn words(self) -> [u32; 2] {
-        [self.task.number(), self.worker.number()]
+    fn words(self) -> Vec<u32> {
+        vec![self.task.number(), self.worker.number()]
+    }
+}
+
+impl Words for Run {
+    const UNWRITTEN: Run = Run {
+        entries: UNWRITTEN,
+        accepted: UNWRITTEN,
+    };
+
+    fn words(self) -> Vec<u32> {
+        vec![self.entries, self.accepted]
     }
 }
 
@@ -139,24 +184,33 @@ impl Ends {
         tail: 0,
         count: 0,
     };
+}
 
-    fn words(self) -> [u32; 3] {
-        [self.head, self.tail, self.count]
+impl Words for Ends {
+    const UNWRITTEN: Ends = Ends {
+        head: UNWRITTEN,
+        tail: UNWRITTEN,
+        count: UNWRITTEN,
+    };
+
+    fn words(self) -> Vec<u32> {
+        vec![self.head, self.tail, self.count]
     }
 }
 
-impl Row {
-    const UNWRITTEN: Row = Row {
+impl<S: Words> Words for Row<S> {
+    const UNWRITTEN: Row<S> = Row {
         phase: UNWRITTEN,
-        held: UNWRITTEN,
+        held: S::UNWRITTEN,
         pointer: WorkerId::new(UNWRITTEN),
         read: UNWRITTEN,
         write: UNWRITTEN,
         cursor: UNWRITTEN,
     };
 
-    fn words(self) -> [u32; 6] {
-        let pointer = self.pointer.number();
-        [self.phase, self.held, pointer, self.read, self.write, self.cursor]
+    fn words(self) -> Vec<u32> {
+        let after = [self.pointer.number(), self.read, self.write, self.cursor];
+        let held = self.held.words();
+        [self.phase].into_iter().chain(held).chain(after).collect()
     }
 }

@@ -27,6 +27,7 @@ use std::fmt;
 /// | 9 | [`WrongPhase`](Refusal::WrongPhase) | every step |
 /// | 10 | [`NothingToFetch`](Refusal::NothingToFetch), [`NothingToRelease`](Refusal::NothingToRelease) | Fetch, Release |
 /// | 11 | [`NoRoom`](Refusal::NoRoom) | Release |
+/// | 11 | [`RingFull`](Refusal::RingFull) | Release of a weak job |
 /// | 12 | [`RecordFull`](Refusal::RecordFull) | none |
 /// | 13 | [`BadLayout`](Refusal::BadLayout), [`TextEnds`](Refusal::TextEnds) | reading |
 /// | 14 | [`NoDummies`](Refusal::NoDummies) | saving |
@@ -128,7 +129,15 @@ pub enum Refusal {
         /// The task that would be placed.
         task: TaskId,
     },
-    /// 12: Complete with all tasks recorded. A job doesn't answer it.
+    /// 11, of a later copy in a weak job: it goes only to the worker that its task is fixed to, and the ring of that worker
+    /// which the releasing one fills is full. The copy isn't lost: let that worker fetch, then release again.
+    RingFull {
+        /// The task of the copy that would be placed.
+        task: TaskId,
+        /// The worker that it is fixed to.
+        owner: WorkerId,
+    },
+    /// 12: Complete with all tasks, or all copies of a weak job, recorded. A job doesn't answer it.
     RecordFull,
     /// 13: the text breaks the layout.
     BadLayout {
@@ -156,7 +165,7 @@ pub enum Refusal {
     /// the library might. The number is 0, and the job may have changed.
     UnexpectedReply {
         /// The reply's words after number and detail, 0 where it has fewer.
-        words: [u32; 3],
+        words: [u32; 4],
     },
     /// A number and a detail that this crate knows no meaning of, as another version of the library might answer them.
     Unknown {
@@ -197,6 +206,8 @@ pub(crate) enum Asked<'a> {
         workers: usize,
         slots: usize,
         begun: bool,
+        /// A weak job's fixed words, else none.
+        fixed: &'a [u32],
     },
     Windows {
         tables: &'a Tables,
@@ -232,6 +243,15 @@ impl Asked<'_> {
                 room: workers.saturating_mul(slots),
             },
             (_, Asked::Begin { tables, .. }) => graph_refused(tables, number, detail)?,
+            (
+                11,
+                Asked::Step {
+                    step: Step::Release,
+                    workers,
+                    fixed,
+                    ..
+                },
+            ) => no_room(fixed, workers, detail),
             (
                 _,
                 Asked::Step {
@@ -317,7 +337,19 @@ fn lookup_refused(side: Side, tables: &Tables, begun: bool, detail: u32) -> Refu
     }
 }
 
-/// 7 to 12 by a step.
+/// 11 by a Release, which has left the task's fixed word as it was.
+fn no_room(fixed: &[u32], workers: usize, detail: u32) -> Refusal {
+    let task = TaskId::new(detail);
+    match fixed.get(detail as usize) {
+        Some(&owner) if (owner as usize) < workers => Refusal::RingFull {
+            task,
+            owner: WorkerId::new(owner),
+        },
+        _ => Refusal::NoRoom { task },
+    }
+}
+
+/// 7 to 10 and 12 by a step.
 fn step_refused(step: Step, workers: usize, begun: bool, number: u32, detail: u32) -> Option<Refusal> {
     Some(match (number, step) {
         (7, _) => Refusal::NoSuchWorker {
@@ -331,9 +363,6 @@ fn step_refused(step: Step, workers: usize, begun: bool, number: u32, detail: u3
         },
         (10, Step::Fetch) => Refusal::NothingToFetch,
         (10, Step::Release) => Refusal::NothingToRelease,
-        (11, Step::Release) => Refusal::NoRoom {
-            task: TaskId::new(detail),
-        },
         (12, Step::Complete) => Refusal::RecordFull,
         _ => return None,
     })
@@ -357,7 +386,7 @@ impl Refusal {
             Refusal::NotBegun | Refusal::DamagedWord => 8,
             Refusal::WrongPhase { .. } => 9,
             Refusal::NothingToFetch | Refusal::NothingToRelease => 10,
-            Refusal::NoRoom { .. } => 11,
+            Refusal::NoRoom { .. } | Refusal::RingFull { .. } => 11,
             Refusal::RecordFull => 12,
             Refusal::BadLayout { .. } | Refusal::TextEnds { .. } => 13,
             Refusal::NoDummies { .. } => 14,
@@ -384,7 +413,8 @@ impl Refusal {
             | Refusal::NoSuccessorsYet { task }
             | Refusal::PredecessorTwice { task }
             | Refusal::Cycle { task, .. }
-            | Refusal::NoRoom { task } => task.number(),
+            | Refusal::NoRoom { task }
+            | Refusal::RingFull { task, .. } => task.number(),
             // both come from a detail
             Refusal::BadEnds { tasks: count } | Refusal::TooManyRoots { roots: count, .. } => count as u32,
             Refusal::NoSuchWorker { worker, .. } => worker.number(),
@@ -408,6 +438,10 @@ impl Refusal {
     pub const fn advice(&self) -> &'static str {
         match self {
             Refusal::NotBegun | Refusal::NoSuccessorsYet { .. } => "begin first.",
+            Refusal::RingFull { .. } => {
+                "let the worker that the task is fixed to fetch, then release again. After at most P accepted Fetches of that \
+                 worker there is room. If it happens often, use a larger K."
+            }
             _ => advice_on(self.number()),
         }
     }
@@ -509,7 +543,13 @@ impl fmt::Display for Refusal {
                 to.write_str("nothing there to release: no completed task of the worker has a successor left")
             }
             Refusal::NoRoom { task } => write!(to, "no room for task {task}: all rings that the worker fills are full"),
-            Refusal::RecordFull => to.write_str("the record is full: every task is recorded already"),
+            Refusal::RingFull { task, owner } => {
+                write!(to, "no room for a copy of task {task}: it is fixed to worker {owner}, ")?;
+                write!(to, "whose ring that the worker fills is full")
+            }
+            Refusal::RecordFull => {
+                to.write_str("the record is full: every task, or every copy of a weak job, is recorded already")
+            }
             Refusal::BadLayout { line } => write!(to, "the text breaks the layout in line {line}"),
             Refusal::TextEnds { line } => write!(to, "the text ends before line {line}"),
             Refusal::NoDummies { lack } => lack.fmt(to),
@@ -565,6 +605,17 @@ mod tests {
             workers,
             slots,
             begun: true,
+            fixed: &[],
+        };
+        // task 1 is fixed to worker 0, the others aren't
+        let weak = Asked::Step {
+            whose: Whose::Engine,
+            step: Step::Release,
+            tables,
+            workers,
+            slots,
+            begun: true,
+            fixed: &[65_535, 0, 65_535, 65_535],
         };
         let begins = [Whose::Engine, Whose::Preview].map(|whose| Asked::Begin {
             whose,
@@ -588,6 +639,7 @@ mod tests {
                 entries: 3,
             },
             by_preview,
+            weak,
         ];
         steps.chain(lookups).chain(begins).chain(others).collect()
     }
@@ -600,6 +652,7 @@ mod tests {
             workers: 2,
             slots: 2,
             begun,
+            fixed: &[],
         }
     }
 
@@ -629,7 +682,8 @@ mod tests {
         let tables = diamond();
         let full = asked(&tables, Step::Complete, true).answered(12, 0).unwrap_err();
         assert_eq!(full, Refusal::RecordFull);
-        assert_eq!(full.to_string(), "the record is full: every task is recorded already");
+        let words = "the record is full: every task, or every copy of a weak job, is recorded already";
+        assert_eq!(full.to_string(), words);
         let damaged = asked(&tables, Step::Fetch, true).answered(8, 0).unwrap_err();
         assert_eq!(damaged, Refusal::DamagedWord);
         let words = "a damaged word in the lent memory: something else than the engine has written it";

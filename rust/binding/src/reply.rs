@@ -1,21 +1,65 @@
 //! What the library answers to an accepted call, read exactly: what isn't expected is an error, and never read as
 //! something else.
 
-use crate::ffi::{Part, ReadReply, StepReply, WriteReply};
-use crate::ids::{TaskId, WorkerId};
+use crate::ffi::{Part, ReadReply, StepReply, WeakStepReply, WriteReply};
+use crate::ids::{TaskCopy, TaskId, WorkerId, NIL};
 use crate::limits::{MAX_EDGES, MAX_TASKS, MAX_WRITTEN};
 use crate::refusal::Refusal;
-use crate::step::Released;
+use crate::step::{Placed, Released};
 
 /// The kinds of an accepted step's reply.
 const MOVED: u32 = 0;
 const FETCHED: u32 = 1;
 const DEGREE_LEFT: u32 = 2;
 const PLACED: u32 = 3;
+const COPY_FETCHED: u32 = 1;
+const COPY_PLACED: u32 = 2;
+
+/// A step's reply of either kind: kind and values, 0 where there are fewer.
+pub struct Said {
+    pub number: u32,
+    pub detail: u32,
+    pub words: [u32; 4],
+}
+
+impl From<StepReply> for Said {
+    fn from(reply: StepReply) -> Said {
+        let StepReply {
+            number,
+            detail,
+            kind,
+            first,
+            second,
+        } = reply;
+        Said {
+            number,
+            detail,
+            words: [kind, first, second, 0],
+        }
+    }
+}
+
+impl From<WeakStepReply> for Said {
+    fn from(reply: WeakStepReply) -> Said {
+        let WeakStepReply {
+            number,
+            detail,
+            kind,
+            first,
+            second,
+            third,
+        } = reply;
+        Said {
+            number,
+            detail,
+            words: [kind, first, second, third],
+        }
+    }
+}
 
 /// The reply to an accepted step of a job with so many tasks and workers.
-pub(crate) struct Reply {
-    pub words: StepReply,
+pub struct Reply {
+    pub words: [u32; 4],
     pub tasks: usize,
     pub workers: usize,
 }
@@ -23,7 +67,7 @@ pub(crate) struct Reply {
 impl Reply {
     /// Of a Fetch: the task.
     pub fn fetched(&self) -> Result<TaskId, Refusal> {
-        match self.words.kind {
+        match self.words[0] {
             FETCHED => self.task().ok_or(self.unexpected()),
             _ => Err(self.unexpected()),
         }
@@ -31,7 +75,7 @@ impl Reply {
 
     /// Of a Start or a Complete: nothing.
     pub fn moved(&self) -> Result<(), Refusal> {
-        match self.words.kind {
+        match self.words[0] {
             MOVED => Ok(()),
             _ => Err(self.unexpected()),
         }
@@ -39,10 +83,10 @@ impl Reply {
 
     /// Of a Release: what became of the successor.
     pub fn released(&self) -> Result<Released, Refusal> {
-        let released = match self.words.kind {
+        let released = match self.words[0] {
             DEGREE_LEFT => self.degree().map(|degree| Released::DegreeLeft { degree }),
             PLACED => {
-                let placed = self.task().zip(self.owner());
+                let placed = self.task().zip(self.worker(2));
                 placed.map(|(task, owner)| Released::Placed { task, owner })
             }
             _ => None,
@@ -50,30 +94,51 @@ impl Reply {
         released.ok_or(self.unexpected())
     }
 
+    /// Of a weak job's Fetch: the copy.
+    pub fn copy_fetched(&self) -> Result<TaskCopy, Refusal> {
+        match self.words[0] {
+            COPY_FETCHED => self.copy().ok_or(self.unexpected()),
+            _ => Err(self.unexpected()),
+        }
+    }
+
+    /// Of a weak job's Release: the copy that was placed, and its owner.
+    pub fn copy_placed(&self) -> Result<Placed, Refusal> {
+        let placed = match self.words[0] {
+            COPY_PLACED => self.copy().zip(self.worker(3)),
+            _ => None,
+        };
+        let (copy, owner) = placed.ok_or(self.unexpected())?;
+        Ok(Placed { copy, owner })
+    }
+
     /// A task that there is.
     fn task(&self) -> Option<TaskId> {
-        let number = self.words.first;
+        let number = self.words[1];
         ((number as usize) < self.tasks).then_some(TaskId::new(number))
     }
 
+    /// A copy of a task that there is, with a predecessor that there is or with none.
+    fn copy(&self) -> Option<TaskCopy> {
+        let predecessor = self.words[2];
+        let known = predecessor == NIL || (predecessor as usize) < self.tasks;
+        let task = self.task().filter(|_| known)?;
+        Some(TaskCopy::of(task, predecessor))
+    }
+
     /// A worker that there is.
-    fn owner(&self) -> Option<WorkerId> {
-        let number = self.words.second;
+    fn worker(&self, place: usize) -> Option<WorkerId> {
+        let number = self.words[place];
         ((number as usize) < self.workers).then_some(WorkerId::new(number))
     }
 
     /// A degree that is left: at 0 the task would be placed.
     fn degree(&self) -> Option<u32> {
-        Some(self.words.first).filter(|&degree| degree > 0)
+        Some(self.words[1]).filter(|&degree| degree > 0)
     }
 
     fn unexpected(&self) -> Refusal {
-        let StepReply {
-            kind, first, second, ..
-        } = self.words;
-        Refusal::UnexpectedReply {
-            words: [kind, first, second],
-        }
+        Refusal::UnexpectedReply { words: self.words }
     }
 }
 
@@ -83,7 +148,7 @@ pub(crate) fn part_of(table: &[TaskId], part: Part) -> Result<&[TaskId], Refusal
     let from = table.get(place as usize..);
     let found = from.and_then(|from| from.get(..count as usize));
     found.ok_or(Refusal::UnexpectedReply {
-        words: [place, count, 0],
+        words: [place, count, 0, 0],
     })
 }
 
@@ -93,7 +158,7 @@ pub(crate) fn sizes(reply: ReadReply) -> Result<(usize, usize), Refusal> {
     let sizes = (tasks as usize, edges as usize);
     if sizes.0 > MAX_TASKS || sizes.1 > MAX_EDGES {
         return Err(Refusal::UnexpectedReply {
-            words: [tasks, edges, 0],
+            words: [tasks, edges, 0, 0],
         });
     }
     Ok(sizes)
@@ -104,7 +169,7 @@ pub(crate) fn used(reply: WriteReply) -> Result<usize, Refusal> {
     let WriteReply { used, .. } = reply;
     match used as usize {
         bytes if bytes <= MAX_WRITTEN => Ok(bytes),
-        _ => Err(Refusal::UnexpectedReply { words: [used, 0, 0] }),
+        _ => Err(Refusal::UnexpectedReply { words: [used, 0, 0, 0] }),
     }
 }
 
@@ -112,22 +177,15 @@ pub(crate) fn used(reply: WriteReply) -> Result<usize, Refusal> {
 mod tests {
     use super::*;
 
-    fn reply(words: [u32; 3]) -> Reply {
-        let [kind, first, second] = words;
+    fn reply(words: [u32; 4]) -> Reply {
         Reply {
-            words: StepReply {
-                number: 0,
-                detail: 0,
-                kind,
-                first,
-                second,
-            },
+            words,
             tasks: 4,
             workers: 2,
         }
     }
 
-    fn unexpected<T>(words: [u32; 3]) -> Result<T, Refusal> {
+    fn unexpected<T>(words: [u32; 4]) -> Result<T, Refusal> {
         Err(Refusal::UnexpectedReply { words })
     }
 
@@ -135,7 +193,7 @@ mod tests {
     #[test]
     fn each_kind_is_read_by_its_steps_alone() {
         for kind in (0..9).chain([u32::MAX]) {
-            let words = [kind, 3, 1];
+            let words = [kind, 3, 1, 0];
             let task = TaskId::new(3);
             let owner = WorkerId::new(1);
             let fetched = if kind == 1 { Ok(task) } else { unexpected(words) };
@@ -148,17 +206,38 @@ mod tests {
             assert_eq!(reply(words).fetched(), fetched);
             assert_eq!(reply(words).moved(), moved);
             assert_eq!(reply(words).released(), released);
+            let copy = TaskCopy::of(task, 1);
+            let owner = WorkerId::new(0);
+            let fetched = if kind == 1 { Ok(copy) } else { unexpected(words) };
+            let placed = match kind {
+                2 => Ok(Placed { copy, owner }),
+                _ => unexpected(words),
+            };
+            assert_eq!(reply(words).copy_fetched(), fetched);
+            assert_eq!(reply(words).copy_placed(), placed);
         }
     }
 
     #[test]
     fn numbers_that_do_not_fit() {
-        for words in [[1, 4, 0], [1, u32::MAX, 0]] {
+        for words in [[1, 4, 0, 0], [1, u32::MAX, 0, 0]] {
             assert_eq!(reply(words).fetched(), unexpected(words));
         }
-        for words in [[2, 0, 0], [3, 4, 0], [3, 0, 2], [3, u32::MAX, u32::MAX]] {
+        for words in [[2, 0, 0, 0], [3, 4, 0, 0], [3, 0, 2, 0], [3, u32::MAX, u32::MAX, 0]] {
             assert_eq!(reply(words).released(), unexpected(words));
         }
+        for words in [[1, 4, 0, 0], [1, 0, 4, 0], [1, NIL, NIL, 0]] {
+            assert_eq!(reply(words).copy_fetched(), unexpected(words));
+        }
+        for words in [[2, 4, 0, 0], [2, 0, 4, 0], [2, 3, 1, 2], [3, 3, 1, 0]] {
+            assert_eq!(reply(words).copy_placed(), unexpected(words));
+        }
+        // a root's copy has no predecessor
+        let root = TaskCopy {
+            task: TaskId::new(3),
+            predecessor: None,
+        };
+        assert_eq!(reply([1, 3, NIL, 0]).copy_fetched(), Ok(root));
     }
 
     #[test]
@@ -168,7 +247,7 @@ mod tests {
         assert_eq!(part(1, 2), Ok(&table[1..]));
         assert_eq!(part(3, 0), Ok(&[][..]));
         for (place, count) in [(1, 3), (3, 1), (4, 0), (0, u32::MAX), (u32::MAX, u32::MAX)] {
-            assert_eq!(part(place, count), unexpected([place, count, 0]));
+            assert_eq!(part(place, count), unexpected([place, count, 0, 0]));
         }
     }
 
@@ -183,8 +262,8 @@ mod tests {
             })
         };
         assert_eq!(read(1_024, 8_192), Ok((1_024, 8_192)));
-        assert_eq!(read(1_025, 0), unexpected([1_025, 0, 0]));
-        assert_eq!(read(2, 8_193), unexpected([2, 8_193, 0]));
+        assert_eq!(read(1_025, 0), unexpected([1_025, 0, 0, 0]));
+        assert_eq!(read(2, 8_193), unexpected([2, 8_193, 0, 0]));
     }
 
     #[test]
@@ -198,7 +277,7 @@ mod tests {
         };
         assert_eq!(written(34), Ok(34));
         assert_eq!(written(57_349), Ok(57_349));
-        assert_eq!(written(57_350), unexpected([57_350, 0, 0]));
-        assert_eq!(written(u32::MAX), unexpected([u32::MAX, 0, 0]));
+        assert_eq!(written(57_350), unexpected([57_350, 0, 0, 0]));
+        assert_eq!(written(u32::MAX), unexpected([u32::MAX, 0, 0, 0]));
     }
 }

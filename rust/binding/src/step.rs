@@ -1,6 +1,6 @@
 //! Steps: their names, what an accepted one did, and calls as a log keeps them.
 
-use crate::ids::{TaskId, WorkerId};
+use crate::ids::{TaskCopy, TaskId, WorkerId};
 use std::fmt;
 
 /// Where a worker is.
@@ -93,17 +93,26 @@ pub enum Released {
     },
 }
 
-/// What an accepted step did.
+/// What an accepted Release of a weak job did: it made a copy of the next successor, and placed it into a ring.
 #[derive(Clone, Copy, Debug, PartialEq, Eq, Hash)]
-pub enum Outcome {
-    /// Fetch: the worker holds this task.
-    Fetched(TaskId),
-    /// Start: the worker runs its task.
+pub struct Placed {
+    /// The successor, with the completed task.
+    pub copy: TaskCopy,
+    /// The worker that owns the ring: the one that the successor is fixed to.
+    pub owner: WorkerId,
+}
+
+/// What an accepted step did. In a weak job it is about copies: `Outcome<TaskCopy, Placed>`.
+#[derive(Clone, Copy, Debug, PartialEq, Eq, Hash)]
+pub enum Outcome<I = TaskId, R = Released> {
+    /// Fetch: the worker holds this task or copy.
+    Fetched(I),
+    /// Start: the worker runs it.
     Started,
-    /// Complete: the task is recorded.
+    /// Complete: it is recorded.
     Completed,
     /// Release: what became of the successor.
-    Released(Released),
+    Released(R),
 }
 
 /// What the next Release of a worker is about, as [`Job::next_release`](crate::Job::next_release) foresees it.
@@ -113,7 +122,8 @@ pub struct NextRelease {
     pub task: TaskId,
     /// Its successor whose turn it is.
     pub successor: TaskId,
-    /// How many tasks the successor waits for, before the Release; with 1 the Release places it, or is refused with 11.
+    /// How many tasks the successor waits for, before the Release; with 1 the Release places it, or is refused with 11. In
+    /// a weak job, how many of its copies aren't completed; each Release there places one, or is refused with 11.
     pub degree: u32,
     /// The weight of the successor.
     pub weight: u32,

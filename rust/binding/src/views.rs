@@ -1,8 +1,9 @@
 //! What a job shows of itself.
 
-use crate::callers::Caller;
+use crate::callers::{Caller, ItemOf, Sealed};
 use crate::ids::{TaskId, WorkerId};
 use crate::job::{JobOf, Side};
+use crate::kinds::{Kind, Plain, RunWords};
 use crate::memory::{Ends, Entry, Row};
 use crate::step::{NextRelease, Phase};
 use crate::tables::Tables;
@@ -11,12 +12,12 @@ use crate::tables::Tables;
 impl<C: Caller> JobOf<C> {
     /// The number of tasks, N.
     pub fn tasks(&self) -> usize {
-        self.memory.tables.weights.len()
+        self.memory.tasks()
     }
 
     /// The number of edges, E.
     pub fn edges(&self) -> usize {
-        self.memory.tables.preds.len()
+        self.memory.edges()
     }
 
     /// The number of workers that the job was made for, P.
@@ -74,42 +75,33 @@ impl<C: Caller> JobOf<C> {
         self.begun
     }
 
-    /// How many steps of this run were accepted; 3N + E once it is finished.
+    /// How many steps of this run were accepted; [`all_steps`](JobOf::all_steps) once it is finished.
     pub fn accepted(&self) -> usize {
-        self.memory.run.accepted as usize
+        self.memory.run.accepted()
+    }
+
+    /// How many entries the record of this run has.
+    pub fn recorded(&self) -> usize {
+        self.memory.run.entries()
+    }
+
+    /// How many entries the record has once the run is finished: N; of a weak job that is begun, E + R with R roots.
+    pub fn all_entries(&self) -> usize {
+        C::Kind::all_entries(&self.memory)
+    }
+
+    /// How many steps are accepted once the run is finished: 3N + E; of a weak job that is begun, 4E + 3R with R roots.
+    pub fn all_steps(&self) -> usize {
+        C::Kind::all_steps(&self.memory)
     }
 
     /// Whether every task of this run is completed. Nothing is left to fetch or to release then.
     pub fn is_finished(&self) -> bool {
-        self.begun && self.memory.run.entries as usize == self.tasks()
-    }
-
-    /// The record of this run: each completed task with its worker, in the order of their Completes.
-    ///
-    /// ```
-    /// use yolluvek::{Job, Refusal, WorkerId};
-    ///
-    /// let mut job = Job::from_text(b"0\n0 0 0\n1 0 1 0\n", 1, 2)?;
-    /// job.begin()?;
-    /// let worker = WorkerId::new(0);
-    /// for _ in 0..job.tasks() {
-    ///     job.fetch(worker)?;
-    ///     job.start(worker)?;
-    ///     job.complete(worker)?;
-    ///     while job.release(worker).is_ok() {}
-    /// }
-    /// assert!(job.is_finished());
-    /// let tasks: Vec<u32> = job.record().iter().map(|entry| entry.task.number()).collect();
-    /// assert_eq!(tasks, [0, 1]);
-    /// # Ok::<(), Refusal>(())
-    /// ```
-    pub fn record(&self) -> &[Entry] {
-        let entries = self.memory.run.entries as usize;
-        self.memory.executed.get(..entries).unwrap_or(&[])
+        self.begun && self.recorded() == self.all_entries()
     }
 
     /// The load of a worker: the sum of its counters, which is the weight of the tasks that wait in its rings and of the
-    /// one in its hand. None if there is no such worker or no accepted begin.
+    /// one in its hand; in a weak job, of the tasks that are fixed to it and aren't complete. None if there is no such worker or no accepted begin.
     ///
     /// ```
     /// use yolluvek::{Job, Refusal, Tables, WorkerId};
@@ -168,9 +160,10 @@ impl<C: Caller> JobOf<C> {
     /// assert_eq!(job.held(worker), Some(task));
     /// # Ok::<(), Refusal>(())
     /// ```
-    pub fn held(&self, worker: WorkerId) -> Option<TaskId> {
+    pub fn held(&self, worker: WorkerId) -> Option<ItemOf<C>> {
         let held = self.row(worker)?.held;
-        ((held as usize) < self.tasks()).then_some(TaskId::new(held))
+        let there = (C::Kind::task(held).number() as usize) < self.tasks();
+        there.then(|| C::Kind::item(held))
     }
 
     /// The tasks that wait in the ring that one worker owns and another, or the same one, fills, oldest first. None if
@@ -190,11 +183,12 @@ impl<C: Caller> JobOf<C> {
     /// assert_eq!(waiting(one, WorkerId::new(2)), None);
     /// # Ok::<(), Refusal>(())
     /// ```
-    pub fn waiting(&self, owner: WorkerId, filler: WorkerId) -> Option<impl Iterator<Item = TaskId> + '_> {
+    pub fn waiting(&self, owner: WorkerId, filler: WorkerId) -> Option<impl Iterator<Item = ItemOf<C>> + '_> {
         let ring = self.ring(owner, filler)?;
         let slots = self.memory.rings.chunks_exact(self.slots).nth(ring)?;
         let &Ends { head, count, .. } = self.memory.ends.get(ring)?;
-        Some(slots.iter().copied().cycle().skip(head as usize).take(count as usize))
+        let waiting = slots.iter().cycle().skip(head as usize).take(count as usize);
+        Some(waiting.map(|&slot| C::Kind::item(slot)))
     }
 
     /// Head, tail and count of the ring that one worker owns and another, or the same one, fills. None if there is no such
@@ -241,7 +235,7 @@ impl<C: Caller> JobOf<C> {
         self.memory.counters.get(self.ring(owner, filler)?).copied()
     }
 
-    /// How many predecessors a task still waits for. None if there is no such task or no accepted begin.
+    /// How many predecessors a task still waits for; in a weak job, how many of its copies aren't completed. None if there is no such task or no accepted begin.
     ///
     /// ```
     /// use yolluvek::{Job, Refusal, TaskId};
@@ -367,8 +361,34 @@ impl<C: Caller> JobOf<C> {
         Some(self.place(owner)? * self.workers + self.place(filler)?)
     }
 
-    fn row(&self, worker: WorkerId) -> Option<&Row> {
+    fn row(&self, worker: WorkerId) -> Option<&Row<<C::Kind as Kind>::Slot>> {
         self.memory.rows.get(self.place(worker)?)
+    }
+}
+
+/// The record of tasks, which a [`WeakJob`](crate::WeakJob) has of copies.
+impl<C: Caller + Sealed<Kind = Plain>> JobOf<C> {
+    /// The record of this run: each completed task with its worker, in the order of their Completes.
+    ///
+    /// ```
+    /// use yolluvek::{Job, Refusal, WorkerId};
+    ///
+    /// let mut job = Job::from_text(b"0\n0 0 0\n1 0 1 0\n", 1, 2)?;
+    /// job.begin()?;
+    /// let worker = WorkerId::new(0);
+    /// for _ in 0..job.tasks() {
+    ///     job.fetch(worker)?;
+    ///     job.start(worker)?;
+    ///     job.complete(worker)?;
+    ///     while job.release(worker).is_ok() {}
+    /// }
+    /// assert!(job.is_finished());
+    /// let tasks: Vec<u32> = job.record().iter().map(|entry| entry.task.number()).collect();
+    /// assert_eq!(tasks, [0, 1]);
+    /// # Ok::<(), Refusal>(())
+    /// ```
+    pub fn record(&self) -> &[Entry] {
+        self.memory.executed.get(..self.recorded()).unwrap_or(&[])
     }
 }
 

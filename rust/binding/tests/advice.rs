@@ -73,6 +73,25 @@ fn the_page_s_words() {
     assert_eq!(lines.len(), 15);
 }
 
+/// A later copy of a weak job has words of its own, which stand in the part on 11 below the operator's line.
+#[test]
+fn a_full_ring_s_words() {
+    let page = pages::refusals().stored().unwrap_or_else(|wrong| panic!("{wrong}"));
+    let part = page
+        .split("\n## ")
+        .find(|part| part.starts_with("11:"))
+        .expect("the part on 11");
+    let words = part.split_whitespace().collect::<Vec<_>>().join(" ");
+    let full = Refusal::RingFull {
+        task: TaskId::new(1),
+        owner: WorkerId::new(0),
+    };
+    assert_eq!(full.number(), 11);
+    let (_, weak) = words.split_once("In a weak job").expect("what is said of weak jobs");
+    assert!(weak.contains(full.advice()), "{weak}");
+    assert!(!weak.contains("lane"), "the page says worker");
+}
+
 /// Before begin there is something better to do than to report it.
 #[test]
 fn begin_first() {
@@ -88,7 +107,7 @@ fn begin_first() {
 fn not_on_the_page() {
     for refusal in [
         Refusal::Unknown { number: 99, detail: 3 },
-        Refusal::UnexpectedReply { words: [9, 0, 0] },
+        Refusal::UnexpectedReply { words: [9, 0, 0, 0] },
     ] {
         assert_eq!(refusal.advice(), "report it.");
     }

@@ -5,17 +5,21 @@ use std::collections::BTreeMap;
 use std::fs;
 use std::path::Path;
 
-const EXPORTS: [&str; 5] = [
+const EXPORTS: [&str; 6] = [
     "graph_export",
     "stg_export",
     "engine_export",
     "preview_export",
     "windows_export",
+    "weak_export",
 ];
 
 /// Begin and the steps, by the engine and by the preview.
 const RUN_CALLS: [&str; 5] = ["begin", "fetch", "start", "complete", "release"];
 const CALLERS: [&str; 2] = ["yolluvek_", "yolluvek_preview_"];
+
+/// The same of weak jobs.
+const WEAK: &str = "yolluvek_weak_";
 
 fn stored(file: &str) -> String {
     let path = Path::new(env!("CARGO_MANIFEST_DIR")).join("../..").join(file);
@@ -75,6 +79,10 @@ fn in_c(of: &str) -> &'static str {
         "usize" => "size_t",
         // a row is lent as its cell of six words, the same memory
         "Row" | "[u32; 6]" => "yolluvek_row",
+        // so are a weak job's row and a copy
+        "WeakRow" | "[u32; 7]" => "yolluvek_weak_row",
+        "TaskCopy" | "[u32; 2]" => "yolluvek_copy",
+        "WeakReply" => "yolluvek_weak_step_reply",
         "Reply" => "yolluvek_reply",
         "StepReply" => "yolluvek_step_reply",
         "ReadReply" => "yolluvek_read_reply",
@@ -145,7 +153,7 @@ fn declared() -> Functions {
 #[test]
 fn the_functions_are_the_exports() {
     let (exported, declared) = (exported(), declared());
-    assert_eq!(exported.len(), 17);
+    assert_eq!(exported.len(), 22);
     let names = |functions: &Functions| functions.keys().cloned().collect::<Vec<_>>();
     assert_eq!(names(&declared), names(&exported));
     for (name, function) in &exported {
@@ -163,19 +171,71 @@ fn the_preview_is_declared_as_the_engine() {
     }
 }
 
-/// The Rust declarations of begin and the steps name which lists each writes, but for the five that all treat alike.
+/// The lists that a weak call writes, begin first.
+const WEAK_WRITES: [&[&str]; 5] = [
+    &[
+        "succ_starts",
+        "succs",
+        "degrees",
+        "fixed",
+        "rings",
+        "ends",
+        "counters",
+        "buffers",
+        "executed",
+        "run",
+        "rows",
+    ],
+    &["ends", "run", "rows"],
+    &["run", "rows"],
+    &["degrees", "counters", "buffers", "executed", "run", "rows"],
+    &["fixed", "rings", "ends", "counters", "run", "rows"],
+];
+
+/// A weak call has the plain one's parameters, with the fixed workers behind the degrees, and rings and rows of copies.
+#[test]
+fn the_weak_calls_are_declared_as_the_plain_ones() {
+    let declared = declared();
+    for (call, writes) in RUN_CALLS.into_iter().zip(WEAK_WRITES) {
+        let (plain, answer) = &declared[&format!("yolluvek_{call}")];
+        let mut expected = Vec::new();
+        for one in plain {
+            let of = match one.name.as_str() {
+                "rings" => "yolluvek_copy *",
+                "rows" => "yolluvek_weak_row *",
+                _ => &one.of,
+            };
+            expected.push(parameter(of, &one.name, writes.contains(&one.name.as_str())));
+            if one.name == "degrees_len" {
+                expected.push(parameter("uint32_t *", "fixed", writes.contains(&"fixed")));
+                expected.push(parameter("size_t", "fixed_len", false));
+            }
+        }
+        let answer = answer.replace("step", "weak_step");
+        assert_eq!(declared[&format!("{WEAK}{call}")], (expected, answer), "{call}");
+    }
+}
+
+/// The Rust declarations of begin and the steps name which lists each writes, but for the five that all treat alike. The
+/// header's are those of the exports.
 #[test]
 fn the_rust_declarations_write_what_the_exports_do() {
-    let exported = exported();
-    for file in ["rust/binding/src/ffi.rs", "rust/src/proved_engine.rs"] {
+    let declared = declared();
+    let [engine, preview] = CALLERS;
+    let files: [(&str, &[&str]); 3] = [
+        ("rust/binding/src/ffi.rs", &[engine, preview, WEAK]),
+        ("rust/src/proved_engine.rs", &CALLERS),
+        ("rust/src/proved_weak.rs", &[WEAK]),
+    ];
+    for (file, callers) in files {
         let stored = stored(file);
-        let names = CALLERS
+        let names = callers
             .iter()
             .flat_map(|caller| RUN_CALLS.map(|call| format!("{caller}{call}")));
         for name in names {
             let named = trimmed(between(&stored, &format!("{name}(\n"), ")"));
             let named: BTreeMap<&str, &str> = named.filter_map(|item| item.split_once(": ")).collect();
-            let lists = exported[&name].0.iter().filter(|one| one.of.ends_with('*'));
+            let lists = declared[&name].0.iter().filter(|one| one.of.ends_with('*'));
             for Parameter {
                 name: list, written, ..
             } in lists
@@ -222,6 +282,9 @@ fn the_fields_are_the_exports() {
         ("ReadReply", "stg_export"),
         ("WriteReply", "stg_export"),
         ("Part", "graph_export"),
+        ("TaskCopy", "weak_task"),
+        ("WeakRow", "weak_task"),
+        ("WeakReply", "weak_replies"),
     ] {
         assert_eq!(declared_fields(in_c(name)), fields(&source(of), name), "{name} of {of}");
     }

@@ -1,5 +1,9 @@
 //! Random jobs and calls beside the model: every answer and every view is the model's.
 
+#[path = "common/drawn.rs"]
+mod drawn;
+
+use drawn::{binding_step, damage, model_pair, pair, tables_of};
 use engine_model::draw::Draw;
 use engine_model::engine;
 use engine_model::memory::{
@@ -8,38 +12,13 @@ use engine_model::memory::{
 };
 use engine_model::model::{self, Graph, Lookup, Table};
 use engine_model::runs::graphs;
-use yolluvek::{Ends, Job, NextRelease, Refusal, Released, Side, Tables, TaskId, WorkerId};
+use yolluvek::{Ends, Job, NextRelease, Refusal, Released, Side, TaskId, WorkerId};
 
 /// A job, and the model's memory for the same graph, P and K.
 struct Pair {
     job: Job,
     memory: Memory,
     begun: bool,
-}
-
-fn pair(refusal: Refusal) -> (u32, u32) {
-    (refusal.number(), refusal.detail())
-}
-
-fn model_pair(refusal: model::Refusal) -> (u32, u32) {
-    (refusal.number, refusal.detail)
-}
-
-fn tables_of(graph: &Graph) -> Tables {
-    Tables {
-        weights: graph.weights.clone(),
-        pred_starts: graph.preds.starts.clone(),
-        preds: graph.preds.words.iter().copied().map(TaskId::new).collect(),
-    }
-}
-
-fn binding_step(step: Step) -> yolluvek::Step {
-    match step {
-        Step::Fetch => yolluvek::Step::Fetch,
-        Step::Start => yolluvek::Step::Start,
-        Step::Complete => yolluvek::Step::Complete,
-        Step::Release => yolluvek::Step::Release,
-    }
 }
 
 fn model_outcome(outcome: yolluvek::Outcome) -> Outcome {
@@ -231,26 +210,6 @@ impl Pair {
     }
 }
 
-/// Damages tables in one place: a word, or the length of a list.
-fn damage(draw: &mut Draw, graph: &mut Graph) {
-    let n = graph.weights.len() as u32;
-    let word = draw.pick(&[0, 1, n.saturating_sub(1), n, n + 1, 65_535, 65_536, u32::MAX]);
-    let list = match draw.below(3) {
-        0 => &mut graph.weights,
-        1 => &mut graph.preds.starts,
-        _ => &mut graph.preds.words,
-    };
-    match draw.below(4) {
-        0 => list.push(word),
-        1 => drop(list.pop()),
-        _ if list.is_empty() => {}
-        _ => {
-            let place = draw.below(list.len());
-            list[place] = word;
-        }
-    }
-}
-
 /// How often each number was answered, at 0 the accepted calls.
 type Counts = [usize; 14];
 
@@ -264,7 +223,7 @@ fn drawn_job(seed: u64, counts: &mut Counts) {
     let workers = draw.pick(&[1, 1, 2, 2, 3, 4, 16, 0, 17, usize::MAX]);
     let slots = draw.pick(&[2, 2, 2, 3, 4, 8, 64, 64, 1, 65, usize::MAX]);
     let mut pair = Pair::new(&graph, workers, slots);
-    let check = tables_of(&graph).check().map_err(self::pair);
+    let check = tables_of(&graph).check().map_err(drawn::pair);
     assert_eq!(check, model::check(model::Limits::ENGINE, &graph).map_err(model_pair));
     let beyond = [16, 17, 65_535, u32::MAX];
     let begin_at = draw.below(4);

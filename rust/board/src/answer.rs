@@ -1,6 +1,10 @@
 //! A call's answer, in the words that the panel shows.
 
-use yolluvek::{Job, Outcome, Refusal, Released, Side, Step, TaskId, WorkerId};
+use crate::kind::Kind;
+use yolluvek::{ItemOf, JobOf, Outcome, Refusal, ReleasedOf, Step, TaskId, WorkerId};
+
+/// What an accepted step of a job did.
+pub type OutcomeOf<C> = Outcome<ItemOf<C>, ReleasedOf<C>>;
 
 /// A placement that was asked for beforehand.
 #[derive(Clone, Copy, Debug, PartialEq, Eq)]
@@ -30,7 +34,13 @@ pub struct Answer {
 
 impl Answer {
     /// The answer of a step that led from one job to the other.
-    pub fn of(before: &Job, after: &Job, step: Step, lane: WorkerId, told: &Result<Outcome, Refusal>) -> Answer {
+    pub fn of<C: Kind>(
+        before: &JobOf<C>,
+        after: &JobOf<C>,
+        step: Step,
+        lane: WorkerId,
+        told: &Result<OutcomeOf<C>, Refusal>,
+    ) -> Answer {
         Answer {
             step,
             lane,
@@ -60,52 +70,34 @@ impl Answer {
     }
 }
 
-fn done(before: &Job, after: &Job, lane: WorkerId, outcome: Outcome) -> Vec<String> {
+fn done<C: Kind>(before: &JobOf<C>, after: &JobOf<C>, lane: WorkerId, outcome: OutcomeOf<C>) -> Vec<String> {
     match outcome {
-        Outcome::Fetched(task) => vec![format!(
-            "Lane {lane} has fetched task {}. Its weight stays in the lane's load.",
-            weighed(after, task)
-        )],
-        Outcome::Started => vec![format!("Lane {lane} runs {}.", held(after, lane))],
-        Outcome::Completed => completed(before, after, lane),
-        Outcome::Released(Released::DegreeLeft { degree }) => vec![left(before, lane, degree)],
-        Outcome::Released(Released::Placed { task, owner }) => {
-            let placed = format!("Task {} waits for lane {owner} now.", weighed(before, task));
-            vec![placed, why(before, lane, owner)]
+        Outcome::Fetched(_) => vec![C::fetched(after, lane)],
+        Outcome::Started => {
+            let item = C::ITEM;
+            let held = after.held(lane);
+            let held = held.map_or(format!("its {item}"), |held| format!("{item} {held}"));
+            vec![format!("Lane {lane} runs {held}.")]
         }
+        Outcome::Completed => C::completed(before, after, lane),
+        Outcome::Released(released) => C::released(before, lane, released),
     }
 }
 
-fn weighed(job: &Job, task: TaskId) -> String {
+pub(crate) fn weighed<C: Kind>(job: &JobOf<C>, task: TaskId) -> String {
     format!("{task} (weight {})", job.weight(task).unwrap_or(0))
 }
 
-fn held(job: &Job, lane: WorkerId) -> String {
-    job.held(lane)
-        .map_or("its task".to_owned(), |task| format!("task {task}"))
-}
-
-fn completed(before: &Job, after: &Job, lane: WorkerId) -> Vec<String> {
-    let successors = before
-        .held(lane)
-        .and_then(|task| after.lookup(Side::Successors, task).ok())
-        .map_or(0, <[TaskId]>::len);
-    let release = match successors {
+/// What a completed task with these successors has to release.
+pub(crate) fn to_release(successors: Option<&[TaskId]>) -> String {
+    match successors.map_or(0, <[TaskId]>::len) {
         0 => "It has no successors.".to_owned(),
         1 => "It has 1 successor to release.".to_owned(),
-        _ => format!("It has {successors} successors to release."),
-    };
-    let recorded = format!("{} is recorded. {release}", capital(&held(before, lane)));
-    vec![recorded, "Its weight has left the lane's load.".to_owned()]
+        successors => format!("It has {successors} successors to release."),
+    }
 }
 
-fn capital(words: &str) -> String {
-    let mut marks = words.chars();
-    let first = marks.next().map(|mark| mark.to_ascii_uppercase());
-    first.into_iter().chain(marks).collect()
-}
-
-fn left(before: &Job, lane: WorkerId, degree: u32) -> String {
+pub(crate) fn left<C: Kind>(before: &JobOf<C>, lane: WorkerId, degree: u32) -> String {
     let task = before
         .next_release(lane)
         .map_or("The successor".to_owned(), |next| format!("Task {}", next.successor));
@@ -121,7 +113,7 @@ pub fn tasks(count: u32) -> String {
 }
 
 /// Why the engine took this owner, as `docs/RULE.md` has it: the least load, ties, full rings that were passed.
-fn why(before: &Job, lane: WorkerId, owner: WorkerId) -> String {
+pub(crate) fn why<C: Kind>(before: &JobOf<C>, lane: WorkerId, owner: WorkerId) -> String {
     let Some((target, load, tie)) = least(before) else {
         return String::new();
     };
@@ -138,7 +130,7 @@ fn why(before: &Job, lane: WorkerId, owner: WorkerId) -> String {
 }
 
 /// The worker with the least load, that load, and whether others have it too.
-fn least(job: &Job) -> Option<(WorkerId, i64, bool)> {
+fn least<C: Kind>(job: &JobOf<C>) -> Option<(WorkerId, i64, bool)> {
     let loads: Vec<(i64, WorkerId)> = job.worker_ids().filter_map(|id| Some((job.load(id)?, id))).collect();
     let &(load, target) = loads.iter().min()?;
     let tie = loads.iter().filter(|&&(other, _)| other == load).count() > 1;
@@ -146,7 +138,7 @@ fn least(job: &Job) -> Option<(WorkerId, i64, bool)> {
 }
 
 /// The owners from the target up to the one whose ring was used.
-fn passed(job: &Job, target: WorkerId, owner: WorkerId) -> Vec<String> {
+fn passed<C: Kind>(job: &JobOf<C>, target: WorkerId, owner: WorkerId) -> Vec<String> {
     let ids: Vec<WorkerId> = job.worker_ids().collect();
     let from = ids.iter().position(|&id| id == target).unwrap_or(0);
     let turn = ids.iter().cycle().skip(from).take(ids.len());

@@ -2,8 +2,9 @@
 
 use crate::answer::{Answer, Foreseen};
 use crate::keys::Key;
+use crate::kind::Kind;
 use crate::number::{lane_after, lane_before, Number};
-use yolluvek::{Call, Job, Outcome, Refusal, Released, Step, TaskId, WorkerId};
+use yolluvek::{Call, Engine, JobOf, Outcome, Refusal, Step, TaskId, WorkerId};
 
 /// What stands open over the board's keys.
 #[derive(Clone, Debug, PartialEq, Eq)]
@@ -48,9 +49,9 @@ pub enum Flow {
 
 /// A lesson: a job that is begun and keeps its log, the chosen lane, and what stands open.
 #[derive(Clone, Debug)]
-pub struct Board {
+pub struct Board<C: Kind = Engine> {
     name: String,
-    job: Job,
+    job: JobOf<C>,
     lane: u32,
     typing: bool,
     open: Open,
@@ -62,14 +63,14 @@ pub struct Board {
 const WINDOW: usize = 2;
 
 /// Views.
-impl Board {
+impl<C: Kind> Board<C> {
     /// The job's name.
     pub fn name(&self) -> &str {
         &self.name
     }
 
     /// The job.
-    pub fn job(&self) -> &Job {
+    pub fn job(&self) -> &JobOf<C> {
         &self.job
     }
 
@@ -108,13 +109,13 @@ impl Board {
     }
 }
 
-impl Board {
+impl<C: Kind> Board<C> {
     /// Begins the job.
     ///
     /// # Errors
     ///
-    /// Refused as by [`Job::begin`].
-    pub fn begin(name: &str, mut job: Job) -> Result<Board, Refusal> {
+    /// Refused as by [`Job::begin`](yolluvek::Job::begin).
+    pub fn begin(name: &str, mut job: JobOf<C>) -> Result<Board<C>, Refusal> {
         job.keep_log();
         job.begin()?;
         let window = WINDOW.min(job.tasks().max(1));
@@ -215,12 +216,13 @@ impl Board {
 
     /// Asks first if the engine, tried on a copy, places a task.
     fn assign(&mut self, lane: WorkerId) {
-        match self.job.clone().step(Step::Release, lane) {
-            Ok(Outcome::Released(Released::Placed { task, .. })) => {
+        let tried = self.job.clone().release(lane).ok();
+        match tried.and_then(C::placed) {
+            Some((task, _)) => {
                 let guess = Number::EMPTY;
                 self.open = Open::Foresee { lane, task, guess };
             }
-            _ => self.call(Step::Release, lane, None),
+            None => self.call(Step::Release, lane, None),
         }
     }
 
@@ -228,7 +230,11 @@ impl Board {
         let before = self.job.clone();
         let told = self.job.step(step, lane);
         let mut answer = Answer::of(&before, &self.job, step, lane, &told);
-        if let (Some(guess), Ok(Outcome::Released(Released::Placed { owner, .. }))) = (guess, told) {
+        let placed = match told {
+            Ok(Outcome::Released(released)) => C::placed(released),
+            _ => None,
+        };
+        if let Some((guess, (_, owner))) = guess.zip(placed) {
             self.score.asked += 1;
             self.score.right += u32::from(guess == owner);
             answer.foreseen = Some(Foreseen { guess, owner });
@@ -242,7 +248,7 @@ impl Board {
         if let [calls @ .., Call::Step(step, lane)] = self.job.log() {
             last = Some((*step, *lane));
             let (tables, workers, slots) = (self.job.tables().clone(), self.job.workers(), self.job.slots());
-            self.job = Job::replay(tables, workers, slots, calls);
+            self.job = JobOf::replay(tables, workers, slots, calls);
         }
         self.open = Open::Back(last);
     }

@@ -11,6 +11,7 @@
 pub mod answer;
 pub mod board;
 pub mod keys;
+pub mod kind;
 pub mod number;
 pub mod page;
 pub mod screen;

@@ -1,4 +1,5 @@
-//! `yolluvek-board FILE P K`: the lesson board for the job in a text of the Standard Task Graph Set.
+//! `yolluvek-board FILE P K`: the lesson board for the job in a text of the Standard Task Graph Set; with `--weak`, which may
+//! stand anywhere, the job is begun weak.
 
 #![forbid(unsafe_code)]
 
@@ -7,11 +8,14 @@ use std::io::{self, Read, Write};
 use std::path::Path;
 use std::process::ExitCode;
 use yolluvek::limits::MAX_TEXT;
-use yolluvek::{Job, Refusal};
+use yolluvek::{Engine, JobOf, Refusal, WeakEngine};
 use yolluvek_board::board::Board;
+use yolluvek_board::kind::Kind;
 use yolluvek_board::{page, script, terminal};
 
-const USAGE: &str = "usage: yolluvek-board FILE P K [--keys FILE | --html FILE]";
+const USAGE: &str = "usage: yolluvek-board FILE P K [--keys FILE | --html FILE], or FILE P K [--keys FILE] with --weak";
+
+const WEAK: &str = "--weak";
 
 /// What the lesson is for.
 enum Way {
@@ -36,34 +40,49 @@ fn main() -> ExitCode {
 }
 
 fn run(arguments: &[String]) -> Result<(), String> {
-    let words: Vec<&str> = arguments.iter().map(String::as_str).collect();
-    let (file, workers, slots, way) = match *words.as_slice() {
+    let (weak, words): (Vec<&str>, Vec<&str>) = arguments.iter().map(String::as_str).partition(|&word| word == WEAK);
+    match weak.len() {
+        1 => match lesson::<WeakEngine>(&words)? {
+            (_, Way::Html(_)) => Err(USAGE.to_owned()),
+            (board, way) => play(board, &way),
+        },
+        2.. => Err(USAGE.to_owned()),
+        0 => match lesson::<Engine>(&words)? {
+            (board, Way::Html(file)) => {
+                let page = page::page(&board).map_err(|many| format!("{}: {many}", board.name()))?;
+                fs::write(&file, page).map_err(|reason| format!("{file}: {reason}"))
+            }
+            (board, way) => play(board, &way),
+        },
+    }
+}
+
+/// The lesson that is asked for.
+fn lesson<C: Kind>(words: &[&str]) -> Result<(Board<C>, Way), String> {
+    let (file, workers, slots, way) = match *words {
         [file, workers, slots] => (file, workers, slots, Way::Terminal),
         [file, workers, slots, "--keys", keys] => (file, workers, slots, Way::Keys(keys.to_owned())),
         [file, workers, slots, "--html", page] => (file, workers, slots, Way::Html(page.to_owned())),
         _ => return Err(USAGE.to_owned()),
     };
     let text = text_of(file)?;
-    let job =
-        Job::from_text(&text, number("P", workers)?, number("K", slots)?).map_err(|refusal| told(file, &refusal))?;
+    let job = JobOf::from_text(&text, number("P", workers)?, number("K", slots)?);
+    let job = job.map_err(|refusal| told(file, &refusal))?;
     let name = Path::new(file).file_name().unwrap_or_default().to_string_lossy();
     let board = Board::begin(&name, job).map_err(|refusal| told(file, &refusal))?;
-    play(board, way)
+    Ok((board, way))
 }
 
-fn play(mut board: Board, way: Way) -> Result<(), String> {
+fn play<C: Kind>(mut board: Board<C>, way: &Way) -> Result<(), String> {
     match way {
         Way::Terminal => terminal::play(&mut board).map_err(|trouble| trouble.to_string()),
         Way::Keys(file) => {
-            let keys = fs::read_to_string(&file).map_err(|reason| format!("{file}: {reason}"))?;
+            let keys = fs::read_to_string(file).map_err(|reason| format!("{file}: {reason}"))?;
             let told = script::transcript(&mut board, &keys).map_err(|bad| format!("{file}, {bad}"))?;
             let written = io::stdout().lock().write_all(told.as_bytes());
             written.map_err(|reason| format!("the transcript can't be written: {reason}"))
         }
-        Way::Html(file) => {
-            let page = page::page(&board).map_err(|many| format!("{}: {many}", board.name()))?;
-            fs::write(&file, page).map_err(|reason| format!("{file}: {reason}"))
-        }
+        Way::Html(_) => Err(USAGE.to_owned()),
     }
 }
 

@@ -1,11 +1,13 @@
 //! The screen: a frame of text, 80 columns wide, as a function of the board alone.
 
-use crate::answer::{tasks, Answer};
+use crate::answer::Answer;
 use crate::board::{Board, Open};
+use crate::kind::Kind;
 use crate::number::Number;
 use crate::wrap::wrapped;
+use std::fmt::Display;
 use std::iter;
-use yolluvek::{Job, Step, TaskId, Windows, WorkerId};
+use yolluvek::{JobOf, Step, TaskId, Windows, WorkerId};
 
 /// The frame's width.
 pub const COLUMNS: usize = 80;
@@ -20,7 +22,7 @@ const COMPLETED: usize = 7;
 /// How many tasks of a ring or a buffer are named; of the others there is the number.
 const NAMED: usize = 12;
 /// The frame in at most this many rows, which are at least [`MIN_ROWS`]; lanes that don't fit are left out and said so.
-pub fn frame(board: &Board, rows: usize) -> String {
+pub fn frame<C: Kind>(board: &Board<C>, rows: usize) -> String {
     let mut panel = panel(board);
     panel.resize(panel.len().max(PANEL + 1), String::new());
     let mut lines = top(board);
@@ -37,7 +39,7 @@ pub fn frame(board: &Board, rows: usize) -> String {
     frame
 }
 
-fn top(board: &Board) -> Vec<String> {
+fn top<C: Kind>(board: &Board<C>) -> Vec<String> {
     let score = board.score();
     let foreseen = format!("   foreseen {} of {}", score.right, score.asked);
     let [title, counts] = counted(board.name(), board.job());
@@ -52,8 +54,11 @@ pub fn head(window: usize) -> String {
 }
 
 /// What the library says of the last load window as a whole: the spread of its loads, or why there is none.
-pub fn spread(job: &Job, window: usize) -> String {
-    match job.windows(window).as_ref().map(Windows::last) {
+pub fn spread<C: Kind>(job: &JobOf<C>, window: usize) -> String {
+    let Some(windows) = C::windows(job, window) else {
+        return "a weak job: what waits is a copy, task·predecessor; it has no load windows".to_owned();
+    };
+    match windows.as_ref().map(Windows::last) {
         Ok(last) => {
             let spread = last.map_or(0, |last| last.spread);
             format!("load window: last {window} of the record, spread {spread}")
@@ -63,22 +68,23 @@ pub fn spread(job: &Job, window: usize) -> String {
 }
 
 /// The weight that a lane finished in the last load window.
-fn finished(job: &Job, lane: WorkerId, window: usize) -> Option<u32> {
-    let windows = job.windows(window).ok()?;
+fn finished<C: Kind>(job: &JobOf<C>, lane: WorkerId, window: usize) -> Option<u32> {
+    let windows = C::windows(job, window)?.ok()?;
     windows.last()?.sums.get(lane.number() as usize).copied()
 }
 
 /// The job and how far it is.
-pub fn counted(name: &str, job: &Job) -> [String; 2] {
+pub fn counted<C: Kind>(name: &str, job: &JobOf<C>) -> [String; 2] {
     let (n, e, p, k) = (job.tasks(), job.edges(), job.workers(), job.slots());
     let numbers = format!("   {n} tasks, {e} edges   P {p}, K {k}");
     let most = COLUMNS.saturating_sub("Lesson board   ".len() + numbers.len());
     let title = format!("Lesson board   {}{numbers}", shortened(name, most));
     let state = if job.is_finished() { "   finished" } else { "" };
-    let (accepted, recorded) = (job.accepted(), job.record().len());
+    let (accepted, recorded) = (job.accepted(), job.recorded());
     let counts = format!(
-        "accepted {accepted} of {}   recorded {recorded} of {n}{state}",
-        3 * n + e
+        "accepted {accepted} of {}   recorded {recorded} of {}{state}",
+        job.all_steps(),
+        job.all_entries()
     );
     [title, counts]
 }
@@ -97,7 +103,7 @@ fn shortened(name: &str, most: usize) -> String {
 }
 
 /// The lanes' lines that fit, around the marked lane, and one line that says which if not all do.
-fn lanes(board: &Board, room: usize) -> Vec<String> {
+fn lanes<C: Kind>(board: &Board<C>, room: usize) -> Vec<String> {
     let marked = board.marked();
     let lines: Vec<(u32, String)> = board
         .job()
@@ -123,14 +129,16 @@ fn lanes(board: &Board, room: usize) -> Vec<String> {
 
 /// A lane: its row and rings, and under it its completed tasks if there are any; without the mark's column. Its row has what it
 /// finished in the last load window of so many entries.
-pub fn lane_lines(job: &Job, lane: WorkerId, window: usize) -> Vec<String> {
+pub fn lane_lines<C: Kind>(job: &JobOf<C>, lane: WorkerId, window: usize) -> Vec<String> {
     let phase = job.phase(lane).map_or(String::new(), |phase| phase.to_string());
-    let hand = job.held(lane).map_or("-".to_owned(), |task| task.to_string());
+    let hand = job.held(lane).map_or("-".to_owned(), |item| item.to_string());
+    // a long copy takes its room from the load
+    let width = 14_usize.saturating_sub(hand.chars().count().max(5));
     let load = job.load(lane).unwrap_or(0);
     let last = finished(job, lane, window).map_or("-".to_owned(), |weight| weight.to_string());
     let pointer = job.pointer(lane).map_or(String::new(), |filler| filler.to_string());
     let row = format!(
-        "{:>4}  {phase:<8}{hand:>5}{load:>9}{last:>10}{pointer:>5}",
+        "{:>4}  {phase:<8}{hand:>5}{load:>width$}{last:>10}{pointer:>5}",
         lane.number()
     );
     let indent = " ".repeat(RINGS - 1);
@@ -143,10 +151,10 @@ pub fn lane_lines(job: &Job, lane: WorkerId, window: usize) -> Vec<String> {
 }
 
 /// The rings that hold something, "0: 3 4 full | 12: 13" in pieces that aren't broken.
-fn rings(job: &Job, owner: WorkerId) -> Vec<String> {
+fn rings<C: Kind>(job: &JobOf<C>, owner: WorkerId) -> Vec<String> {
     let mut pieces: Vec<String> = Vec::new();
     for filler in job.worker_ids() {
-        let waiting: Vec<TaskId> = job.waiting(owner, filler).into_iter().flatten().collect();
+        let waiting: Vec<_> = job.waiting(owner, filler).into_iter().flatten().collect();
         if waiting.is_empty() {
             continue;
         }
@@ -163,18 +171,23 @@ fn rings(job: &Job, owner: WorkerId) -> Vec<String> {
     pieces
 }
 
-fn names(tasks: &[TaskId]) -> Vec<String> {
+fn names(tasks: &[impl Display]) -> Vec<String> {
     let more = tasks.len().saturating_sub(NAMED);
     let more = (more > 0).then(|| format!("and {more} more"));
-    tasks.iter().take(NAMED).map(TaskId::to_string).chain(more).collect()
+    tasks
+        .iter()
+        .take(NAMED)
+        .map(|item| item.to_string())
+        .chain(more)
+        .collect()
 }
 
 /// The completed tasks whose successors aren't all released, and the next of these.
-fn completed(job: &Job, lane: WorkerId) -> Option<Vec<String>> {
+fn completed<C: Kind>(job: &JobOf<C>, lane: WorkerId) -> Option<Vec<String>> {
     let next = job.next_release(lane)?;
     let mut words = vec!["completed".to_owned()];
     words.extend(names(job.buffer(lane)?));
-    let waits = format!("waits for {}", tasks(next.degree));
+    let waits = C::waits(job, next.successor, next.degree);
     words.extend([
         "|".to_owned(),
         format!("next successor: {},", next.successor),
@@ -185,12 +198,12 @@ fn completed(job: &Job, lane: WorkerId) -> Option<Vec<String>> {
 }
 
 /// As many of the last entries as fit.
-pub fn record(job: &Job) -> String {
+pub fn record<C: Kind>(job: &JobOf<C>) -> String {
     let mut entries = String::new();
-    for (place, entry) in job.record().iter().enumerate().rev() {
-        let longer = format!("   {} by {}{entries}", entry.task, entry.worker);
+    for (place, entry) in C::record(job).iter().enumerate().rev() {
+        let longer = format!("   {entry}{entries}");
         let dots = if place == 0 { 0 } else { "   ...".len() };
-        if "record".len() + longer.len() + dots > COLUMNS {
+        if "record".len() + longer.chars().count() + dots > COLUMNS {
             return format!("record   ...{entries}");
         }
         entries = longer;
@@ -202,10 +215,10 @@ pub fn record(job: &Job) -> String {
 }
 
 /// The lines from the last rule on.
-fn panel(board: &Board) -> Vec<String> {
+fn panel<C: Kind>(board: &Board<C>) -> Vec<String> {
     let (title, body) = match board.open() {
         Open::Nothing => ("Keys".to_owned(), keys()),
-        Open::Assign(number) => ("Assign".to_owned(), assign(*number)),
+        Open::Assign(number) => ("Assign".to_owned(), assign::<C>(*number)),
         Open::Foresee { lane, task, guess } => (format!("Assign by lane {lane}"), foresee(board, *task, *guess)),
         Open::Answer(answer) => (answer.title(), answered(board, answer)),
         Open::Back(last) => ("Step back".to_owned(), stepped_back(*last)),
@@ -235,18 +248,18 @@ fn typed(number: Number) -> String {
     number.value().map_or(String::new(), |value| value.to_string()) + "_"
 }
 
-fn assign(number: Number) -> Vec<String> {
+fn assign<C: Kind>(number: Number) -> Vec<String> {
     lines(&[
         &format!("Which lane assigns?   lane {}", typed(number)),
         "",
-        "It is that lane's Release: of the oldest of its completed tasks, the next",
-        "successor waits for one task less, and is placed when it waits for none.",
+        C::RELEASE[0],
+        C::RELEASE[1],
         "",
         "arrows or digits choose, Enter assigns, Escape leaves",
     ])
 }
 
-fn foresee(board: &Board, task: TaskId, guess: Number) -> Vec<String> {
+fn foresee<C: Kind>(board: &Board<C>, task: TaskId, guess: Number) -> Vec<String> {
     let weight = board.job().weight(task).unwrap_or(0);
     lines(&[
         &format!(
@@ -254,16 +267,16 @@ fn foresee(board: &Board, task: TaskId, guess: Number) -> Vec<String> {
             typed(guess)
         ),
         "",
-        "The lane with the least load, the lowest number of a tie; if its ring that",
-        "this lane fills is full, the next lane whose ring isn't.",
-        "What waits for a lane counts in its load, and what is in its hand.",
+        C::RULE[0],
+        C::RULE[1],
+        C::RULE[2],
         "",
         "arrows or digits choose, Enter answers and assigns, Escape leaves",
     ])
 }
 
 /// The panel of an answer.
-fn answered(board: &Board, answer: &Answer) -> Vec<String> {
+fn answered<C: Kind>(board: &Board<C>, answer: &Answer) -> Vec<String> {
     let score = board.score();
     let mut body = answer_lines(answer);
     if let Some(foreseen) = answer.foreseen {

@@ -2,6 +2,7 @@
 
 use crate::board::{Board, Flow};
 use crate::keys::{named, Key, NoKey};
+use crate::kind::Kind;
 use crate::screen::frame;
 use std::fmt;
 
@@ -29,7 +30,7 @@ impl fmt::Display for BadLine {
 /// # Errors
 ///
 /// The first line that names no keys; then no key is pressed.
-pub fn transcript(board: &mut Board, keys: &str) -> Result<String, BadLine> {
+pub fn transcript<C: Kind>(board: &mut Board<C>, keys: &str) -> Result<String, BadLine> {
     let parsed = keys
         .lines()
         .enumerate()
@@ -67,6 +68,6 @@ fn parse(line: &str) -> Result<Option<Vec<Key>>, NoKey> {
 }
 
 /// The frame with all lanes, however many rows that takes.
-fn whole(board: &Board) -> String {
+fn whole<C: Kind>(board: &Board<C>) -> String {
     frame(board, usize::MAX)
 }

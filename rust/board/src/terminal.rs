@@ -2,6 +2,7 @@
 
 use crate::board::{Board, Flow};
 use crate::keys::{decode, decode_last, Key};
+use crate::kind::Kind;
 use crate::screen::{frame, COLUMNS, MIN_ROWS};
 use std::io::{self, IsTerminal, Read, Write};
 use std::process::{Command, Stdio};
@@ -155,7 +156,7 @@ impl Terminal {
     }
 
     /// Draws the board, or one line if the terminal has become too small; whether the board can be seen.
-    fn draw(&self, board: &Board) -> Result<bool, Trouble> {
+    fn draw<C: Kind>(&self, board: &Board<C>) -> Result<bool, Trouble> {
         let size = size()?;
         let seen = size.is_enough();
         let text = match seen {
@@ -235,7 +236,7 @@ fn lit(line: &str) -> String {
 /// # Errors
 ///
 /// Where there is no terminal to play it in, or its input or output ends.
-pub fn play(board: &mut Board) -> Result<(), Trouble> {
+pub fn play<C: Kind>(board: &mut Board<C>) -> Result<(), Trouble> {
     let mut terminal = Terminal::open()?;
     loop {
         let seen = terminal.draw(board)?;

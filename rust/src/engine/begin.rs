@@ -1,29 +1,60 @@
-//! Begin in the words of document 01, and of document 02 where it changes them.
+//! Begin in the words of document 01, and of document 02 where it changes them; the graph and the roots as plain and weak jobs
+//! have them alike.
 
-use super::{add, set, Ends, Limits, Sizes};
+use super::words::{add, Ends, Rings};
+use super::{Limits, Sizes};
 use crate::memory::{Memory, HELD, NIL, ROW_WORDS};
-use crate::model::{refused, word, Answer, Graph, Table};
+use crate::model::{refused, word, Answer, Graph, Refusal, Table};
 
-/// Begin by a caller with these limits: "Order in begin: 2, 1, 3, 4, 5, 6."
+/// Begin by a caller with these limits.
 pub fn begin_within(limits: Limits, memory: &mut Memory, p: usize, k: usize) -> Answer {
     let sizes = Sizes::of(memory, p, k);
-    let graph = Graph {
-        weights: memory.weights.clone(),
-        preds: Table {
-            starts: memory.pred_starts.clone(),
-            words: memory.preds.clone(),
-        },
-    };
-    sizes.judge_limits(limits)?;
-    graph.judge_limits(limits.graph)?;
-    sizes.judge_lengths(memory)?;
-    graph.judge_edges()?;
-    let roots = roots(&graph);
-    judge_roots(sizes, &roots)?;
+    let graph = graph(&memory.weights, &memory.pred_starts, &memory.preds);
+    let roots = judge(limits, &graph, sizes.rings(), || sizes.judge_lengths(memory))?;
     clear(memory);
-    fill_graph(memory, &graph);
-    place_roots(memory, sizes, &roots);
+    let (succs, degrees) = linked(&graph);
+    (memory.succ_starts, memory.succs) = (succs.starts, succs.words);
+    memory.degrees = degrees;
+    let Memory {
+        weights,
+        rings,
+        ends,
+        counters,
+        ..
+    } = memory;
+    deal_roots(sizes.rings(), &roots, weights, (rings, ends, counters), |root| root);
     Ok(())
+}
+
+/// The graph of the lent weights and predecessor tables.
+pub(crate) fn graph(weights: &[u32], pred_starts: &[u32], preds: &[u32]) -> Graph {
+    Graph {
+        weights: weights.to_vec(),
+        preds: Table {
+            starts: pred_starts.to_vec(),
+            words: preds.to_vec(),
+        },
+    }
+}
+
+/// "Order in begin: 2, 1, 3, 4, 5, 6." The roots, if none of them refuses.
+pub(crate) fn judge(
+    limits: Limits,
+    graph: &Graph,
+    rings: Rings,
+    judge_lengths: impl FnOnce() -> Answer,
+) -> Result<Vec<usize>, Refusal> {
+    let Rings { p, k } = rings;
+    limits.judge(graph.weights.len(), graph.preds.words.len(), p, k)?;
+    graph.judge_limits(limits.graph)?;
+    judge_lengths()?;
+    graph.judge_edges()?;
+    let roots = roots(graph);
+    // 6: "The roots' limit becomes P·K", detail "their number"
+    if roots.len() > p * k {
+        return refused(6, word(roots.len()));
+    }
+    Ok(roots)
 }
 
 /// "The roots (degree 0) are taken rising"; "here it is all N tasks".
@@ -31,14 +62,6 @@ fn roots(graph: &Graph) -> Vec<usize> {
     (0..graph.weights.len())
         .filter(|&task| graph.predecessors(task).is_empty())
         .collect()
-}
-
-/// 6: "The roots' limit becomes P·K", detail "their number".
-fn judge_roots(sizes: Sizes, roots: &[usize]) -> Answer {
-    if roots.len() > sizes.p * sizes.k {
-        return refused(6, word(roots.len()));
-    }
-    Ok(())
 }
 
 /// "Everything is zeroed but weights and the predecessor tables; held tasks become NIL."
@@ -58,26 +81,36 @@ fn clear(memory: &mut Memory) {
 }
 
 /// "Successors are filled, degrees are numbers of predecessors."
-fn fill_graph(memory: &mut Memory, graph: &Graph) {
+pub(crate) fn linked(graph: &Graph) -> (Table, Vec<u32>) {
     let tasks = 0..graph.weights.len();
     let lists: Vec<Vec<u32>> = tasks.clone().map(|task| graph.successors(task)).collect();
-    let table = Table::of(&lists);
-    memory.succ_starts = table.starts;
-    memory.succs = table.words;
-    memory.degrees = tasks.map(|task| word(graph.predecessors(task).len())).collect();
+    let degrees = tasks.map(|task| word(graph.predecessors(task).len())).collect();
+    (Table::of(&lists), degrees)
 }
 
-/// "root number m, from 0, goes to the ring of owner and filler m mod P, and its weight to that counter."
-fn place_roots(memory: &mut Memory, sizes: Sizes, roots: &[usize]) {
-    let mut all_ends = vec![Ends::default(); sizes.p];
+/// "root number m, from 0, goes to the ring of owner and filler m mod P, and its weight to that counter": which worker each root
+/// goes to. What lies in a ring is made of the root.
+pub(crate) fn deal_roots<T>(
+    rings: Rings,
+    roots: &[usize],
+    weights: &[u32],
+    (slots, ends, counters): (&mut [T], &mut [u32], &mut [i32]),
+    made: impl Fn(u32) -> T,
+) -> Vec<usize> {
+    let Rings { p, k } = rings;
+    let mut all_ends = vec![Ends::default(); p];
+    let mut workers = Vec::new();
     for (m, &root) in roots.iter().enumerate() {
-        let worker = m % sizes.p;
-        let ring = sizes.ring(worker, worker);
-        let ends = &mut all_ends[worker];
-        set(&mut memory.rings, ring * sizes.k + ends.tail, word(root));
-        *ends = ends.appended(sizes.k);
-        ends.write(&mut memory.ends, ring);
-        let weight = memory.weights.get(root).copied().unwrap_or(0);
-        add(&mut memory.counters, ring, i64::from(weight));
+        let worker = m % p;
+        let ring = rings.ring(worker, worker);
+        let of_ring = &mut all_ends[worker];
+        if let Some(slot) = slots.get_mut(ring * k + of_ring.tail) {
+            *slot = made(word(root));
+        }
+        *of_ring = of_ring.appended(k);
+        of_ring.write(ends, ring);
+        add(counters, ring, i64::from(weights.get(root).copied().unwrap_or(0)));
+        workers.push(worker);
     }
+    workers
 }

@@ -4,20 +4,18 @@ use super::honest::Recorder;
 use super::{any_sizes, graphs as shapes, lent_for, Call, Case};
 use crate::draw::Draw;
 use crate::engine::Limits;
-use crate::memory::{List, Memory, Step};
+use crate::memory::{List, Lists, Step};
 use crate::trials::damage::several;
 
 /// A run in which lists are lent longer or shorter for a while.
-pub fn lengths(draw: &mut Draw, limits: Limits) -> Case {
+pub fn lengths<M: Lists>(draw: &mut Draw, limits: Limits) -> Case<M> {
     let graph = shapes::any_within(draw, limits, 20);
     let (p, k) = any_sizes(draw, limits, &graph);
-    let mut recorder = Recorder::new(limits, lent_for(draw, graph, p, k), p, k);
+    let mut recorder = Recorder::<M>::new(limits, lent_for(draw, graph, p, k), p, k);
     for _ in 0..draw.between(1, 8) {
         recorder.begin();
         recorder.every_step(draw, 16);
-        let lists: Vec<List> = (0..draw.pick(&[1, 1, 1, 2, 5]))
-            .map(|_| draw.pick(&List::ALL))
-            .collect();
+        let lists: Vec<List> = (0..draw.pick(&[1, 1, 1, 2, 5])).map(|_| draw.pick(M::LISTS)).collect();
         for list in lists {
             let right = recorder.memory.length(list);
             let length = draw.pick(&[0, right.saturating_sub(1), right + 1, right + 1, right + 7]);
@@ -35,7 +33,7 @@ pub fn lengths(draw: &mut Draw, limits: Limits) -> Case {
 }
 
 /// Graphs that begin refuses; after each refusal steps on what the lists held.
-pub fn graphs(draw: &mut Draw, limits: Limits) -> Case {
+pub fn graphs<M: Lists>(draw: &mut Draw, limits: Limits) -> Case<M> {
     match draw.below(3) {
         0 => several_defects(draw, limits),
         1 => too_many_roots(draw, limits),
@@ -44,24 +42,24 @@ pub fn graphs(draw: &mut Draw, limits: Limits) -> Case {
 }
 
 /// A graph with several defects from the start.
-fn several_defects(draw: &mut Draw, limits: Limits) -> Case {
+fn several_defects<M: Lists>(draw: &mut Draw, limits: Limits) -> Case<M> {
     let trial = several(draw);
     let (p, k) = any_sizes(draw, limits, &trial.graph);
-    let mut memory = lent_for(draw, trial.graph, p, k);
+    let mut memory: M = lent_for(draw, trial.graph, p, k);
     let [succ_starts, succs, degrees] = trial.lent;
     if draw.below(4) == 0 {
         memory.lend(List::SuccStarts, succ_starts, 0);
         memory.lend(List::Succs, succs, 0);
         memory.lend(List::Degrees, degrees, 0);
     }
-    let mut recorder = Recorder::new(limits, memory, p, k);
+    let mut recorder = Recorder::<M>::new(limits, memory, p, k);
     recorder.begin();
     recorder.every_step(draw, 16);
     recorder.case()
 }
 
 /// Rings that the roots fill, or that lack a slot or two: "The roots' limit becomes P·K".
-fn too_many_roots(draw: &mut Draw, limits: Limits) -> Case {
+fn too_many_roots<M: Lists>(draw: &mut Draw, limits: Limits) -> Case<M> {
     let (p, k) = (draw.between(1, 4), draw.between(2, 5));
     let roots = p * k + draw.below(3);
     let mut lists = vec![Vec::new(); roots + draw.below(3)];
@@ -69,17 +67,17 @@ fn too_many_roots(draw: &mut Draw, limits: Limits) -> Case {
         *list = vec![draw.below(roots) as u32];
     }
     let graph = shapes::weighed(draw, &lists);
-    let mut recorder = Recorder::new(limits, lent_for(draw, graph, p, k), p, k);
+    let mut recorder = Recorder::<M>::new(limits, lent_for(draw, graph, p, k), p, k);
     recorder.begin();
     recorder.every_step(draw, 16);
     recorder.case()
 }
 
 /// A run whose predecessor table is damaged and mended again, with a begin in between.
-fn one_defect_after_another(draw: &mut Draw, limits: Limits) -> Case {
+fn one_defect_after_another<M: Lists>(draw: &mut Draw, limits: Limits) -> Case<M> {
     let graph = shapes::any_within(draw, limits, 12);
     let (p, k) = any_sizes(draw, limits, &graph);
-    let mut recorder = Recorder::new(limits, lent_for(draw, graph, p, k), p, k);
+    let mut recorder = Recorder::<M>::new(limits, lent_for(draw, graph, p, k), p, k);
     recorder.begin();
     for _ in 0..16 {
         recorder.every_step(draw, 8);
@@ -96,7 +94,7 @@ fn one_defect_after_another(draw: &mut Draw, limits: Limits) -> Case {
 }
 
 /// Another predecessor, which may be there twice, close a cycle or be no task; or another start; or a heavy weight.
-fn defect(draw: &mut Draw, memory: &Memory) -> Option<(List, usize, u32)> {
+fn defect<M: Lists>(draw: &mut Draw, memory: &M) -> Option<(List, usize, u32)> {
     let (n, e) = (memory.n(), memory.e());
     if n == 0 || e == 0 {
         return None;
@@ -117,14 +115,14 @@ fn defect(draw: &mut Draw, memory: &Memory) -> Option<(List, usize, u32)> {
         ),
         3 | 4 => {
             let place = draw.below(e);
-            (List::Preds, place, memory.preds[place.saturating_sub(1)])
+            (List::Preds, place, memory.preds()[place.saturating_sub(1)])
         }
         _ => (List::Preds, draw.below(e), task),
     })
 }
 
 /// N, E, P and K at their limits and beyond, roots and weights too; then with a list of another length.
-pub fn limits(draw: &mut Draw, limits: Limits) -> Case {
+pub fn limits<M: Lists>(draw: &mut Draw, limits: Limits) -> Case<M> {
     let Limits { workers, slots, .. } = limits;
     let (p, k): (usize, usize) = draw.pick(&[
         (1, 2),
@@ -150,17 +148,18 @@ pub fn limits(draw: &mut Draw, limits: Limits) -> Case {
     let mut starts = vec![0; n + 1];
     starts[n] = e as u32;
     let fill = draw.pick(&[0, u32::MAX]);
-    let mut memory = Memory::sized(vec![0; n], starts, vec![0; e], p, k, fill);
-    if let Some(last) = memory.weights.last_mut() {
+    let mut weights = vec![0; n];
+    if let Some(last) = weights.last_mut() {
         *last = weight;
     }
-    let mut recorder = Recorder::new(limits, memory, p, k);
+    let memory = M::sized(weights, starts, vec![0; e], p, k, fill);
+    let mut recorder = Recorder::<M>::new(limits, memory, p, k);
     recorder.begin();
     // with P 0 there is no worker below P
     recorder.step(0, Step::Fetch);
     recorder.every_step(draw, 16);
     // 2 comes before 1
-    let list = draw.pick(&List::ALL);
+    let list = draw.pick(M::LISTS);
     let right = recorder.memory.length(list);
     let length = draw.pick(&[0, right.saturating_sub(1), right + 1]);
     recorder.call(Call::Lend {

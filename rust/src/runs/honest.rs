@@ -2,10 +2,10 @@
 
 use super::{any_sizes, graphs, lent_for, small_sizes, Call, Case};
 use crate::draw::Draw;
-use crate::engine::{self, Limits, MODEL};
-use crate::memory::{List, Memory, Step};
+use crate::engine::Limits;
+use crate::memory::{List, Lists, Memory, Step};
 use crate::model::{Graph, Refusal};
-use crate::trials::random::Lists;
+use crate::trials::random::Lists as Predecessors;
 
 /// In which order a worker's steps are tried; a late Release fills buffers, a late Fetch fills rings.
 const ORDERS: [[Step; 4]; 4] = [
@@ -38,17 +38,17 @@ impl Manner {
 
 /// Records calls while the model makes them, so that the next call can be chosen. Calls with another P or K have it at or near
 /// these limits.
-pub struct Recorder {
+pub struct Recorder<M: Lists = Memory> {
     limits: Limits,
-    pub start: Memory,
-    pub memory: Memory,
+    pub start: M,
+    pub memory: M,
     pub p: usize,
     pub k: usize,
     pub calls: Vec<Call>,
 }
 
-impl Recorder {
-    pub fn new(limits: Limits, memory: Memory, p: usize, k: usize) -> Recorder {
+impl<M: Lists> Recorder<M> {
+    pub fn new(limits: Limits, memory: M, p: usize, k: usize) -> Recorder<M> {
         Recorder {
             limits,
             start: memory.clone(),
@@ -59,7 +59,7 @@ impl Recorder {
         }
     }
 
-    pub fn case(self) -> Case {
+    pub fn case(self) -> Case<M> {
         Case {
             memory: self.start,
             p: self.p,
@@ -71,7 +71,7 @@ impl Recorder {
     /// Makes and records the call; whether it is accepted.
     pub fn call(&mut self, call: Call) -> bool {
         self.calls.push(call);
-        call.make(&MODEL, &mut self.memory).is_accepted()
+        call.make(&M::MODEL, &mut self.memory).is_accepted()
     }
 
     /// Writes a word, records it, and answers the one that was there.
@@ -113,7 +113,7 @@ impl Recorder {
             let worker = ((first + passed) % self.p) as u32;
             for step in order {
                 let (p, k) = (self.p, self.k);
-                let answer = engine::step(&mut self.memory, p, k, worker, step);
+                let answer = (M::MODEL.step)(&mut self.memory, p, k, worker, step);
                 let full = matches!(answer, Err(Refusal { number: 11, .. }));
                 if answer.is_ok() || full || draw.below(4 * manner.stray) == 0 {
                     self.calls.push(Call::Step { p, k, worker, step });
@@ -180,19 +180,19 @@ fn others(draw: &mut Draw, limits: Limits, p: usize, k: usize) -> (usize, usize)
 }
 
 /// A run of a graph of any shape with up to `most` tasks.
-pub fn any(draw: &mut Draw, limits: Limits, most: usize) -> Case {
+pub fn any<M: Lists>(draw: &mut Draw, limits: Limits, most: usize) -> Case<M> {
     let graph = graphs::any_within(draw, limits, most);
     run_of(draw, limits, graph)
 }
 
 /// A run with N at its limit, and E at or near its own.
-pub fn largest(draw: &mut Draw, limits: Limits) -> Case {
+pub fn largest<M: Lists>(draw: &mut Draw, limits: Limits) -> Case<M> {
     let graph = graphs::largest(draw, limits);
     run_of(draw, limits, graph)
 }
 
 /// A run of a graph with these edges: its weights and the order of each task's predecessors are drawn.
-pub fn run_of_lists(draw: &mut Draw, limits: Limits, lists: &Lists) -> Case {
+pub fn run_of_lists<M: Lists>(draw: &mut Draw, limits: Limits, lists: &Predecessors) -> Case<M> {
     let mut lists = lists.clone();
     lists.iter_mut().for_each(|list| draw.shuffle(list));
     let graph = graphs::weighed(draw, &lists);
@@ -200,12 +200,12 @@ pub fn run_of_lists(draw: &mut Draw, limits: Limits, lists: &Lists) -> Case {
 }
 
 /// Mostly one whole run; sometimes some of it, and another begin.
-fn run_of(draw: &mut Draw, limits: Limits, graph: Graph) -> Case {
+fn run_of<M: Lists>(draw: &mut Draw, limits: Limits, graph: Graph) -> Case<M> {
     let (p, k) = match draw.below(3) {
         0 => small_sizes(draw, limits, &graph),
         _ => any_sizes(draw, limits, &graph),
     };
-    let mut recorder = Recorder::new(limits, lent_for(draw, graph, p, k), p, k);
+    let mut recorder = Recorder::<M>::new(limits, lent_for(draw, graph, p, k), p, k);
     recorder.stray(draw);
     if !recorder.begin() {
         recorder.every_step(draw, 16);

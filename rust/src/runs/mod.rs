@@ -5,16 +5,19 @@ mod bad;
 mod damage;
 pub mod graphs;
 mod honest;
+mod weak;
+
+pub use weak::{next_weak_case, weak_runs_of_one_graph};
 
 use crate::draw::Draw;
 use crate::engine::{Engine, Limits};
-use crate::memory::{List, Memory, Outcome, Step};
+use crate::memory::{List, Lists, Memory, Outcome, Step};
 use crate::model::{Answer, Graph, Refusal};
 
 /// What is lent before the first call, and the calls. Each call finds what the last one left.
 #[derive(Clone, Debug)]
-pub struct Case {
-    pub memory: Memory,
+pub struct Case<M: Lists = Memory> {
+    pub memory: M,
     /// P and K that the lists are sized for.
     pub p: usize,
     pub k: usize,
@@ -48,22 +51,22 @@ pub enum Call {
 }
 
 #[derive(Clone, Copy, Debug, PartialEq, Eq)]
-pub enum Reply {
+pub enum Reply<O = Outcome> {
     Begun(Answer),
-    Stepped(Result<Outcome, Refusal>),
+    Stepped(Result<O, Refusal>),
     /// The call wasn't the engine's.
     Changed,
 }
 
-impl Reply {
-    pub fn is_accepted(self) -> bool {
+impl<O> Reply<O> {
+    pub fn is_accepted(&self) -> bool {
         matches!(self, Reply::Begun(Ok(())) | Reply::Stepped(Ok(_)))
     }
 
-    pub fn refusal(self) -> Option<Refusal> {
+    pub fn refusal(&self) -> Option<Refusal> {
         match self {
             Reply::Begun(answer) => answer.err(),
-            Reply::Stepped(answer) => answer.err(),
+            Reply::Stepped(answer) => answer.as_ref().err().copied(),
             Reply::Changed => None,
         }
     }
@@ -71,7 +74,7 @@ impl Reply {
 
 impl Call {
     /// Makes the call by this engine.
-    pub fn make(self, engine: &Engine, memory: &mut Memory) -> Reply {
+    pub fn make<M: Lists>(self, engine: &Engine<M>, memory: &mut M) -> Reply<M::Outcome> {
         match self {
             Call::Begin { p, k } => Reply::Begun((engine.begin)(memory, p, k)),
             Call::Step { p, k, worker, step } => Reply::Stepped((engine.step)(memory, p, k, worker, step)),
@@ -91,7 +94,7 @@ impl Call {
     }
 }
 
-impl Case {
+impl<M: Lists> Case<M> {
     /// "Nothing but the engine writes its memory meanwhile."
     pub fn is_honest(&self) -> bool {
         self.calls.iter().all(|call| call.is_engine_s())
@@ -99,9 +102,9 @@ impl Case {
 }
 
 /// Memory for this graph, sized for P and K, every other word the same arbitrary one.
-fn lent_for(draw: &mut Draw, graph: Graph, p: usize, k: usize) -> Memory {
+fn lent_for<M: Lists>(draw: &mut Draw, graph: Graph, p: usize, k: usize) -> M {
     let fill = draw.pick(&[0, 1, 2, 65_535, 70_000, 1 << 31, u32::MAX]);
-    Memory::sized(graph.weights, graph.preds.starts, graph.preds.words, p, k, fill)
+    M::sized(graph.weights, graph.preds.starts, graph.preds.words, p, k, fill)
 }
 
 /// "P from 1 to 16", "K from 2 to 64", or to smaller limits: small ones and the limits often, mostly with room for all roots.
@@ -167,6 +170,11 @@ pub fn runs_of_one_graph(seed: u64, most: usize, count: usize) -> Vec<Case> {
 
 /// The same for a caller with these limits.
 pub fn runs_of_one_graph_within(limits: Limits, seed: u64, most: usize, count: usize) -> Vec<Case> {
+    runs_of_one_graph_by(limits, seed, most, count)
+}
+
+/// The same for either kind of job.
+fn runs_of_one_graph_by<M: Lists>(limits: Limits, seed: u64, most: usize, count: usize) -> Vec<Case<M>> {
     let mut draw = Draw::new(seed);
     let lists = graphs::shaped_within(&mut draw, limits, most);
     (0..count)
