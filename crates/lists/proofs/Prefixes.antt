@@ -1,5 +1,5 @@
 -- Laws of a list that is read from the front: its first i members, one more, all of them; and of a list of equal members.
-use Prim.Native.Nat.{ℕ, zero, suc, _+_, _≤_, _<_}
+use Prim.Native.Nat.{ℕ, zero, suc, _+_, _-_, _≤_, _<_}
 use mathlib.Core.Path.{_≡_, refl, sym, ap, _∙_}
 use mathlib.Core.List.{List, [], _∷_, _++_}
 use native.Mathlib.Omega.{arith}
@@ -76,6 +76,20 @@ getD-equals (suc n) (suc u) a = getD-equals n u a
 
 pub zeros : (n u : ℕ) → _≡_ {A = ℕ} (getD (replicate n 0) u 0) 0
 zeros n u = getD-equals n u 0
+
+-- a list whose words are all 0, and one whose words from place n on are
+all-zeros : (l : List ℕ) → ((x : ℕ) → _≡_ {A = ℕ} (getD l x 0) 0) → l ≡ replicate (length l) 0
+all-zeros [] h = refl
+all-zeros (a ∷ l) h = ap (λ (b : ℕ). b ∷ l) (h 0) ∙ ap (λ (k : List ℕ). 0 ∷ k) (all-zeros l (λ x. h (suc x)))
+
+repeated : {k n : ℕ} → k ≡ n → replicate {A = ℕ} k 0 ≡ replicate n 0
+repeated e = ap (λ (k : ℕ). replicate k 0) e
+
+pub zeros-behind : (n : ℕ) (l : List ℕ) → ((x : ℕ) → n ≤ x → _≡_ {A = ℕ} (getD l x 0) 0) → drop n l ≡ replicate (length l - n) 0
+zeros-behind zero l h = all-zeros l (λ x. h x (omega arith)) ∙ repeated {k = length l} {n = length l - 0} (omega arith)
+zeros-behind (suc n) [] h = repeated {k = 0} {n = 0 - suc n} (omega arith)
+zeros-behind (suc n) (a ∷ l) h =
+    zeros-behind n l (λ x z. h (suc x) (omega (arith, z))) ∙ repeated {k = length l - n} {n = suc (length l) - suc n} (omega arith)
 
 -- a place where something other than 0 is read lies inside
 pub inside : (l : List ℕ) (u : ℕ) → 0 < getD l u 0 → u < length l

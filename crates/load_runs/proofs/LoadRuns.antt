@@ -1,12 +1,12 @@
 -- PROMISE: load windows of a run's memory: never 8, accepted with limits, an m and a results' length that suit, each word what the Completes of its
 -- window finished, and a finished run's whole weight.
-use Prim.Native.Nat.{ℕ, zero, suc, _+_, _*_, _≤_, _<_}
+use Prim.Native.Nat.{ℕ, zero, suc, _+_, _-_, _*_, _≤_, _<_}
 use mathlib.Core.Path.{_≡_, refl, sym, ap, subst, _∙_}
 use mathlib.Core.Logic.{_⊎_, inl, inr}
 use mathlib.Core.List.{List, [], _∷_, _++_}
 use native.Mathlib.Omega.{arith}
 use native.Mathlib.Decide.{ℕ-discrete, decLt}
-use lib.ListN.{length, getD, take, drop, length-drop}
+use lib.ListN.{length, getD, take, drop, replicate, length-drop}
 use lib.Seq.{take-suc, getD-drop}
 use Rattle.lists.specs.Lists.{occ, tabulate}
 use Rattle.lists.specs.Sums.{sumTo, sumOf}
@@ -126,8 +126,8 @@ module _ (r : Run) where
   entry-adds : (i x : ℕ) → x < length completed → addedBy (now .weights) (now .executed) i x ≡ finishedIn (r .lent) i (getD completed x none)
   unfolding addedBy finishedIn
   entry-adds i x h =
-      let words = words-at completed (run-words r .rest) x h in
-      rw (run-words r .record-begins, words .0, words .1, weights-reached r)
+      let words = words-at completed (replicate (2 * tasks (r .lent) - 2 * acceptedCompletes (eventsOf r)) 0) x h in
+      rw (run-words r .recorded, words .0, words .1, weights-reached r)
 
   window-loads : (m w i : ℕ) → w + m ≤ acceptedCompletes (eventsOf r)
       → loadIn (now .weights) (now .executed) m w i ≡ sumOf (finishedIn (r .lent) i) (take m (drop w completed))

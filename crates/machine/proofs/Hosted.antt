@@ -8,7 +8,7 @@ use Rattle.task.specs.declared.Limits.{Limits}
 use Rattle.task.specs.declared.Step.the-variants.{Fetch}
 use Rattle.machine.specs.Machine.{memoryAfter, eventsAfter}
 use Rattle.machine.specs.Seen.{Seen, seenAs, callsMade, lastLeft, Link, Chained}
-use Rattle.machine.specs.Jobs.{Call, stepCall, beginCall, Engine, leaves, machineOf, begunOf, memoryOf}
+use Rattle.machine.specs.Jobs.{Call, stepCall, beginCall, Engine, leaves, machineOf, memoryOf}
 use Rattle.machine.specs.Hosted.{Hosting, runAfter, wordsAfter, Hosted}
 use Rattle.machine.specs.Fetches.{fetches, fetchesSeen, TakenWithin, SeenTaken}
 use Rattle.machine.proofs.Seen.{chained-first, chained-later, last-after, events-after, begins-after, Parted, parted}

@@ -22,10 +22,7 @@ module _ {F : Family} where
   -- and with it the weight of task t: "The weight joins the counter of the ring really used."
   abbrev pub joinRing : ℕ → ℕ → ℕ → ℕ → F .Item → ℕ → Mem F → List (Update F)
   joinRing p k o i a t m =
-      store list.rings (slotAt k (ringNumber p o i) (endsIn m (ringNumber p o i) .tail)) a
-      ∷ store list.ends (ringNumber p o i) (tailOn k (endsIn m (ringNumber p o i)))
-      ∷ store list.counters (ringNumber p o i) (counterIn m (ringNumber p o i) +ℤ pos (weightIn m t))
-      ∷ []
+      append p k o i a m ++ (store list.counters (ringNumber p o i) (counterIn m (ringNumber p o i) +ℤ pos (weightIn m t)) ∷ [])
 
   -- "The roots (degree 0) are taken rising: root number m" (here n) ", from 0, goes to the ring of owner and filler m mod P, and its weight to
   -- that counter."; `item` is the item of a root, `beside` what else is written with it

@@ -7,6 +7,7 @@ use mathlib.Core.List.{List}
 use native.Mathlib.Omega.{arith}
 use lib.ListN.{length, getD, set, length-set}
 use lib.Seq.{getD-set-same, getD-set-other}
+use Rattle.task.specs.Entries.{entriesNext}
 use Rattle.task.specs.Types.{idle}
 use Rattle.task.specs.Phases.{suits, leadsTo}
 use Rattle.task.specs.Refusals.{stepSays}
@@ -23,7 +24,7 @@ use Rattle.rules.specs.Memory.{Mem, rowIn, movedTo, entriesIn, acceptedI
 use Rattle.rules.specs.Updates.{Update}
 use Rattle.rules.specs.Steps.{step}
 use Rattle.rules.specs.Plans.{withCount}
-use Rattle.rules.specs.Moves.{sink, inner, next, last, Advances, waiting, placed, Made, AcceptedStep, entriesNext}
+use Rattle.rules.specs.Moves.{sink, inner, next, last, Advances, waiting, placed, Made, AcceptedStep}
 use Rattle.rules.proofs.Moves.{accepted-step, accepted-or-same}
 use Rattle.rules.proofs.RowsMade.{rowMade, rows-made}
 

@@ -175,10 +175,3 @@ pub record AcceptedStep (limits : Limits) (p k i : ℕ) (s : Step) (m : Mem) : T
   pub answered : stepSays (step limits p k i s m .answer) ≡ outcomeSays outcome
   -- "Each accepted step adds 1 to the accepted word."
   pub left : step limits p k i s m .memory ≡ written (putAccepted (acceptedIn m + 1) ∷ updates) m
-
--- the entries word after an accepted step: Complete alone adds to it
-abbrev pub entriesNext : Step → ℕ → ℕ
-entriesNext Fetch n = n
-entriesNext Start n = n
-entriesNext Complete n = suc n
-entriesNext Release n = n

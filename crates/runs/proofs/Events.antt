@@ -1,14 +1,15 @@
 -- PROMISE: "After every list of a run's calls the accepted word is the number of its accepted steps, the entries word that of its accepted
 -- Completes. The record begins with one entry for each of these Completes, in their order: the task that the worker's last accepted Fetch before it
--- answered, and that worker."
-use Prim.Native.Nat.{ℕ, zero, suc, _+_, _*_, _≤_, _<_}
+-- answered, and that worker." The words behind them are begin's zeros.
+use Prim.Native.Nat.{ℕ, zero, suc, _+_, _-_, _*_, _≤_, _<_}
 use mathlib.Core.Path.{_≡_, refl, sym, ap, _∙_}
 use mathlib.Core.List.{List, [], _∷_, _++_}
 use native.Mathlib.Omega.{arith}
 use borrow.Author.Tests.{le-leb}
-use lib.ListN.{length, getD, take, drop, take-append-drop, List·getD-append}
+use lib.ListN.{length, getD, take, drop, replicate, take-append-drop, List·getD-append}
 use Rattle.lists.specs.Lists.{tabulate}
 use Rattle.lists.proofs.Blocks.{length-tabulate, tabulate-same}
+use Rattle.lists.proofs.Prefixes.{zeros-behind}
 use Rattle.task.specs.Types.{nil}
 use Rattle.task.specs.Entries.{Entry, entryOf}
 use Rattle.memory.specs.Field as list
@@ -99,6 +100,12 @@ module _ (r : Run) where
       inside : 2 * entriesIn now ≤ length (now .executed)
       inside = omega (arith, words .entries, fits .lengths .list list.executed)
 
+  record-length : length (now .executed) ≡ 2 * tasks (r .lent)
+  record-length = fits .lengths .list list.executed ∙ ap (λ (n : ℕ). 2 * n) (tasks-reached r)
+
+  others-unused : others ≡ replicate (2 * tasks (r .lent) - 2 * acceptedCompletes (eventsOf r)) 0
+  others-unused = zeros-behind (2 * entriesIn now) (now .executed) (recounts .unused) ∙ rw (record-length, recounts .entries) refl
+
   -- the run words, as the rules read them
   pub accepted-word : acceptedIn (memoryOf r) ≡ acceptedSteps (eventsOf r)
   accepted-word = recounts .steps
@@ -110,9 +117,10 @@ module _ (r : Run) where
   run-words =
       record {
         run = two-words (now .run) (fits .lengths .list list.run) ∙ rw (entries-word, accepted-word);
-        rest = others;
-        record-begins = record-first ∙ ap (λ (es : List (Entry ℕ)). wordsOf es ++ others) (recounts .executed);
-        record-size = fits .lengths .list list.executed ∙ ap (λ (n : ℕ). 2 * n) (tasks-reached r);
+        recorded =
+            record-first ∙ ap (λ (es : List (Entry ℕ)). wordsOf es ++ others) (recounts .executed)
+            ∙ ap (λ (l : List ℕ). wordsOf (entriesOf (eventsOf r)) ++ l) others-unused;
+        record-size = record-length;
         weights = weights-reached r;
         predStarts = starts-reached r;
         preds = preds-reached r;

@@ -1,6 +1,6 @@
 -- PROMISE: "A task with p tasks ahead of it in its ring is therefore taken within (p+1)·P accepted fetches of its owner."
 use Prim.Native.Nat.{ℕ, _<_}
-use mathlib.Core.Path.{_≡_, refl, sym, ap, _∙_}
+use mathlib.Core.Path.{_≡_, sym, ap, _∙_}
 use mathlib.Core.List.{List}
 use Rattle.task.specs.Refusals.{taskFetched, outcomeSays, stepSays}
 use Rattle.task.specs.declared.Limits.{Limits}

@@ -1,20 +1,21 @@
 -- What the lent words say of a run's events so far: the accepted word, the entries word and the record recount them, and the task that a worker has
 -- in hand is the one its last accepted Fetch answered.
-use Prim.Native.Nat.{ℕ, zero, suc, _<_}
+use Prim.Native.Nat.{ℕ, zero, suc, _+_, _*_, _≤_, _<_}
 use mathlib.Core.Path.{_≡_, refl, sym, ap, _∙_}
 use mathlib.Core.Bool.{Bool, true, false, cond, _&&_}
 use mathlib.Core.List.{List, [], _∷_, _++_, append-nil}
 use native.Mathlib.Omega.{arith}
 use native.Mathlib.Decide.{ℕ-discrete}
 use borrow.Author.Tests.{eq-eqb, ne-eqb}
-use lib.ListN.{length, getD}
-use lib.Seq.{getD-set-same}
+use lib.ListN.{length, getD, set}
+use lib.Seq.{getD-set-same, getD-set-other}
 use lib.Dec.{leb}
 use Rattle.lists.specs.Lists.{tabulate}
 use Rattle.lists.proofs.Appends.{each-append}
+use Rattle.lists.proofs.Prefixes.{zeros}
 use Rattle.lists.proofs.Told.{and-false, cond-either}
 use Rattle.task.specs.Types.{idle}
-use Rattle.task.specs.Entries.{Entry, entryOf}
+use Rattle.task.specs.Entries.{Entry, entryOf, entriesNext}
 use Rattle.task.specs.Phases.{suits}
 use Rattle.task.specs.Refusals.{Said, refused, answered, accepted, answerSays, stepSays}
 use Rattle.task.specs.Rows.{Acceptance}
@@ -26,7 +27,7 @@ use Rattle.task.specs.declared.Step.the-variants.{Fetch, Start, Complete, Relea
 use Rattle.task.specs.declared.StepOutcome.{StepOutcome}
 use Rattle.ring.specs.Ring.{capacity}
 use Rattle.memory.specs.Field as list
-use Rattle.memory.specs.Updates.{written}
+use Rattle.memory.specs.Updates.{storeWords, updated, written}
 use Rattle.machine.specs.Jobs as jobs
 use Rattle.rules.specs.Memory.{Mem, tasks, rowIn, held, entriesIn, acceptedIn}
 use Rattle.rules.specs.Updates.{Update}
@@ -34,7 +35,7 @@ use Rattle.rules.specs.Plans.{withCount}
 use Rattle.rules.specs.Steps.{step}
 use Rattle.rules.specs.Begin.{begin}
 use Rattle.rules.specs.Begun.{LaidDown}
-use Rattle.rules.specs.Moves.{Fetches, Made, AcceptedStep, entriesNext}
+use Rattle.rules.specs.Moves.{Fetches, sink, inner, waiting, placed, Made, AcceptedStep}
 use Rattle.rules.proofs.Moves.{step-accepts}
 use Rattle.rules.proofs.RowsMade.{rowMade, rows-made}
 use Rattle.rules.proofs.Begun.{laid-row, laid-run, laid-down}
@@ -57,6 +58,8 @@ pub record Recounts (p : ℕ) (m : Mem) (past : List Event) : Type 0 where
   pub steps : acceptedIn m ≡ acceptedSteps past
   pub entries : entriesIn m ≡ acceptedCompletes past
   pub executed : recordIn m ≡ entriesOf past
+  -- the words behind the recorded entries are begin's
+  pub unused : (x : ℕ) → 2 * entriesIn m ≤ x → _≡_ {A = ℕ} (getD (m .executed) x 0) 0
   pub workers : (x : ℕ) → x < length (entriesOf past) → getD (entriesOf past) x none .worker < p
   pub hand : (j : ℕ) → ¬ (_≡_ {A = ℕ} (rowIn m j .phase) 0) → held m j ≡ lastFetched j past
 
@@ -67,6 +70,7 @@ begun-recounts limits p k m e =
       steps = laid-run laid 1;
       entries = laid-run laid 0;
       executed = rw (laid-run laid 0) (cond-either (leb 0 (tasks (begunMemory limits p k m))) []);
+      unused = λ x h. ap (λ (l : List ℕ). getD l x 0) (laid .executed) ∙ zeros (length (m .executed)) x;
       workers = λ x h. absurd (omega (arith, h));
       hand = λ j n. absurd (n (ap (λ (r : Row). r .phase) (laid-row laid j)));
     }
@@ -106,6 +110,7 @@ still-recounts p m past c said q h =
       steps = h .steps ∙ sym (still-counted isStep (λ side t. refl) past c said q);
       entries = h .entries ∙ sym (still-counted isComplete (λ side t. refl) past c said q);
       executed = h .executed ∙ sym (still-entries past c said q);
+      unused = h .unused;
       workers = rw (still-entries past c said q) (h .workers);
       hand = λ j n. h .hand j n ∙ sym (still-fetched j past c said q);
     }
@@ -115,11 +120,17 @@ said-accepted (refused n d) a = absurd a
 said-accepted (answered k vs) a = refl
 
 -- Complete alone adds an entry, to the word and to the record
-completes-next : (s : Step) (n : ℕ) → cond (isCompletion s && true) (suc n) n ≡ entriesNext s n
+pub completes-next : (s : Step) (n : ℕ) → cond (isCompletion s && true) (suc n) n ≡ entriesNext s n
 completes-next Fetch n = refl
 completes-next Start n = refl
 completes-next Complete n = refl
 completes-next Release n = refl
+
+pub entries-rise : (s : Step) (n : ℕ) → n ≤ entriesNext s n
+entries-rise Fetch n = omega arith
+entries-rise Start n = omega arith
+entries-rise Complete n = omega arith
+entries-rise Release n = omega arith
 
 abbrev pub entryNext : {A : Type 0} → Step → Entry A → List (Entry A)
 entryNext s e = cond (isCompletion s && true) (e ∷ []) []
@@ -131,12 +142,28 @@ entry-worker d true p t i h zero l = h
 entry-worker d true p t i h (suc x) l = absurd (omega (arith, l))
 entry-worker d false p t i h x l = absurd (omega (arith, l))
 
--- the task that a worker has in hand after a step
-module _ (p k i : ℕ) (m : Mem) (worker : i < p) (rows : length (m .rows) ≡ p) (o : StepOutcome) (us : List Update) where
-  held-made : (s : Step) (f : Made s p k i m o us) → held (written (withCount m us) m) i ≡ rowMade p k i m o us s f .held .0
-  held-made s f =
+module _ (p k i : ℕ) (m : Mem) (o : StepOutcome) (us : List Update) where
+  -- the task that a worker has in hand after a step
+  held-made : i < p → length (m .rows) ≡ p → (s : Step) (f : Made s p k i m o us)
+      → held (written (withCount m us) m) i ≡ rowMade p k i m o us s f .held .0
+  held-made worker rows s f =
       ap (λ (l : List Row). getD l i idle .held .0) (rows-made p k i m o us s f)
       ∙ ap (λ (r : Row). r .held .0) (getD-set-same (m .rows) i (rowMade p k i m o us s f) idle (omega (arith, worker, rows)))
+
+  -- Complete writes its own two words, every other step none
+  unused-entry : (l : List ℕ) (e a b x : ℕ) → 2 * suc e ≤ x → getD (set (set l (2 * e) a) (2 * e + 1) b) x 0 ≡ getD l x 0
+  unused-entry l e a b x h =
+      getD-set-other (set l (2 * e) a) (2 * e + 1) x b 0 (λ q. omega (arith, q, h)) ∙ getD-set-other l (2 * e) x a 0 (λ q. omega (arith, q, h))
+
+  unused-made : (s : Step) → Made s p k i m o us → (x : ℕ) → 2 * entriesNext s (entriesIn m) ≤ x
+      → getD (written (withCount m us) m .executed) x 0 ≡ getD (m .executed) x 0
+  unfolding written updated storeWords
+  unused-made Fetch f x h = rw (f .updates) refl
+  unused-made Start f x h = rw (f .updates) refl
+  unused-made Complete (sink f) x h = rw (f .updates) (unused-entry (m .executed) (entriesIn m) _ _ x h)
+  unused-made Complete (inner f) x h = rw (f .updates) (unused-entry (m .executed) (entriesIn m) _ _ x h)
+  unused-made Release (waiting f) x h = rw (f .updates) refl
+  unused-made Release (placed f) x h = rw (f .updates) refl
 
 -- After an accepted step.
 module _ (limits : Limits) (p k i : ℕ) (m : Mem) where
@@ -172,16 +199,16 @@ module _ (limits : Limits) (p k i : ℕ) (m : Mem) where
     own-hand Fetch r n =
         let f : Fetches p k i m (r .outcome) (r .updates) = r .allowed .made in
         rw (r .answered, f .outcome, eq-eqb i i refl, r .left)
-        (held-made p k i m (r .allowed .worker) (r .allowed .fits .lengths .list list.rows) (r .outcome) (r .updates) Fetch f)
+        (held-made p k i m (r .outcome) (r .updates) (r .allowed .worker) (r .allowed .fits .lengths .list list.rows) Fetch f)
     own-hand Start r n =
-        rw (r .left) (held-made p k i m (r .allowed .worker) (r .allowed .fits .lengths .list list.rows) (r .outcome) (r .updates) Start (r .allowed .made))
+        rw (r .left) (held-made p k i m (r .outcome) (r .updates) (r .allowed .worker) (r .allowed .fits .lengths .list list.rows) Start (r .allowed .made))
         ∙ h .hand i (λ z. omega (arith, r .allowed .phase, z))
     own-hand Complete r n = absurd (n (phase-after limits p k i Complete m (step-accepts limits p k i Complete m r)))
     own-hand Release r n = absurd (n (phase-after limits p k i Release m (step-accepts limits p k i Release m r)))
 
     step-recounts : (s : Step) → AcceptedStep limits p k i s m → Recounts p (after s) (seen s ∷ past)
     unfolding acceptedOf entriesOf entryBy jobs.says
-    step-recounts s r = record { steps = steps; entries = entries; executed = executed; workers = workers; hand = hand }
+    step-recounts s r = record { steps = steps; entries = entries; executed = executed; unused = unused; workers = workers; hand = hand }
       where
         a : Acceptance (stepSays (step limits p k i s m .answer))
         a = step-accepts limits p k i s m r
@@ -199,6 +226,15 @@ module _ (limits : Limits) (p k i : ℕ) (m : Mem) where
         executed =
             executed-next s (r .outcome) (r .allowed .worker) (step-does limits p k i s m r .lines)
             ∙ rw (ok, h .executed, entry-same s (r .allowed .phase)) refl
+
+        unused : (x : ℕ) → 2 * entriesIn (after s) ≤ x → _≡_ {A = ℕ} (getD (after s .executed) x 0) 0
+        unused x l =
+            ap (λ (m′ : Mem). getD (m′ .executed) x 0) (r .left)
+            ∙ unused-made p k i m (r .outcome) (r .updates) s (r .allowed .made) x (omega (arith, l, grown))
+            ∙ h .unused x (omega (arith, l, grown, entries-rise s (entriesIn m)))
+          where
+            grown : entriesIn (after s) ≡ entriesNext s (entriesIn m)
+            grown = entries-after limits p k i s m a
 
         workers : (x : ℕ) → x < length (entriesOf (seen s ∷ past)) → getD (entriesOf (seen s ∷ past)) x none .worker < p
         workers =

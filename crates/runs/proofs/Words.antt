@@ -14,6 +14,7 @@ use Rattle.lists.specs.Sums.{sumTo}
 use Rattle.lists.proofs.Told.{Told, told-true, told-false, same-told}
 use Rattle.lists.proofs.Sums.{sum-zero, sum-at}
 use Rattle.lists.proofs.Places.{place-parts}
+use Rattle.task.specs.Entries.{entriesNext}
 use Rattle.task.specs.Types.{idle}
 use Rattle.task.specs.Refusals.{accepted, answerSays}
 use Rattle.task.specs.declared.Ends.{Ends}
@@ -34,7 +35,7 @@ use Rattle.rules.specs.Plans.{withCount}
 use Rattle.rules.specs.Steps.{step}
 use Rattle.rules.specs.Begin.{begin}
 use Rattle.rules.specs.Begun.{LaidDown, rootsOf}
-use Rattle.rules.specs.Moves.{Allowed, AcceptedStep, Made, Advances, next, last, sink, inner, waiting, placed, entriesNext}
+use Rattle.rules.specs.Moves.{Allowed, AcceptedStep, Made, Advances, next, last, sink, inner, waiting, placed}
 use Rattle.rules.proofs.RowsMade.{rowMade, rows-made}
 use Rattle.rules.proofs.Moves.{step-accepts}
 use Rattle.rules.proofs.Moved.{rows-other, entries-after}

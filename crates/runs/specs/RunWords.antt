@@ -1,9 +1,9 @@
 -- The words of a run, told from its calls and answers.
-use Prim.Native.Nat.{ℕ, _*_}
+use Prim.Native.Nat.{ℕ, _-_, _*_}
 use mathlib.Core.Path.{_≡_}
 use mathlib.Core.Bool.{cond, _&&_}
 use mathlib.Core.List.{List, [], _∷_, _++_}
-use lib.ListN.{length, getD}
+use lib.ListN.{length, getD, replicate}
 use lib.Dec.{eqb}
 use Rattle.task.specs.Types.{nil}
 use Rattle.task.specs.Entries.{Entry, entryOf}
@@ -38,13 +38,13 @@ wordsOf (e ∷ es) = e .item ∷ e .worker ∷ wordsOf es
 
 -- PROMISE: "After every list of a run's calls the accepted word is the number of its accepted steps, the entries word that of its accepted Completes.
 -- The record begins with one entry for each of these Completes, in their order: the task that the worker's last accepted Fetch before it
--- answered, and that worker."
+-- answered, and that worker." The words behind them are begin's zeros.
 pub record RunWords (r : Run) : Type 0 where
   -- "Two run words: entries recorded, steps accepted."
   pub run : memoryOf r .run ≡ acceptedCompletes (eventsOf r) ∷ acceptedSteps (eventsOf r) ∷ []
+  pub recorded : memoryOf r .executed
+      ≡ wordsOf (entriesOf (eventsOf r)) ++ replicate (2 * tasks (r .lent) - 2 * acceptedCompletes (eventsOf r)) 0
   -- "Execution record 2N (task, worker)."
-  pub rest : List ℕ
-  pub record-begins : memoryOf r .executed ≡ wordsOf (entriesOf (eventsOf r)) ++ rest
   pub record-size : length (memoryOf r .executed) ≡ 2 * tasks (r .lent)
   -- weights and predecessor tables are begin's
   pub weights : memoryOf r .weights ≡ r .lent .weights

@@ -7,6 +7,7 @@ use mathlib.Core.List.{List}
 use native.Mathlib.Omega.{arith}
 use lib.ListN.{length, getD, set, length-set}
 use lib.Seq.{getD-set-same, getD-set-other}
+use Rattle.task.specs.Entries.{entriesNext}
 use Rattle.task.specs.Phases.{suits, leadsTo}
 use Rattle.task.specs.Rows.{Acceptance}
 use Rattle.task.specs.declared.Limits.{Limits}
@@ -26,13 +27,6 @@ use Rattle.weak_rules.specs.Plans.{withCount}
 use Rattle.weak_rules.specs.Moves.{copies, sink, inner, next, last, Advances, first, later, Made, AcceptedStep}
 use Rattle.weak_rules.proofs.Moves.{accepted-step, accepted-or-same}
 use Rattle.weak_rules.proofs.RowsMade.{movedTo, rowMade, rows-made}
-
--- the entries word after an accepted step: Complete alone adds to it
-abbrev pub entriesNext : Step → ℕ → ℕ
-entriesNext Fetch n = n
-entriesNext Start n = n
-entriesNext Complete n = suc n
-entriesNext Release n = n
 
 -- the run words that an accepted step leaves
 record Words (s : Step) (m m′ : Mem) : Type 0 where

@@ -9,6 +9,7 @@ use borrow.Author.Tests.{le-leb}
 use lib.ListN.{length, getD, take, drop, replicate, take-append-drop, List·getD-append}
 use Rattle.lists.specs.Lists.{tabulate}
 use Rattle.lists.proofs.Blocks.{length-tabulate, tabulate-same, is-tabulate}
+use Rattle.lists.proofs.Prefixes.{zeros-behind}
 use Rattle.task.specs.Types.{nil}
 use Rattle.task.specs.Entries.{Entry, entryOf}
 use Rattle.graph.specs.Graph.{Graph}
@@ -92,20 +93,6 @@ three-words (a ∷ []) h = absurd (omega (arith, h))
 three-words (a ∷ b ∷ []) h = absurd (omega (arith, h))
 three-words (a ∷ b ∷ c ∷ []) h = refl
 three-words (a ∷ b ∷ c ∷ d ∷ l) h = absurd (omega (arith, h))
-
--- a list whose words are all 0, and one whose words from place n on are
-all-zeros : (l : List ℕ) → ((x : ℕ) → _≡_ {A = ℕ} (getD l x 0) 0) → l ≡ replicate (length l) 0
-all-zeros [] h = refl
-all-zeros (a ∷ l) h = ap (λ (b : ℕ). b ∷ l) (h 0) ∙ ap (λ (k : List ℕ). 0 ∷ k) (all-zeros l (λ x. h (suc x)))
-
-repeated : {k n : ℕ} → k ≡ n → replicate {A = ℕ} k 0 ≡ replicate n 0
-repeated e = ap (λ (k : ℕ). replicate k 0) e
-
-zeros-behind : (n : ℕ) (l : List ℕ) → ((x : ℕ) → n ≤ x → _≡_ {A = ℕ} (getD l x 0) 0) → drop n l ≡ replicate (length l - n) 0
-zeros-behind zero l h = all-zeros l (λ x. h x (omega arith)) ∙ repeated {k = length l} {n = length l - 0} (omega arith)
-zeros-behind (suc n) [] h = repeated {k = 0} {n = 0 - suc n} (omega arith)
-zeros-behind (suc n) (a ∷ l) h =
-    zeros-behind n l (λ x z. h (suc x) (omega (arith, z))) ∙ repeated {k = length l - n} {n = suc (length l) - suc n} (omega arith)
 
 -- After every list of a run's calls.
 module _ (r : Run) where

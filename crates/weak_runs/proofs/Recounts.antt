@@ -14,7 +14,7 @@ use Rattle.lists.specs.Lists.{tabulate}
 use Rattle.lists.proofs.Appends.{each-append}
 use Rattle.lists.proofs.Prefixes.{zeros}
 use Rattle.lists.proofs.Told.{cond-either}
-use Rattle.task.specs.Entries.{entryOf}
+use Rattle.task.specs.Entries.{entryOf, entriesNext}
 use Rattle.task.specs.Phases.{suits}
 use Rattle.task.specs.Refusals.{Said, accepted, answerSays}
 use Rattle.task.specs.Rows.{Acceptance}
@@ -44,14 +44,14 @@ use Rattle.weak_rules.proofs.Kept.{SameGraph, same-graph, step-keeps}
 use Rattle.weak_rules.proofs.Moves.{step-accepts}
 use Rattle.weak_rules.proofs.RowsMade.{rowMade, rows-made}
 use Rattle.weak_rules.proofs.Begun.{laid-graph, laid-row, laid-run, laid-roots-few, laid-down}
-use Rattle.weak_rules.proofs.Moved.{entriesNext, rows-other, counts, entries-after, roots-kept, phase-after}
+use Rattle.weak_rules.proofs.Moved.{rows-other, counts, entries-after, roots-kept, phase-after}
 use Rattle.weak_algorithm.specs.State.{State}
 use Rattle.weak_algorithm.specs.Algorithm.{copies, completes, first, later, Lines}
 use Rattle.weak_algorithm.specs.Reading.{recordIn, stateOf}
 use Rattle.weak_algorithm.proofs.Readings.{thread-at}
 use Rattle.weak_algorithm.proofs.Accepted.{step-does}
 use Rattle.split_lists.specs.Reading.{threadIn}
-use Rattle.runs.proofs.Recounts.{still-uncounted, still-counted, said-accepted, entryNext, entry-worker}
+use Rattle.runs.proofs.Recounts.{still-uncounted, still-counted, said-accepted, completes-next, entries-rise, entryNext, entry-worker}
 use Rattle.weak_runs.specs.Calls.{Call, stepCall, isStep, isFetch, fetchBy, isComplete, workerOf, acceptedSteps, acceptedCompletes, weak, Event, Run, memoryOf, eventsOf}
 use Rattle.weak_runs.specs.RunWords.{lastFetched, entryBy, entriesOf}
 use Rattle.weak_runs.proofs.Invariant.{none}
@@ -122,19 +122,6 @@ still-recounts p m past c said q h =
       workers = rw (still-entries past c said q) (h .workers);
       hand = λ j n. h .hand j n ∙ sym (still-fetched j past c said q);
     }
-
--- Complete alone adds an entry, to the word and to the record
-completes-next : (s : Step) (n : ℕ) → cond (isCompletion s && true) (suc n) n ≡ entriesNext s n
-completes-next Fetch n = refl
-completes-next Start n = refl
-completes-next Complete n = refl
-completes-next Release n = refl
-
-entries-rise : (s : Step) (n : ℕ) → n ≤ entriesNext s n
-entries-rise Fetch n = omega arith
-entries-rise Start n = omega arith
-entries-rise Complete n = omega arith
-entries-rise Release n = omega arith
 
 module _ (p k i : ℕ) (m : Mem) (o : WeakOutcome) (us : List Update) where
   -- the copy that a worker has in hand after a step

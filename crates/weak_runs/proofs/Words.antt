@@ -13,6 +13,7 @@ use lib.Dec.{eqb}
 use Rattle.lists.specs.Circles.{after}
 use Rattle.lists.proofs.Told.{Told, told-true, told-false, same-told}
 use Rattle.lists.proofs.Places.{place-parts}
+use Rattle.task.specs.Entries.{entriesNext}
 use Rattle.task.specs.Types.{nil}
 use Rattle.task.specs.Refusals.{accepted, answerSays}
 use Rattle.task.specs.declared.Ends.{Ends}
@@ -39,7 +40,7 @@ use Rattle.weak_rules.specs.Begun.{LaidDown, rootsOf}
 use Rattle.weak_rules.specs.Moves.{Allowed, AcceptedStep, Made, Advances, next, last, copies, sink, inner, first, later}
 use Rattle.weak_rules.proofs.RowsMade.{rowMade, rows-made}
 use Rattle.weak_rules.proofs.Moves.{step-accepts}
-use Rattle.weak_rules.proofs.Moved.{entriesNext, rows-other, entries-after, roots-kept}
+use Rattle.weak_rules.proofs.Moved.{rows-other, entries-after, roots-kept}
 use Rattle.weak_rules.proofs.Kept.{same-graph, step-keeps}
 use Rattle.weak_rules.proofs.Begin.{begin-accepted}
 use Rattle.weak_rules.proofs.Begun.{laid-graph, laid-row, laid-run, laid-down}
