@@ -3,6 +3,7 @@
 use crate::exports::Reply;
 use crate::memory::Step;
 use crate::model::Refusal;
+use crate::plain_engine::LentLists;
 use crate::plain_weak::{self, Lent};
 use crate::weak::{Outcome, COPY_WORDS, ROW_WORDS};
 use crate::weak_exports::{call_weak, StepReply};
@@ -69,14 +70,13 @@ macro_rules! export {
                 k: usize,
                 $($number: $of)?
             ) -> $reply {
-                let mut lent = Lent {
+                let lists = LentLists {
                     weights: from_raw_parts(weights, weights_len),
                     pred_starts: from_raw_parts(pred_starts, pred_starts_len),
                     preds: from_raw_parts(preds, preds_len),
                     succ_starts: from_raw_parts_mut(succ_starts, succ_starts_len),
                     succs: from_raw_parts_mut(succs, succs_len),
                     degrees: from_raw_parts_mut(degrees, degrees_len),
-                    fixed: from_raw_parts_mut(fixed, fixed_len),
                     rings: from_raw_parts_mut(rings, rings_len),
                     ends: from_raw_parts_mut(ends, ends_len),
                     counters: from_raw_parts_mut(counters, counters_len),
@@ -85,6 +85,8 @@ macro_rules! export {
                     run: from_raw_parts_mut(run, run_len),
                     rows: from_raw_parts_mut(rows, rows_len),
                 };
+                let fixed = from_raw_parts_mut(fixed, fixed_len);
+                let mut lent = Lent { lists, fixed };
                 plain_weak::$call(&mut lent, p, k $(, $number)?).into()
             }
         )*

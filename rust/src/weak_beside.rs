@@ -5,6 +5,7 @@ use crate::beside::{add_up, compare_guarded, Between, Counts, Guards};
 use crate::engine::Engine;
 use crate::memory::Step;
 use crate::model::{Answer, Refusal};
+use crate::plain_engine::LentLists;
 use crate::plain_weak::Lent;
 use crate::runs::{Call, Case, Reply};
 use crate::weak::{Memory, Outcome, COPY_WORDS, ROW_WORDS};
@@ -79,14 +80,13 @@ impl Guards<Memory> for Guarded {
 
 impl Guarded {
     fn lent(&mut self) -> Lent<'_> {
-        Lent {
+        let lists = LentLists {
             weights: self.weights.list(),
             pred_starts: self.pred_starts.list(),
             preds: self.preds.list(),
             succ_starts: self.succ_starts.list(),
             succs: self.succs.list(),
             degrees: self.degrees.list(),
-            fixed: self.fixed.list(),
             rings: self.rings.list(),
             ends: self.ends.list(),
             counters: self.counters.list(),
@@ -94,7 +94,9 @@ impl Guarded {
             executed: self.executed.list(),
             run: self.run.list(),
             rows: self.rows.list(),
-        }
+        };
+        let fixed = self.fixed.list();
+        Lent { lists, fixed }
     }
 }
 

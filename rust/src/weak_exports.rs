@@ -50,7 +50,7 @@ impl From<StepReply> for Result<Outcome, Refusal> {
 /// Calls an export on the lent lists.
 macro_rules! call_weak {
     ($export:ident, $lent:expr, $($number:expr),*) => {{
-        let lent: &mut Lent = $lent;
+        let Lent { lists: lent, fixed } = $lent;
         // each pointer and length is that of a list that lives through the call; those that are written are lent alone
         unsafe {
             $export(
@@ -66,8 +66,8 @@ macro_rules! call_weak {
                 lent.succs.len(),
                 lent.degrees.as_mut_ptr(),
                 lent.degrees.len(),
-                lent.fixed.as_mut_ptr(),
-                lent.fixed.len(),
+                fixed.as_mut_ptr(),
+                fixed.len(),
                 lent.rings.as_mut_ptr(),
                 lent.rings.len(),
                 lent.ends.as_mut_ptr(),
