@@ -2,7 +2,8 @@
 //! are turned into each other. What is found wrong is answered as a sentence.
 
 use crate::engine::Engine;
-use crate::memory::{Memory, Outcome, Step};
+use crate::memory::{Lists, Memory, Outcome, Step};
+use crate::model::Refusal;
 use crate::runs::{Call, Case, Reply};
 
 /// What is wrong, if anything.
@@ -14,6 +15,19 @@ pub(crate) fn ensure(holds: bool, wrong: impl FnOnce() -> String) -> Found<()> {
     } else {
         Err(wrong())
     }
+}
+
+/// "A counter always lies within ±67,107,840 in an honest run."
+const COUNTERS: std::ops::RangeInclusive<i32> = -67_107_840..=67_107_840;
+
+/// Each task's predecessors, rising, of tables that a begin has accepted.
+pub(crate) fn sorted_preds(starts: &[u32], preds: &[u32]) -> Vec<Vec<u32>> {
+    let sorted = |pair: &[u32]| {
+        let mut list = preds[pair[0] as usize..pair[1] as usize].to_vec();
+        list.sort_unstable();
+        list
+    };
+    starts.windows(2).map(sorted).collect()
 }
 
 /// The edges of a graph as each task's predecessors.
@@ -30,13 +44,7 @@ impl Edges {
     /// The edges of tables that a begin has accepted; "Two runs are of one graph if N and the edges agree", so the order of
     /// a task's predecessors doesn't count.
     pub fn of(memory: &Memory) -> Edges {
-        let ranges = memory.pred_starts.windows(2);
-        let sorted = |pair: &[u32]| {
-            let mut list = memory.preds[pair[0] as usize..pair[1] as usize].to_vec();
-            list.sort_unstable();
-            list
-        };
-        Edges(ranges.map(sorted).collect())
+        Edges(sorted_preds(&memory.pred_starts, &memory.preds))
     }
 
     /// "It allows a list that holds each of the N tasks once, after all its predecessors."
@@ -130,9 +138,59 @@ fn ordered_differently(first: &[u32], second: &[u32]) -> usize {
 }
 
 /// A run from an accepted begin on, as its calls and answers tell it.
+pub(crate) trait Watched<M: Lists>: Sized {
+    /// What a finished run is answered as.
+    type Finished;
+
+    fn begun(memory: &M, p: usize, k: usize) -> Self;
+
+    fn is_finished(&self) -> bool;
+
+    /// An accepted step with its answer, and the memory after it.
+    fn saw(&mut self, worker: u32, step: Step, outcome: M::Outcome, memory: &M) -> Found<()>;
+
+    /// A refused call, which has written nothing.
+    fn saw_refusal(&self, _: Call, _: Refusal) -> Found<()> {
+        Ok(())
+    }
+
+    /// What the lent words have to say after each call.
+    fn check_words(&self, memory: &M) -> Found<()>;
+
+    fn finished(&self) -> Found<Self::Finished>;
+}
+
+/// "A worker's counters then add up to" this weight, and each of them lies within its bounds.
+pub(crate) fn check_counters(counters: &[i32], p: usize, weight_of: impl Fn(usize) -> i64) -> Found<()> {
+    for worker in 0..p {
+        let own = &counters[worker * p..(worker + 1) * p];
+        let sum: i64 = own.iter().map(|&counter| i64::from(counter)).sum();
+        let weight = weight_of(worker);
+        ensure(sum == weight, || {
+            format!("counters of worker {worker} add up to {sum}, not {weight}")
+        })?;
+    }
+    ensure(counters.iter().all(|counter| COUNTERS.contains(counter)), || {
+        String::from("a counter beyond ±67,107,840")
+    })
+}
+
+/// "in an unfinished one some worker has a step that would be accepted next": all are tried. In a finished one none is; with N 0
+/// "begun is finished".
+fn check_next<M: Lists>(engine: &Engine<M>, memory: &M, p: usize, k: usize, is_finished: bool) -> Found<()> {
+    let mut scratch = memory.clone();
+    let mut accepted = |worker: usize, step| (engine.step)(&mut scratch, p, k, worker as u32, step).is_ok();
+    let some = (0..p).any(|worker| Step::ALL.iter().any(|&step| accepted(worker, step)));
+    match (some, is_finished) {
+        (true, true) => Err(String::from("a step would be accepted in a finished run")),
+        (false, false) => Err(String::from("no step would be accepted in an unfinished run")),
+        _ => Ok(()),
+    }
+}
+
+/// A plain job's run.
 struct Watch {
     p: usize,
-    k: usize,
     weights: Vec<u32>,
     edges: Edges,
     e: usize,
@@ -146,15 +204,28 @@ struct Watch {
 }
 
 impl Watch {
+    fn n(&self) -> usize {
+        self.weights.len()
+    }
+
+    /// "the weight waiting for it plus that in its hand"
+    fn weight_of(&self, worker: usize) -> i64 {
+        let tasks = self.waiting[worker].iter().chain(&self.fetched[worker]);
+        tasks.map(|&task| i64::from(self.weights[task as usize])).sum()
+    }
+}
+
+impl Watched<Memory> for Watch {
+    type Finished = Finished;
+
     /// "root number m, from 0, goes to the ring of owner and filler m mod P".
-    fn begun(memory: &Memory, p: usize, k: usize) -> Watch {
+    fn begun(memory: &Memory, p: usize, _: usize) -> Watch {
         let edges = Edges::of(memory);
         let mut waiting = vec![Vec::new(); p];
         let roots = (0..edges.0.len()).filter(|&task| edges.0[task].is_empty());
         roots.enumerate().for_each(|(m, task)| waiting[m % p].push(task as u32));
         Watch {
             p,
-            k,
             weights: memory.weights.clone(),
             e: memory.e(),
             edges,
@@ -165,20 +236,12 @@ impl Watch {
         }
     }
 
-    fn n(&self) -> usize {
-        self.weights.len()
-    }
-
     /// "The run is finished once N of its Completes are accepted".
     fn is_finished(&self) -> bool {
         self.record.len() == self.n()
     }
 
-    /// An accepted step with its answer.
-    fn saw(&mut self, worker: u32, step: Step, outcome: Outcome) -> Found<()> {
-        ensure(!self.is_finished(), || {
-            format!("{step:?} is accepted in a finished run")
-        })?;
+    fn saw(&mut self, worker: u32, step: Step, outcome: Outcome, _: &Memory) -> Found<()> {
         let i = worker as usize;
         self.accepted += 1;
         match (step, outcome) {
@@ -206,12 +269,9 @@ impl Watch {
         Ok(())
     }
 
-    /// What the lent words have to say after each call.
-    ///
     /// "After every list of a run's calls the accepted word is the number of its accepted steps, the entries word that of
     /// its accepted Completes. The record begins with one entry for each of these Completes, in their order". "A worker's
-    /// counters then add up to the weight waiting for it plus that in its hand". "A counter always lies within ±67,107,840 in
-    /// an honest run."
+    /// counters then add up to the weight waiting for it plus that in its hand".
     fn check_words(&self, memory: &Memory) -> Found<()> {
         let (entries, accepted) = (self.record.len(), self.accepted);
         let run_right = memory.run == [entries as u32, accepted as u32];
@@ -221,33 +281,7 @@ impl Watch {
         ensure(memory.executed.starts_with(&self.record.concat()), || {
             format!("the record isn't {:?}", self.record)
         })?;
-        for (worker, (waiting, hand)) in self.waiting.iter().zip(&self.fetched).enumerate() {
-            let counters = &memory.counters[worker * self.p..(worker + 1) * self.p];
-            let sum: i64 = counters.iter().map(|&counter| i64::from(counter)).sum();
-            let tasks = waiting.iter().chain(hand);
-            let weight: i64 = tasks.map(|&task| i64::from(self.weights[task as usize])).sum();
-            ensure(sum == weight, || {
-                format!("counters of worker {worker} add up to {sum}, not {weight}")
-            })?;
-        }
-        let within = |&counter: &i32| (-67_107_840..=67_107_840).contains(&counter);
-        ensure(memory.counters.iter().all(within), || {
-            String::from("a counter beyond ±67,107,840")
-        })
-    }
-
-    /// "in an unfinished one some worker has a step that would be accepted next": all are tried. In a finished one none is;
-    /// with N 0 "begun is finished".
-    fn check_next(&self, engine: &Engine, memory: &Memory) -> Found<()> {
-        let mut scratch = memory.clone();
-        let mut accepted =
-            |worker: usize, step| (engine.step)(&mut scratch, self.p, self.k, worker as u32, step).is_ok();
-        let some = (0..self.p).any(|worker| Step::ALL.iter().any(|&step| accepted(worker, step)));
-        match (some, self.is_finished()) {
-            (true, true) => Err(String::from("a step would be accepted in a finished run")),
-            (false, false) => Err(String::from("no step would be accepted in an unfinished run")),
-            _ => Ok(()),
-        }
+        check_counters(&memory.counters, self.p, |worker| self.weight_of(worker))
     }
 
     /// "with N tasks and E edges a finished run has exactly 3N + E accepted steps and a record that holds every task once,
@@ -279,32 +313,45 @@ pub fn play(engine: &Engine, case: &Case) -> Found<Vec<Finished>> {
 
 /// The same where the call at each place is made by the engine named for it. An engine whose call is accepted has a next step too.
 pub fn play_by<'a>(engine_of: impl Fn(usize) -> &'a Engine, case: &Case) -> Found<Vec<Finished>> {
+    play_watched::<Memory, Watch>(engine_of, case)
+}
+
+/// The same for either kind of job.
+pub(crate) fn play_watched<'a, M: Lists, W: Watched<M>>(
+    engine_of: impl Fn(usize) -> &'a Engine<M>,
+    case: &Case<M>,
+) -> Found<Vec<W::Finished>> {
     ensure(case.is_honest(), || {
         String::from("something but the engine writes its memory")
     })?;
     let mut memory = case.memory.clone();
     let mut before = memory.clone();
-    let mut watch: Option<Watch> = None;
+    // with the P and K of its begin
+    let mut watch: Option<(W, usize, usize)> = None;
     let mut finished = Vec::new();
     for (place, &call) in case.calls.iter().enumerate() {
         let engine = engine_of(place);
         let reply = call.make(engine, &mut memory);
-        if !reply.is_accepted() {
+        if let Some(refusal) = reply.refusal() {
             ensure(memory == before, || format!("{call:?} is refused and writes"))?;
+            if let Some((run, ..)) = &watch {
+                run.saw_refusal(call, refusal)?;
+            }
             continue;
         }
         before.clone_from(&memory);
         match (call, reply, &mut watch) {
-            (Call::Begin { p, k }, _, _) => watch = Some(Watch::begun(&memory, p, k)),
-            (Call::Step { worker, step, .. }, Reply::Stepped(Ok(outcome)), Some(run)) => {
-                run.saw(worker, step, outcome)?
+            (Call::Begin { p, k }, _, _) => watch = Some((W::begun(&memory, p, k), p, k)),
+            (Call::Step { worker, step, .. }, Reply::Stepped(Ok(outcome)), Some((run, ..))) => {
+                ensure(!run.is_finished(), || format!("{step:?} is accepted in a finished run"))?;
+                run.saw(worker, step, outcome, &memory)?
             }
             // "A run starts at an accepted begin": nothing is said of what is before it
             _ => {}
         }
-        let Some(run) = &watch else { continue };
+        let Some((run, p, k)) = &watch else { continue };
         run.check_words(&memory)?;
-        run.check_next(engine, &memory)?;
+        check_next(engine, &memory, *p, *k, run.is_finished())?;
         if run.is_finished() {
             finished.push(run.finished()?);
         }

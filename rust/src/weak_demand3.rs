@@ -2,16 +2,13 @@
 //! Algorithm 1 of source document 000 has them, and any two finished records of one graph are turned into each other. What is found
 //! wrong is answered as a sentence.
 
-use crate::demand3::{ensure, Edges, Found};
+use crate::demand3::{check_counters, ensure, play_watched, sorted_preds, Edges, Found, Watched};
 use crate::engine::Engine;
 use crate::memory::{Step, NIL};
 use crate::model::Refusal;
-use crate::runs::{Call, Case, Reply};
+use crate::runs::{Call, Case};
 use crate::weak::{Copied, Memory, Outcome, UNFIXED};
 use std::collections::VecDeque;
-
-/// "A counter always lies within ±67,107,840 in an honest run."
-const COUNTERS: std::ops::RangeInclusive<i32> = -67_107_840..=67_107_840;
 
 /// The copies of a graph and what comes before what.
 ///
@@ -32,13 +29,7 @@ pub struct Copies {
 impl Copies {
     /// The copies of tables that a begin has accepted; the order of a task's predecessors doesn't count.
     pub fn of(memory: &Memory) -> Copies {
-        let ranges = memory.pred_starts.windows(2);
-        let sorted = |pair: &[u32]| {
-            let mut list = memory.preds[pair[0] as usize..pair[1] as usize].to_vec();
-            list.sort_unstable();
-            list
-        };
-        Copies::of_lists(ranges.map(sorted).collect())
+        Copies::of_lists(sorted_preds(&memory.pred_starts, &memory.preds))
     }
 
     fn of_lists(preds: Vec<Vec<u32>>) -> Copies {
@@ -133,7 +124,7 @@ enum Hand {
     Running(Copied),
 }
 
-/// A run from an accepted begin on, as its calls and answers tell it.
+/// A weak job's run.
 struct Watch {
     p: usize,
     k: usize,
@@ -157,39 +148,6 @@ struct Watch {
 }
 
 impl Watch {
-    /// "root number m, from 0, goes to the ring of owner and filler m mod P"; its copy is the first one, which "fixes the task's
-    /// worker".
-    fn begun(memory: &Memory, p: usize, k: usize) -> Watch {
-        let copies = Copies::of(memory);
-        let n = memory.weights.len();
-        let mut watch = Watch {
-            p,
-            k,
-            weights: memory.weights.clone(),
-            succs: copies.successors(),
-            accepted: 0,
-            fetches: vec![0; p],
-            rings: vec![VecDeque::new(); p * p],
-            hands: vec![Hand::Empty; p],
-            buffers: vec![VecDeque::new(); p],
-            cursors: vec![0; p],
-            fixed: vec![None; n],
-            done: vec![0; n],
-            record: Vec::new(),
-            copies,
-        };
-        let roots: Vec<usize> = watch.copies.roots().collect();
-        for (m, &root) in roots.iter().enumerate() {
-            let copy = Copied {
-                task: root as u32,
-                pred: NIL,
-            };
-            watch.fixed[root] = Some(m % p);
-            watch.join(m % p, m % p, copy);
-        }
-        watch
-    }
-
     /// The copy joins the ring, its place in it saying when it has to be taken.
     ///
     /// "A task with p tasks ahead of it in its ring is therefore taken within (p+1)·P accepted fetches of its owner."
@@ -203,11 +161,6 @@ impl Watch {
         self.copies.roots().count()
     }
 
-    /// "12, the finish […] follow these counts": "E + R copies".
-    fn is_finished(&self) -> bool {
-        self.record.len() == self.copies.count()
-    }
-
     fn is_complete(&self, task: usize) -> bool {
         self.done[task] == self.copies.of_task(task)
     }
@@ -216,28 +169,6 @@ impl Watch {
     fn weight_of(&self, worker: usize) -> i64 {
         let tasks = (0..self.weights.len()).filter(|&task| self.fixed[task] == Some(worker) && !self.is_complete(task));
         tasks.map(|task| i64::from(self.weights[task])).sum()
-    }
-
-    /// An accepted step with its answer.
-    fn saw(&mut self, worker: u32, step: Step, outcome: Outcome) -> Found<()> {
-        ensure(!self.is_finished(), || {
-            format!("{step:?} is accepted in a finished run")
-        })?;
-        let i = worker as usize;
-        self.accepted += 1;
-        match (step, outcome, self.hands[i]) {
-            (Step::Fetch, Outcome::Fetched { copy }, Hand::Empty) => self.saw_fetch(i, copy),
-            (Step::Start, Outcome::Moved, Hand::Fetched(copy)) => {
-                self.hands[i] = Hand::Running(copy);
-                Ok(())
-            }
-            (Step::Complete, Outcome::Moved, Hand::Running(copy)) => {
-                self.saw_complete(i, copy);
-                Ok(())
-            }
-            (Step::Release, Outcome::Placed { copy, owner }, Hand::Empty) => self.saw_release(i, copy, owner as usize),
-            _ => Err(format!("{step:?} of worker {i} answers {outcome:?}")),
-        }
     }
 
     /// "fetch a task-copy from the head of" one of the worker's lists, none that waits for it being late.
@@ -309,6 +240,77 @@ impl Watch {
         Ok(())
     }
 
+    /// "The record begins with one entry for each of these Completes, in their order": here the copy that the worker's last accepted
+    /// Fetch before it answered, and that worker.
+    fn check_record(&self, memory: &Memory) -> Found<()> {
+        let words = self
+            .record
+            .iter()
+            .flat_map(|&(copy, worker)| [copy.task, copy.pred, worker]);
+        let recorded = memory.executed.iter().copied().take(3 * self.record.len());
+        ensure(words.eq(recorded), || format!("the record is {:?}", memory.executed))
+    }
+}
+
+impl Watched<Memory> for Watch {
+    type Finished = Finished;
+
+    /// "root number m, from 0, goes to the ring of owner and filler m mod P"; its copy is the first one, which "fixes the task's
+    /// worker".
+    fn begun(memory: &Memory, p: usize, k: usize) -> Watch {
+        let copies = Copies::of(memory);
+        let n = memory.weights.len();
+        let mut watch = Watch {
+            p,
+            k,
+            weights: memory.weights.clone(),
+            succs: copies.successors(),
+            accepted: 0,
+            fetches: vec![0; p],
+            rings: vec![VecDeque::new(); p * p],
+            hands: vec![Hand::Empty; p],
+            buffers: vec![VecDeque::new(); p],
+            cursors: vec![0; p],
+            fixed: vec![None; n],
+            done: vec![0; n],
+            record: Vec::new(),
+            copies,
+        };
+        let roots: Vec<usize> = watch.copies.roots().collect();
+        for (m, &root) in roots.iter().enumerate() {
+            let copy = Copied {
+                task: root as u32,
+                pred: NIL,
+            };
+            watch.fixed[root] = Some(m % p);
+            watch.join(m % p, m % p, copy);
+        }
+        watch
+    }
+
+    /// "12, the finish […] follow these counts": "E + R copies".
+    fn is_finished(&self) -> bool {
+        self.record.len() == self.copies.count()
+    }
+
+    fn saw(&mut self, worker: u32, step: Step, outcome: Outcome, memory: &Memory) -> Found<()> {
+        let i = worker as usize;
+        self.accepted += 1;
+        match (step, outcome, self.hands[i]) {
+            (Step::Fetch, Outcome::Fetched { copy }, Hand::Empty) => self.saw_fetch(i, copy),
+            (Step::Start, Outcome::Moved, Hand::Fetched(copy)) => {
+                self.hands[i] = Hand::Running(copy);
+                Ok(())
+            }
+            (Step::Complete, Outcome::Moved, Hand::Running(copy)) => {
+                self.saw_complete(i, copy);
+                self.check_record(memory)
+            }
+            (Step::Release, Outcome::Placed { copy, owner }, Hand::Empty) => self.saw_release(i, copy, owner as usize),
+            _ => Err(format!("{step:?} of worker {i} answers {outcome:?}")),
+        }
+    }
+
     /// A refused call: "A call with another P or K than begin's meets 2 or 1", and a step refuses under the conditions of the table
     /// alone, of which no word of an honest run is damaged and no record full.
     fn saw_refusal(&self, call: Call, refusal: Refusal) -> Found<()> {
@@ -346,8 +348,6 @@ impl Watch {
         ensure(due == Some((number, detail)), wrong)
     }
 
-    /// What the lent words have to say after each call.
-    ///
     /// "After every list of a run's calls the accepted word is the number of its accepted steps, the entries word that of its
     /// accepted Completes." "A third run word […] keeps R". "A worker's counters add up to the weight of the tasks fixed to it and
     /// not complete."
@@ -357,17 +357,7 @@ impl Watch {
         ensure(run_right, || {
             format!("run words {:?} after {entries} and {accepted}", memory.run)
         })?;
-        for worker in 0..self.p {
-            let counters = &memory.counters[worker * self.p..(worker + 1) * self.p];
-            let sum: i64 = counters.iter().map(|&counter| i64::from(counter)).sum();
-            let weight = self.weight_of(worker);
-            ensure(sum == weight, || {
-                format!("counters of worker {worker} add up to {sum}, not {weight}")
-            })?;
-        }
-        ensure(memory.counters.iter().all(|counter| COUNTERS.contains(counter)), || {
-            String::from("a counter beyond ±67,107,840")
-        })?;
+        check_counters(&memory.counters, self.p, |worker| self.weight_of(worker))?;
         let fixed = self
             .fixed
             .iter()
@@ -379,30 +369,6 @@ impl Watch {
         ensure(left.eq(memory.degrees.iter().copied()), || {
             format!("the degrees are {:?}", memory.degrees)
         })
-    }
-
-    /// "The record begins with one entry for each of these Completes, in their order": here the copy that the worker's last accepted
-    /// Fetch before it answered, and that worker.
-    fn check_record(&self, memory: &Memory) -> Found<()> {
-        let words = self
-            .record
-            .iter()
-            .flat_map(|&(copy, worker)| [copy.task, copy.pred, worker]);
-        let recorded = memory.executed.iter().copied().take(3 * self.record.len());
-        ensure(words.eq(recorded), || format!("the record is {:?}", memory.executed))
-    }
-
-    /// "in an unfinished one some worker has a step that would be accepted next": all are tried. In a finished one none is.
-    fn check_next(&self, engine: &Engine<Memory>, memory: &Memory) -> Found<()> {
-        let mut scratch = memory.clone();
-        let mut accepted =
-            |worker: usize, step| (engine.step)(&mut scratch, self.p, self.k, worker as u32, step).is_ok();
-        let some = (0..self.p).any(|worker| Step::ALL.iter().any(|&step| accepted(worker, step)));
-        match (some, self.is_finished()) {
-            (true, true) => Err(String::from("a step would be accepted in a finished run")),
-            (false, false) => Err(String::from("no step would be accepted in an unfinished run")),
-            _ => Ok(()),
-        }
     }
 
     /// "With R roots a run has 4E + 3R accepted steps", and its record holds each copy once, "behind all copies of its
@@ -429,40 +395,5 @@ pub struct Finished {
 /// Plays an honest case and checks all that is promised of one run, after each call; an accepted begin starts another run. The
 /// finished runs are answered.
 pub fn play(engine: &Engine<Memory>, case: &Case<Memory>) -> Found<Vec<Finished>> {
-    ensure(case.is_honest(), || {
-        String::from("something but the engine writes its memory")
-    })?;
-    let mut memory = case.memory.clone();
-    let mut before = memory.clone();
-    let mut watch: Option<Watch> = None;
-    let mut finished = Vec::new();
-    for &call in &case.calls {
-        let reply = call.make(engine, &mut memory);
-        if let Some(refusal) = reply.refusal() {
-            ensure(memory == before, || format!("{call:?} is refused and writes"))?;
-            if let Some(run) = &watch {
-                run.saw_refusal(call, refusal)?;
-            }
-            continue;
-        }
-        before.clone_from(&memory);
-        match (call, reply, &mut watch) {
-            (Call::Begin { p, k }, _, _) => watch = Some(Watch::begun(&memory, p, k)),
-            (Call::Step { worker, step, .. }, Reply::Stepped(Ok(outcome)), Some(run)) => {
-                run.saw(worker, step, outcome)?;
-                if step == Step::Complete {
-                    run.check_record(&memory)?;
-                }
-            }
-            // "A run starts at an accepted begin": nothing is said of what is before it
-            _ => {}
-        }
-        let Some(run) = &watch else { continue };
-        run.check_words(&memory)?;
-        run.check_next(engine, &memory)?;
-        if run.is_finished() {
-            finished.push(run.finished()?);
-        }
-    }
-    Ok(finished)
+    play_watched::<Memory, Watch>(|_| engine, case)
 }

@@ -1,16 +1,18 @@
 //! Demand 3 by brute force: many runs of many graphs, and engines with one fault each, which the check has to find.
 
+#[path = "common/demand3.rs"]
+mod common;
+
+use common::{all_accepted, assert_joined, assert_says, far_apart, with_step, FAR_APART};
 use engine_model::demand3::{play, Edges, Finished};
 use engine_model::engine::{self, Engine, MODEL};
 use engine_model::engines;
 use engine_model::memory::{Memory, Outcome, Step, ACCEPTED, ENTRIES, HELD, PHASE};
-use engine_model::model::{Refusal, Table};
-use engine_model::runs::{runs_of_one_graph, Call, Case};
+use engine_model::model::Refusal;
+use engine_model::runs::runs_of_one_graph;
 
 fn edges(lists: &[&[u32]]) -> Edges {
-    let lists: Vec<Vec<u32>> = lists.iter().map(|list| list.to_vec()).collect();
-    let table = Table::of(&lists);
-    Edges::of(&Memory::sized(vec![0; lists.len()], table.starts, table.words, 1, 2, 0))
+    Edges::of(&common::memory(lists, 0, 1, 2))
 }
 
 /// Tasks 1 and 2 after 0, 3 after 1 and 2.
@@ -48,73 +50,41 @@ fn exchanges_are_as_many_as_the_pairs() {
     assert!(diamond().join(&[0, 3, 1, 2], &[0, 1, 2, 3]).is_err());
 }
 
-fn finished(case: &Case) -> Vec<Finished> {
-    play(&MODEL, case).unwrap_or_else(|wrong| panic!("{wrong}"))
+/// The finished runs among so many of the graph with this seed.
+fn finished(seed: u64, most: usize, count: usize) -> Vec<Finished> {
+    let cases = runs_of_one_graph(seed, most, count);
+    let played = |case| play(&MODEL, case).unwrap_or_else(|wrong| panic!("{wrong}"));
+    cases.iter().flat_map(played).collect()
 }
 
 /// "for every two such lists whose finished runs are of one graph, whatever worker counts and queue lengths were accepted"
 #[test]
 fn any_two_records_of_one_graph_are_joined() {
-    let (mut joined, mut apart) = (0, 0);
-    for seed in 0..500 {
-        let most = [2, 6, 12, 24, 40][seed as usize % 5];
-        let cases = runs_of_one_graph(seed, most, 4);
-        let finished: Vec<Finished> = cases.iter().flat_map(finished).collect();
-        for (place, one) in finished.iter().enumerate() {
-            for other in &finished[..place] {
-                assert_eq!(one.edges, other.edges, "the runs are of one graph");
-                let exchanges = one.edges.join(&one.order, &other.order);
-                joined += 1;
-                apart += usize::from(exchanges.unwrap_or_else(|wrong| panic!("{wrong}")) > 0);
-            }
-        }
-    }
-    assert!(joined >= 1_000, "{joined} pairs");
-    assert!(apart >= 500, "{apart} pairs of different records");
+    let exchanges = |one: &Finished, other: &Finished| {
+        assert_eq!(one.edges, other.edges, "the runs are of one graph");
+        let exchanges = one.edges.join(&one.order, &other.order);
+        exchanges.unwrap_or_else(|wrong| panic!("{wrong}"))
+    };
+    assert_joined(500, [2, 6, 12, 24, 40], |seed, most| finished(seed, most, 4), exchanges);
 }
 
 /// A few hundred tasks, the records far apart.
 #[test]
 fn two_records_of_a_larger_graph_are_joined() {
     for seed in 600..606 {
-        let cases = runs_of_one_graph(seed, 90, 3);
-        let finished: Vec<Finished> = cases.iter().flat_map(finished).collect();
-        for pair in finished.windows(2) {
+        for pair in finished(seed, 90, 3).windows(2) {
             assert!(pair[0].edges.join(&pair[0].order, &pair[1].order).is_ok());
         }
     }
 }
 
-/// "A counter always lies within ±67,107,840 in an honest run", and comes near both ends: worker 0 keeps a task waiting, so that
-/// all 1,021 successors of task 0, which it releases one after the other, go to worker 1. Their weights join counter (1, 0) and leave
-/// counter (1, 1), while the sum is what worker 1 has waiting and in its hand.
 #[test]
 fn counters_far_apart() {
-    const SUCCESSORS: usize = 1_021;
-    let (p, k, heavy) = (2, 4, 65_535);
-    let lists = [vec![vec![]; 3], vec![vec![0]; SUCCESSORS]].concat();
-    let table = Table::of(&lists);
-    let memory = Memory::sized(vec![heavy; lists.len()], table.starts, table.words, p, k, 0);
-    let call = |worker, step| Call::Step { p, k, worker, step };
-    let execute = |worker| [Step::Fetch, Step::Start, Step::Complete].map(|step| call(worker, step));
-    let handed_on = [&[call(0, Step::Release)][..], &execute(1)].concat();
-    let calls = [
-        vec![Call::Begin { p, k }],
-        execute(1).to_vec(),
-        execute(0).to_vec(),
-        handed_on.repeat(SUCCESSORS),
-        execute(0).to_vec(),
-    ]
-    .concat();
-    let case = Case { memory, p, k, calls };
+    let case = far_apart();
     for engine in engines::all() {
         let finished = play(&engine, &case).unwrap_or_else(|wrong| panic!("{}: {wrong}", engine.name));
         assert_eq!(finished.len(), 1);
-        let mut memory = case.memory.clone();
-        let accepted = |call: &Call| call.make(&engine, &mut memory).is_accepted();
-        assert!(case.calls.iter().all(accepted));
-        let far = SUCCESSORS as i32 * heavy as i32;
-        assert_eq!(memory.counters, [0, 0, far, -far]);
+        assert_eq!(all_accepted(&engine, &case).counters, FAR_APART);
     }
 }
 
@@ -126,17 +96,7 @@ fn found(faulty: Engine) -> Option<String> {
 
 /// The check finds this fault, and says so in these words.
 fn assert_found(faulty: Engine, words: &str) {
-    let wrong = found(faulty).expect("the fault is found");
-    assert!(wrong.contains(words), "{wrong}");
-}
-
-/// An engine with the model's begin.
-fn with_step(step: fn(&mut Memory, usize, usize, u32, Step) -> Result<Outcome, Refusal>) -> Engine {
-    Engine {
-        name: "faulty",
-        step,
-        ..MODEL
-    }
+    assert_says(found(faulty), words);
 }
 
 #[test]

@@ -1,20 +1,18 @@
 //! The promises of weak jobs by brute force: the copies of a graph and their orders, many runs of many graphs, and engines with one
 //! fault each, which the check has to find. The wrong programs of No. 6 are in `weak_paper`.
 
+#[path = "common/demand3.rs"]
+mod common;
+
+use common::{all_accepted, assert_joined, assert_says, far_apart, memory, with_step, FAR_APART};
 use engine_model::engine::Engine;
 use engine_model::engines;
 use engine_model::memory::{Lists, Step, ACCEPTED, ENTRIES, NIL};
-use engine_model::model::{Refusal, Table};
-use engine_model::runs::{next_weak_case, weak_runs_of_one_graph, Call, Case, Reply};
+use engine_model::model::Refusal;
+use engine_model::runs::{next_weak_case, weak_runs_of_one_graph, Case, Reply};
 use engine_model::weak::{self, Copied, Memory, Outcome, MODEL, PHASE, UNFIXED};
 use engine_model::weak_demand3::{play, Copies, Finished};
 use std::collections::{BTreeSet, HashSet};
-
-fn memory(lists: &[&[u32]], weight: u32, p: usize, k: usize) -> Memory {
-    let lists: Vec<Vec<u32>> = lists.iter().map(|list| list.to_vec()).collect();
-    let table = Table::of(&lists);
-    Memory::sized(vec![weight; lists.len()], table.starts, table.words, p, k, 0)
-}
 
 fn copies(lists: &[&[u32]]) -> Copies {
     Copies::of(&memory(lists, 0, 1, 2))
@@ -93,22 +91,18 @@ fn finished(case: &Case<Memory>) -> Vec<Finished> {
 /// "for every two such lists whose finished runs are of one graph, whatever worker counts and queue lengths were accepted"
 #[test]
 fn any_two_records_of_one_graph_are_joined() {
-    let (mut joined, mut apart) = (0, 0);
-    for seed in 0..400 {
-        let most = [2, 5, 8, 12, 16][seed as usize % 5];
-        let cases = weak_runs_of_one_graph(seed, most, 4);
-        let finished: Vec<Finished> = cases.iter().flat_map(finished).collect();
-        for (place, one) in finished.iter().enumerate() {
-            for other in &finished[..place] {
-                assert_eq!(one.copies, other.copies, "the runs are of one graph");
-                let exchanges = one.copies.join(&one.order, &other.order);
-                joined += 1;
-                apart += usize::from(exchanges.unwrap_or_else(|wrong| panic!("{wrong}")) > 0);
-            }
-        }
-    }
-    assert!(joined >= 1_000, "{joined} pairs");
-    assert!(apart >= 500, "{apart} pairs of different records");
+    let finished = |seed, most| {
+        weak_runs_of_one_graph(seed, most, 4)
+            .iter()
+            .flat_map(finished)
+            .collect()
+    };
+    let exchanges = |one: &Finished, other: &Finished| {
+        assert_eq!(one.copies, other.copies, "the runs are of one graph");
+        let exchanges = one.copies.join(&one.order, &other.order);
+        exchanges.unwrap_or_else(|wrong| panic!("{wrong}"))
+    };
+    assert_joined(400, [2, 5, 8, 12, 16], finished, exchanges);
 }
 
 /// Refused calls, other P and K, refused begins and further begins among the steps; runs are finished with N, E, P and K at both
@@ -155,7 +149,7 @@ struct Reached {
 
 /// All that the steps of all workers in any order can lead to from an accepted begin. In each state that isn't finished some step is accepted, in a finished one none.
 fn every_state(lists: &[&[u32]], weights: &[u32], p: usize, k: usize) -> Reached {
-    let mut first = memory(lists, 0, p, k);
+    let mut first: Memory = memory(lists, 0, p, k);
     first.weights.copy_from_slice(weights);
     weak::begin(&mut first, p, k).expect("the graph is sound and has few roots");
     let copies = Copies::of(&first);
@@ -267,34 +261,14 @@ fn cases_come_from_their_seeds() {
     }
 }
 
-/// "A counter always lies within ±67,107,840 in an honest run", and comes near both ends: worker 0 keeps a task waiting, so that
-/// all 1,021 successors of task 0 go to worker 1. Their weights join counter (1, 0) and leave counter (1, 1).
 #[test]
 fn counters_far_apart() {
-    const SUCCESSORS: usize = 1_021;
-    let (p, k, heavy) = (2, 4, 65_535);
-    let lists = [vec![&[][..]; 3], vec![&[0][..]; SUCCESSORS]].concat();
-    let memory = memory(&lists, heavy, p, k);
-    let call = |worker, step| Call::Step { p, k, worker, step };
-    let execute = |worker| [Step::Fetch, Step::Start, Step::Complete].map(|step| call(worker, step));
-    let handed_on = [&[call(0, Step::Release)][..], &execute(1)].concat();
-    let calls = [
-        vec![Call::Begin { p, k }],
-        execute(1).to_vec(),
-        execute(0).to_vec(),
-        handed_on.repeat(SUCCESSORS),
-        execute(0).to_vec(),
-    ]
-    .concat();
-    let case = Case { memory, p, k, calls };
+    let case = far_apart();
     for engine in engines::weak() {
         let finished = play(&engine, &case).unwrap_or_else(|wrong| panic!("{}: {wrong}", engine.name));
         assert_eq!(finished.len(), 1);
-        let mut memory = case.memory.clone();
-        let accepted = |call: &Call| call.make(&engine, &mut memory).is_accepted();
-        assert!(case.calls.iter().all(accepted));
-        let far = SUCCESSORS as i32 * heavy as i32;
-        assert_eq!(memory.counters, [0, 0, far, -far]);
+        let memory = all_accepted(&engine, &case);
+        assert_eq!(memory.counters, FAR_APART);
         assert_eq!(memory.run, [1_024, 4 * 1_021 + 9, 3]);
     }
 }
@@ -309,17 +283,7 @@ fn found(faulty: Engine<Memory>) -> Option<String> {
 
 /// The check finds this fault, and says so in these words.
 fn assert_found(faulty: Engine<Memory>, words: &str) {
-    let wrong = found(faulty).expect("the fault is found");
-    assert!(wrong.contains(words), "{wrong}");
-}
-
-/// An engine with the model's begin.
-fn with_step(step: fn(&mut Memory, usize, usize, u32, Step) -> Result<Outcome, Refusal>) -> Engine<Memory> {
-    Engine {
-        name: "faulty",
-        step,
-        ..MODEL
-    }
+    assert_says(found(faulty), words);
 }
 
 #[test]
