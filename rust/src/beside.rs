@@ -4,7 +4,7 @@
 use crate::engine::Engine;
 use crate::memory::{Lists, Memory, Outcome, Step, ROW_WORDS};
 use crate::model::{Answer, Refusal};
-use crate::plain_engine::Lent;
+use crate::plain_engine::{Lent, LentLists};
 use crate::runs::{Call, Case, Reply};
 use std::fmt::Debug;
 
@@ -56,21 +56,21 @@ impl<T: Copy + PartialEq> Between<T> {
 
 /// All lists that a call is lent, each between guards.
 pub(crate) trait Guards<M> {
-    fn of(memory: &M, guard: u32) -> Self;
+    fn of(memory: &mut M, guard: u32) -> Self;
 
     /// The first list that isn't the memory's, or whose guards are touched.
-    fn differing(&self, memory: &M) -> Option<&'static str>;
+    fn differing(&self, memory: &mut M) -> Option<&'static str>;
 }
 
-/// A plain job's lists.
-struct Guarded {
+/// The lists that both families have.
+pub(crate) struct GuardedLists<T, const ROW_WORDS: usize> {
     weights: Between<u32>,
     pred_starts: Between<u32>,
     preds: Between<u32>,
     succ_starts: Between<u32>,
     succs: Between<u32>,
     degrees: Between<u32>,
-    rings: Between<u32>,
+    rings: Between<T>,
     ends: Between<u32>,
     counters: Between<i32>,
     buffers: Between<u32>,
@@ -79,49 +79,49 @@ struct Guarded {
     rows: Between<[u32; ROW_WORDS]>,
 }
 
-impl Guards<Memory> for Guarded {
-    fn of(memory: &Memory, guard: u32) -> Guarded {
+impl<T: Copy + PartialEq, const ROW_WORDS: usize> GuardedLists<T, ROW_WORDS> {
+    /// The guards of the rings are of their items.
+    pub fn between(lists: LentLists<T, ROW_WORDS>, guard: u32, item: T) -> GuardedLists<T, ROW_WORDS> {
         let words = |list: &[u32]| Between::of(list, guard);
-        Guarded {
-            weights: words(&memory.weights),
-            pred_starts: words(&memory.pred_starts),
-            preds: words(&memory.preds),
-            succ_starts: words(&memory.succ_starts),
-            succs: words(&memory.succs),
-            degrees: words(&memory.degrees),
-            rings: words(&memory.rings),
-            ends: words(&memory.ends),
-            counters: Between::of(&memory.counters, guard as i32),
-            buffers: words(&memory.buffers),
-            executed: words(&memory.executed),
-            run: words(&memory.run),
-            rows: Between::of(&memory.rows, [guard; ROW_WORDS]),
+        GuardedLists {
+            weights: words(lists.weights),
+            pred_starts: words(lists.pred_starts),
+            preds: words(lists.preds),
+            succ_starts: words(lists.succ_starts),
+            succs: words(lists.succs),
+            degrees: words(lists.degrees),
+            rings: Between::of(lists.rings, item),
+            ends: words(lists.ends),
+            counters: Between::of(lists.counters, guard as i32),
+            buffers: words(lists.buffers),
+            executed: words(lists.executed),
+            run: words(lists.run),
+            rows: Between::of(lists.rows, [guard; ROW_WORDS]),
         }
     }
 
-    fn differing(&self, memory: &Memory) -> Option<&'static str> {
+    /// The first list that isn't the one lent, or whose guards are touched.
+    pub fn part_from(&self, lists: LentLists<T, ROW_WORDS>) -> Option<&'static str> {
         let lists = [
-            ("weights", self.weights.holds(&memory.weights)),
-            ("predecessor starts", self.pred_starts.holds(&memory.pred_starts)),
-            ("predecessors", self.preds.holds(&memory.preds)),
-            ("successor starts", self.succ_starts.holds(&memory.succ_starts)),
-            ("successors", self.succs.holds(&memory.succs)),
-            ("degrees", self.degrees.holds(&memory.degrees)),
-            ("rings", self.rings.holds(&memory.rings)),
-            ("ends", self.ends.holds(&memory.ends)),
-            ("counters", self.counters.holds(&memory.counters)),
-            ("buffers", self.buffers.holds(&memory.buffers)),
-            ("record", self.executed.holds(&memory.executed)),
-            ("run words", self.run.holds(&memory.run)),
-            ("rows", self.rows.holds(&memory.rows)),
+            ("weights", self.weights.holds(lists.weights)),
+            ("predecessor starts", self.pred_starts.holds(lists.pred_starts)),
+            ("predecessors", self.preds.holds(lists.preds)),
+            ("successor starts", self.succ_starts.holds(lists.succ_starts)),
+            ("successors", self.succs.holds(lists.succs)),
+            ("degrees", self.degrees.holds(lists.degrees)),
+            ("rings", self.rings.holds(lists.rings)),
+            ("ends", self.ends.holds(lists.ends)),
+            ("counters", self.counters.holds(lists.counters)),
+            ("buffers", self.buffers.holds(lists.buffers)),
+            ("record", self.executed.holds(lists.executed)),
+            ("run words", self.run.holds(lists.run)),
+            ("rows", self.rows.holds(lists.rows)),
         ];
         lists.iter().find(|(_, holds)| !holds).map(|&(name, _)| name)
     }
-}
 
-impl Guarded {
-    fn lent(&mut self) -> Lent<'_> {
-        Lent {
+    pub fn lent(&mut self) -> LentLists<'_, T, ROW_WORDS> {
+        LentLists {
             weights: self.weights.list(),
             pred_starts: self.pred_starts.list(),
             preds: self.preds.list(),
@@ -136,6 +136,19 @@ impl Guarded {
             run: self.run.list(),
             rows: self.rows.list(),
         }
+    }
+}
+
+/// A plain job's lists.
+type Guarded = GuardedLists<u32, ROW_WORDS>;
+
+impl Guards<Memory> for Guarded {
+    fn of(memory: &mut Memory, guard: u32) -> Guarded {
+        Guarded::between(Lent::of(memory), guard, guard)
+    }
+
+    fn differing(&self, memory: &mut Memory) -> Option<&'static str> {
+        self.part_from(Lent::of(memory))
     }
 }
 
@@ -175,7 +188,7 @@ where
     M::Outcome: Debug + PartialEq,
 {
     let mut memory = case.memory.clone();
-    let mut guarded = G::of(&memory, guard);
+    let mut guarded = G::of(&mut memory, guard);
     let mut counts = Counts::default();
     for (place, &call) in case.calls.iter().enumerate() {
         let engine = beside(place);
@@ -189,10 +202,10 @@ where
         }
         if expected == Reply::Changed {
             // the lists were equal before it, so they are lent anew
-            guarded = G::of(&memory, guard);
+            guarded = G::of(&mut memory, guard);
             continue;
         }
-        if let Some(list) = guarded.differing(&memory) {
+        if let Some(list) = guarded.differing(&mut memory) {
             return Err(format!("call {place}, {call:?}, {expected:?}: the {list} differ"));
         }
         counts[expected.refusal().map_or(0, |refusal| refusal.number as usize)] += 1;

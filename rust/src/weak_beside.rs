@@ -1,11 +1,10 @@
 //! Weak calls beside the model's: both make the same calls, and after each call the answers and every word of every lent list are
 //! compared, with guard words around the lists that the other engine is lent.
 
-use crate::beside::{add_up, compare_guarded, Between, Counts, Guards};
+use crate::beside::{add_up, compare_guarded, Between, Counts, GuardedLists, Guards};
 use crate::engine::Engine;
 use crate::memory::Step;
 use crate::model::{Answer, Refusal};
-use crate::plain_engine::LentLists;
 use crate::plain_weak::Lent;
 use crate::runs::{Call, Case, Reply};
 use crate::weak::{Memory, Outcome, COPY_WORDS, ROW_WORDS};
@@ -20,83 +19,32 @@ pub struct Side {
 
 /// A weak job's lists.
 struct Guarded {
-    weights: Between<u32>,
-    pred_starts: Between<u32>,
-    preds: Between<u32>,
-    succ_starts: Between<u32>,
-    succs: Between<u32>,
-    degrees: Between<u32>,
+    lists: GuardedLists<[u32; COPY_WORDS], ROW_WORDS>,
     fixed: Between<u32>,
-    rings: Between<[u32; COPY_WORDS]>,
-    ends: Between<u32>,
-    counters: Between<i32>,
-    buffers: Between<u32>,
-    executed: Between<u32>,
-    run: Between<u32>,
-    rows: Between<[u32; ROW_WORDS]>,
 }
 
 impl Guards<Memory> for Guarded {
-    fn of(memory: &Memory, guard: u32) -> Guarded {
-        let words = |list: &[u32]| Between::of(list, guard);
+    fn of(memory: &mut Memory, guard: u32) -> Guarded {
+        let Lent { lists, fixed } = Lent::of(memory);
         Guarded {
-            weights: words(&memory.weights),
-            pred_starts: words(&memory.pred_starts),
-            preds: words(&memory.preds),
-            succ_starts: words(&memory.succ_starts),
-            succs: words(&memory.succs),
-            degrees: words(&memory.degrees),
-            fixed: words(&memory.fixed),
-            rings: Between::of(&memory.rings, [guard; COPY_WORDS]),
-            ends: words(&memory.ends),
-            counters: Between::of(&memory.counters, guard as i32),
-            buffers: words(&memory.buffers),
-            executed: words(&memory.executed),
-            run: words(&memory.run),
-            rows: Between::of(&memory.rows, [guard; ROW_WORDS]),
+            lists: GuardedLists::between(lists, guard, [guard; COPY_WORDS]),
+            fixed: Between::of(fixed, guard),
         }
     }
 
-    fn differing(&self, memory: &Memory) -> Option<&'static str> {
-        let lists = [
-            ("weights", self.weights.holds(&memory.weights)),
-            ("predecessor starts", self.pred_starts.holds(&memory.pred_starts)),
-            ("predecessors", self.preds.holds(&memory.preds)),
-            ("successor starts", self.succ_starts.holds(&memory.succ_starts)),
-            ("successors", self.succs.holds(&memory.succs)),
-            ("degrees", self.degrees.holds(&memory.degrees)),
-            ("fixed workers", self.fixed.holds(&memory.fixed)),
-            ("rings", self.rings.holds(&memory.rings)),
-            ("ends", self.ends.holds(&memory.ends)),
-            ("counters", self.counters.holds(&memory.counters)),
-            ("buffers", self.buffers.holds(&memory.buffers)),
-            ("record", self.executed.holds(&memory.executed)),
-            ("run words", self.run.holds(&memory.run)),
-            ("rows", self.rows.holds(&memory.rows)),
-        ];
-        lists.iter().find(|(_, holds)| !holds).map(|&(name, _)| name)
+    fn differing(&self, memory: &mut Memory) -> Option<&'static str> {
+        let Lent { lists, fixed } = Lent::of(memory);
+        let differs = (!self.fixed.holds(fixed)).then_some("fixed workers");
+        self.lists.part_from(lists).or(differs)
     }
 }
 
 impl Guarded {
     fn lent(&mut self) -> Lent<'_> {
-        let lists = LentLists {
-            weights: self.weights.list(),
-            pred_starts: self.pred_starts.list(),
-            preds: self.preds.list(),
-            succ_starts: self.succ_starts.list(),
-            succs: self.succs.list(),
-            degrees: self.degrees.list(),
-            rings: self.rings.list(),
-            ends: self.ends.list(),
-            counters: self.counters.list(),
-            buffers: self.buffers.list(),
-            executed: self.executed.list(),
-            run: self.run.list(),
-            rows: self.rows.list(),
-        };
-        let fixed = self.fixed.list();
-        Lent { lists, fixed }
+        Lent {
+            lists: self.lists.lent(),
+            fixed: self.fixed.list(),
+        }
     }
 }
 
