@@ -13,6 +13,7 @@ use crate::plain_engine::{self, Lent};
 use crate::plain_weak;
 use crate::runs::{Call, Case};
 use crate::weak;
+use std::env;
 
 pub const SLOTS: usize = 64;
 pub const EDGES_PER_TASK: usize = 8;
@@ -134,6 +135,37 @@ fn accepted_steps_by<M: Lists>(engine: Engine<M>, mut memory: M, workers: usize,
         steps.extend(taken.map(|step| (worker, step)));
     }
     steps
+}
+
+/// Makes the run with each engine, call by call: what a bench program counts.
+///
+/// # Panics
+///
+/// Unless all of them accept every call, answer the same and leave the same words.
+pub fn make_alike<M: Lists>(engines: &[Engine<M>], memory: M, workers: usize, steps: Vec<(u32, Step)>) {
+    let mut memories = vec![memory; engines.len()];
+    let same = |memories: &[M]| memories.windows(2).for_each(|pair| assert_eq!(pair[0], pair[1]));
+    for (engine, memory) in engines.iter().zip(&mut memories) {
+        assert_eq!((engine.begin)(memory, workers, SLOTS), Ok(()));
+    }
+    same(&memories);
+    for (worker, step) in steps {
+        let made = engines.iter().zip(&mut memories);
+        let mut answers = made.map(|(engine, memory)| (engine.step)(memory, workers, SLOTS, worker, step));
+        let first = answers.next().expect("there is an engine");
+        assert!(first.is_ok());
+        answers.for_each(|answer| assert_eq!(answer, first));
+    }
+    same(&memories);
+}
+
+/// The numbers of tasks and workers that a bench program is called with.
+pub fn sizes() -> [usize; 2] {
+    let mut words = env::args().skip(1);
+    ["a number of tasks", "a number of workers"].map(|of| {
+        let word = words.next();
+        word.and_then(|word| word.parse().ok()).expect(of)
+    })
 }
 
 /// The sizes of the windows that are measured.
