@@ -1,5 +1,7 @@
 //! No. 6 of document 02 on every weak engine: the examples, the order of refusals, which words a call reads, and wrong programs.
 
+#[path = "common/board.rs"]
+mod any_board;
 #[path = "common/weak.rs"]
 mod board;
 
@@ -138,8 +140,8 @@ fn a_later_copy_meets_a_full_ring() {
     assert_eq!(board.memory.ends[9..12], [1, 1, 0]);
     assert_eq!(board.release(1), refused(11, 4));
     // the ring of the same owner filled by another worker doesn't count
-    assert_eq!(board.with_ends(0, 0, 0, 0).release(1), refused(11, 4));
-    assert_eq!(board.with_ends(3, 0, 0, 2).release(1), refused(11, 4));
+    assert_eq!(board.with_ends(0, [0, 0, 0]).release(1), refused(11, 4));
+    assert_eq!(board.with_ends(3, [0, 0, 2]).release(1), refused(11, 4));
     // nor does a copy that the owner takes from there
     let mut elsewhere = board.with_row(0, POINTER, 0);
     elsewhere.execute(0, 3, 0);
@@ -330,15 +332,15 @@ fn words_of_the_fixed_workers() {
 /// A later copy reads neither counters nor weight, nor the ends of other rings; no Release reads a degree.
 #[test]
 fn what_a_release_reads() {
-    let later = later_copies().with_ends(1, 0, 1, 1);
+    let later = later_copies().with_ends(1, [0, 1, 1]);
     assert_eq!(later.clone().release(1), placed(4, 1, 0));
     for ring in 0..4 {
         let counter = later.with(List::Counters, ring, 1 << 31);
         assert_eq!(counter.clone().release(1), placed(4, 1, 0));
         let expected = if ring == 1 { refused(8, 0) } else { placed(4, 1, 0) };
-        assert_eq!(later.with_ends(ring, HUGE, 0, 0).release(1), expected);
-        assert_eq!(later.with_ends(ring, 0, 1, 0).release(1), expected);
-        assert_eq!(later.with_ends(ring, 0, 0, 3).release(1), expected);
+        assert_eq!(later.with_ends(ring, [HUGE, 0, 0]).release(1), expected);
+        assert_eq!(later.with_ends(ring, [0, 1, 0]).release(1), expected);
+        assert_eq!(later.with_ends(ring, [0, 0, 3]).release(1), expected);
     }
     assert_eq!(later.with(List::Weights, 4, HUGE).release(1), placed(4, 1, 0));
     for degree in [0, 1, 6, HUGE] {
@@ -355,11 +357,11 @@ fn what_a_release_reads() {
         let counter = first.with(List::Counters, ring, (1 << 30) + 1);
         assert_eq!(counter.clone().release(0), refused(8, 0));
     }
-    assert_eq!(first.with_ends(2, HUGE, 0, 0).release(0), placed(1, 0, 0));
-    let full = first.with_ends(0, 0, 0, 4);
+    assert_eq!(first.with_ends(2, [HUGE, 0, 0]).release(0), placed(1, 0, 0));
+    let full = first.with_ends(0, [0, 0, 4]);
     assert_eq!(full.clone().release(0), placed(1, 0, 1));
-    assert_eq!(full.with_ends(2, HUGE, 0, 0).release(0), refused(8, 0));
-    let all_full = full.with_ends(2, 0, 0, 4).with(List::Weights, 1, HUGE);
+    assert_eq!(full.with_ends(2, [HUGE, 0, 0]).release(0), refused(8, 0));
+    let all_full = full.with_ends(2, [0, 0, 4]).with(List::Weights, 1, HUGE);
     assert_eq!(all_full.clone().release(0), refused(11, 1));
     assert_eq!(all_full.with(List::Counters, 3, 1 << 31).release(0), refused(8, 0));
     assert_eq!(all_full.with(List::Run, ACCEPTED, HUGE).release(0), refused(11, 1));
@@ -489,7 +491,7 @@ fn phases() {
     board.execute(0, 0, NIL);
     // something to release, to fetch, and a held copy
     let board = board
-        .with_ends(0, 0, 1, 1)
+        .with_ends(0, [0, 1, 1])
         .with_row(0, HELD_TASK, 1)
         .with_row(0, HELD_PRED, 0);
     let suits = [

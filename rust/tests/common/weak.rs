@@ -1,21 +1,15 @@
-//! A board to try weak calls on: lent lists with P and K, and all weak calls side by side; the boards that these tests start from.
+//! The board of weak jobs, and the boards that their tests start from.
 
+pub use crate::any_board::{refused, HUGE, MARK};
+
+use crate::any_board::{self, Tried};
 use engine_model::engine::Engine;
 use engine_model::engines;
-use engine_model::memory::{List, Lists, Step, COUNT, END_WORDS, HEAD, NIL, TAIL};
-use engine_model::model::{Answer, Refusal, Table};
-use engine_model::weak::{Copied, Memory, Outcome, ROW_WORDS};
-
-/// A word that stands in the lists before begin.
-pub const MARK: u32 = 777_777;
-
-pub const HUGE: u32 = u32::MAX;
+use engine_model::memory::{Step, NIL};
+use engine_model::model::Refusal;
+use engine_model::weak::{Copied, Memory, Outcome};
 
 pub type Reply = Result<Outcome, Refusal>;
-
-pub fn refused<T>(number: u32, detail: u32) -> Result<T, Refusal> {
-    Err(Refusal { number, detail })
-}
 
 pub fn fetched(task: u32, pred: u32) -> Reply {
     let copy = Copied { task, pred };
@@ -29,91 +23,15 @@ pub fn placed(task: u32, pred: u32, owner: u32) -> Reply {
 
 pub const MOVED: Reply = Ok(Outcome::Moved);
 
-#[derive(Clone)]
-pub struct Board {
-    pub memory: Memory,
-    pub p: usize,
-    pub k: usize,
-    engines: Vec<Engine<Memory>>,
+pub type Board = any_board::Board<Memory>;
+
+impl Tried for Memory {
+    fn engines() -> Vec<Engine<Memory>> {
+        engines::weak()
+    }
 }
 
 impl Board {
-    /// Lists for these weights and predecessors, sized for P and K, every other word the mark.
-    pub fn new(weights: &[u32], lists: &[&[u32]], p: usize, k: usize) -> Board {
-        let lists: Vec<Vec<u32>> = lists.iter().map(|list| list.to_vec()).collect();
-        let table = Table::of(&lists);
-        let memory = Memory::sized(weights.to_vec(), table.starts, table.words, p, k, MARK);
-        let engines = engines::weak();
-        Board { memory, p, k, engines }
-    }
-
-    /// The same after an accepted begin.
-    pub fn begun(weights: &[u32], lists: &[&[u32]], p: usize, k: usize) -> Board {
-        let mut board = Board::new(weights, lists, p, k);
-        assert_eq!(board.begin(), Ok(()));
-        board
-    }
-
-    /// The same with one engine alone.
-    pub fn by(self, engine: Engine<Memory>) -> Board {
-        let engines = vec![engine];
-        Board { engines, ..self }
-    }
-
-    /// Makes the call by every engine: all agree in the answer and in every word, and a refused call keeps every word.
-    fn call<T: Copy + PartialEq + std::fmt::Debug>(
-        &mut self,
-        make: impl Fn(&Engine<Memory>, &mut Memory) -> Result<T, Refusal>,
-    ) -> Result<T, Refusal> {
-        let mut outcomes = self.engines.iter().map(|engine| {
-            let mut memory = self.memory.clone();
-            let answer = make(engine, &mut memory);
-            (engine.name, answer, memory)
-        });
-        let (_, answer, memory) = outcomes.next().expect("a board has an engine");
-        for (name, other, words) in outcomes {
-            assert_eq!(other, answer, "{name}");
-            assert_eq!(words, memory, "{name}");
-        }
-        if answer.is_err() {
-            assert_eq!(memory, self.memory, "a refused call writes");
-        }
-        self.memory = memory;
-        answer
-    }
-
-    pub fn begin(&mut self) -> Answer {
-        self.begin_with(self.p, self.k)
-    }
-
-    pub fn begin_with(&mut self, p: usize, k: usize) -> Answer {
-        self.call(|engine, memory| (engine.begin)(memory, p, k))
-    }
-
-    pub fn step(&mut self, worker: u32, step: Step) -> Reply {
-        self.step_with(self.p, self.k, worker, step)
-    }
-
-    pub fn step_with(&mut self, p: usize, k: usize, worker: u32, step: Step) -> Reply {
-        self.call(|engine, memory| (engine.step)(memory, p, k, worker, step))
-    }
-
-    pub fn fetch(&mut self, worker: u32) -> Reply {
-        self.step(worker, Step::Fetch)
-    }
-
-    pub fn start(&mut self, worker: u32) -> Reply {
-        self.step(worker, Step::Start)
-    }
-
-    pub fn complete(&mut self, worker: u32) -> Reply {
-        self.step(worker, Step::Complete)
-    }
-
-    pub fn release(&mut self, worker: u32) -> Reply {
-        self.step(worker, Step::Release)
-    }
-
     /// Fetches this copy, starts and completes it.
     pub fn execute(&mut self, worker: u32, task: u32, pred: u32) {
         assert_eq!(self.fetch(worker), fetched(task, pred));
@@ -135,26 +53,6 @@ impl Board {
             idle = if taken { 0 } else { idle + 1 };
         }
         accepted
-    }
-
-    /// The same with another word.
-    pub fn with(&self, list: List, place: usize, word: u32) -> Board {
-        let mut board = self.clone();
-        assert!(board.memory.replace(list, place, word).is_some(), "{list:?} {place}");
-        board
-    }
-
-    /// The same with another word in a worker's row.
-    pub fn with_row(&self, worker: usize, field: usize, word: u32) -> Board {
-        self.with(List::Rows, worker * ROW_WORDS + field, word)
-    }
-
-    /// The same with other ends of a ring.
-    pub fn with_ends(&self, ring: usize, head: u32, tail: u32, count: u32) -> Board {
-        let ends = [(HEAD, head), (TAIL, tail), (COUNT, count)];
-        ends.iter().fold(self.clone(), |board, &(place, word)| {
-            board.with(List::Ends, END_WORDS * ring + place, word)
-        })
     }
 
     /// What the counters of a worker add up to.

@@ -1,5 +1,7 @@
 //! Document 01's examples and edges of begin and the steps, each expected value reasoned from the paper's words.
 
+#[path = "../common/board.rs"]
+mod any_board;
 #[path = "../common/diamond.rs"]
 mod diamond;
 
