@@ -166,7 +166,7 @@ fn what_is_counted() {
         ("10,100 lines of code", 10_100, lines(&files("src", "rt"))),
         ("9,800 lines of definitions", 9_800, lines(&files("specs", "antt"))),
         ("63,600 lines of proof", 63_600, lines(&files("proofs", "antt"))),
-        ("about 350 wrong programs", 350, files("must-fail", "edit").len()),
+        ("about 330 wrong programs", 330, files("must-fail", "edit").len()),
         ("about 92 crates", 92, entries(&file("crates")).len()),
     ];
     let page = text(FRONT);
