@@ -5,20 +5,17 @@ use mathlib.Core.Logic.{inl, _↔_}
 use mathlib.Core.Bool.{Bool, true, false}
 use mathlib.Core.List.{List}
 use native.Mathlib.Omega.{arith}
-use native.Mathlib.Decide.{decLt}
 use lib.ListN.{length, getD, take}
-use lib.Seq.{getD-take, length-take-le}
+use lib.Seq.{length-take-le}
 use Rattle.lists.specs.Decided.{holds}
 use Rattle.lists.proofs.Decided.{holds-yes, holds-no, first-is, first-none}
 use Rattle.graph.specs.Graph.{Graph}
 use Rattle.graph.specs.Conditions.{OnCycle, ToCycle}
-use Rattle.graph.specs.Decide.{among?, onCycle?}
+use Rattle.graph.specs.Decide.{onCycle?}
+use Rattle.graph.specs.Stripping.{Stripped}
 use Rattle.graph.specs.Check.{firstOnCycle}
-use Rattle.tables.proofs.Laws.{word-below}
-
--- no task below t is on a cycle
-abbrev pub NoneBelow : Graph → ℕ → Type 0
-NoneBelow g t = (k : ℕ) → k < t → ¬ (OnCycle g k)
+use Rattle.graph.proofs.Stripping.{all-stripped}
+use Rattle.cycles.specs.Ranks.{NoneBelow}
 
 module _ {g : Graph} (t : ℕ) where
   -- a task that stripping takes away is on no cycle
@@ -36,16 +33,6 @@ module _ {g : Graph} (t : ℕ) where
   unfolding firstOnCycle
   none-first h n = first-none (g .tasks) (onCycle? g) (λ k l. n k (omega arith))
 
--- where stripping leaves no task, none is on a cycle
-pub none-left : (g : Graph) (left : List ℕ) (r : Bool) → r ≡ true → r ≡ holds (among? (λ u. decLt u 1) (take (g .tasks) left)) → g .tasks ≤ length left
-    → ((t : ℕ) → t < g .tasks → (0 < getD left t 0) ↔ ToCycle g t) → g .tasks ≡ firstOnCycle g
-none-left g left r e b h f = none-first (g .tasks) (omega arith) (λ k l. stripped-off k left (f k l) (zero k l))
-  where
-    zero : (k : ℕ) → k < g .tasks → getD left k 0 ≡ 0
-    zero k l =
-        omega (
-          arith,
-          word-below (take (g .tasks) left) k (omega (arith, l, length-take-le (g .tasks) left h)) 1
-              (holds-yes (among? (λ u. decLt u 1) (take (g .tasks) left)) (sym b ∙ e)),
-          getD-take (g .tasks) left k 0 l,
-        )
+-- where all tasks are stripped, none is on a cycle
+pub all-gone : {g : Graph} (order : List ℕ) (r : ℕ) → r ≤ length order → r ≡ g .tasks → Stripped g (take r order) → g .tasks ≡ firstOnCycle g
+all-gone {g} order r l e s = none-first (g .tasks) (omega arith) (λ k h. all-stripped (s .strips) (s .whole) (length-take-le r order l ∙ e) k)

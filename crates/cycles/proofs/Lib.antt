@@ -1,3 +1,4 @@
 pub mod First
 pub mod Marks
 pub mod Walks
+pub mod Ranks

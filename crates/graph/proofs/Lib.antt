@@ -5,3 +5,5 @@ pub mod Accepted
 pub mod Reversed
 pub mod Lookup
 pub mod Linked
+pub mod Closed
+pub mod Stripping

@@ -35,6 +35,11 @@ abbrev pub map? : {A B : Type 0} → (A → B) → (B → A) → Dec A → Dec B
 map? f g (yes a) = yes (f a)
 map? f g (no n) = no (λ b. n (g b))
 
+abbrev pub implies? : {A B : Type 0} → Dec A → Dec B → Dec (A → B)
+implies? (no n) b = yes (λ a. absurd (n a))
+implies? (yes a) (yes b) = yes (λ _. b)
+implies? (yes a) (no n) = no (λ f. n (f a))
+
 module _ {P : ℕ → Type 0} (d : (t : ℕ) → Dec (P t)) where
   pub last-too : (n : ℕ) → ((t : ℕ) → t < n → P t) × P n → (t : ℕ) → t < suc n → P t
   last-too n p t h = go (ℕ-discrete t n)

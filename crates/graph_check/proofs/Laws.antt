@@ -17,7 +17,14 @@ use Rattle.task.specs.declared.Answer.the-variants.{Refused, Accepted}
 use Rattle.graph.specs.Graph.{Graph, graphOf}
 use Rattle.graph.specs.Conditions.{Sized, Sound}
 use Rattle.graph.specs.Decide.{light?, good?, bad?, endsFit?}
+use Rattle.task.specs.Refusals.{cycle}
+use Rattle.graph.specs.Stripping.{Judges5, Ordered}
 use Rattle.graph.specs.Check.{sizesFit, firstBad, firstTwice, firstOnCycle, tablesAnswer, checkAnswer}
+
+-- before 5 is judged there is no order to hand out
+pub early : {g : Graph} {a right : Answer} {number detail stripped : ℕ} {words : List ℕ} → a ≡ Refused number detail → ¬ (number ≡ cycle) → Refused number detail ≡ right
+    → (a ≡ right) × Ordered g a words stripped
+early e n t = (e ∙ t, record { handed = λ j. absurd (n (rw e at j)) })
 
 module _ (g : Graph) (bad : ℕ) (hb : bad ≡ firstBad g) where
   pub tables-bad : bad < g .tasks → Refused 3 bad ≡ tablesAnswer g

@@ -1,37 +1,95 @@
 // The graph check that every call on a graph shares: 2, 1, 3, 4, 5 in order.
 ghost use mathlib.Core.Path.{_≡_};
+ghost use lib.ListN.{length};
 ghost use Rattle.graph.specs.Graph.{graphOf};
 ghost use Rattle.graph.specs.Conditions.{Sized};
 ghost use Rattle.graph.specs.Check.{tablesAnswer, checkAnswer};
+ghost use Rattle.graph.specs.Stripping.{Ordered};
+ghost use Rattle.task.specs.declared.Answer.the-variants.{Refused};
 use task::Answer;
 use task::Limits;
 use task::refusal;
 
-// 3, 4 and 5 on tables of the right lengths.
-pub fn check_tables(n: usize, starts: &[u32], preds: &[u32]) -> Answer
-    requires { ⌜ Sized (graphOf n (now starts) (now preds)) ⌝ }
-    ensures { λ r. ⌜ r ≡ tablesAnswer (graphOf n (now (starts .entry)) (now (preds .entry))) ⌝ }
+// The answer, and how many tasks were stripped where 5 was judged.
+pub struct Checked {
+    pub answer: Answer,
+    pub stripped: usize,
+}
+
+fn refused(number: u32, detail: u32) -> Checked
+    ensures { λ r. ⌜ r .answer ≡ Refused number detail ⌝ }
+{
+    Checked {
+        answer: Answer::Refused(number, detail),
+        stripped: 0,
+    }
+}
+
+// 3, 4 and 5 on tables of the right lengths; the tasks are stripped into `order`.
+pub fn check_tables(n: usize, starts: &[u32], preds: &[u32], order: &mut [u32]) -> Checked
+    requires { ⌜ Sized (graphOf n (now starts) (now preds)) × (length (now order) ≡ 1024) ⌝ }
+    ensures { λ r. ⌜
+        (r .answer ≡ tablesAnswer (graphOf n (now (starts .entry)) (now (preds .entry))))
+        × Ordered (graphOf n (now (starts .entry)) (now (preds .entry))) (r .answer) (now (order .exit)) (r .stripped)
+        ⌝ }
 {
     let bad = tables::first_bad(n, starts, preds);
     if bad < n {
-        return Answer::Refused(refusal::BAD_TABLE, bad as u32);
+        return refused(refusal::BAD_TABLE, bad as u32);
     }
     if !tables::ends_fit(n, starts, preds) {
-        return Answer::Refused(refusal::BAD_TABLE, n as u32);
+        return refused(refusal::BAD_TABLE, n as u32);
     }
     let twice = tables::first_twice(n, starts, preds);
     if twice < n {
-        return Answer::Refused(refusal::DUPLICATE, twice as u32);
+        return refused(refusal::DUPLICATE, twice as u32);
     }
-    let looped = cycles::first_on_cycle(n, starts, preds);
+    let judged = cycles::first_on_cycle(n, starts, preds, order);
+    let looped = judged.first;
+    let stripped = judged.stripped;
     if looped < n {
-        return Answer::Refused(refusal::CYCLE, looped as u32);
+        return Checked {
+            answer: Answer::Refused(refusal::CYCLE, looped as u32),
+            stripped: stripped,
+        };
     }
-    Answer::Accepted
+    Checked {
+        answer: Answer::Accepted,
+        stripped: stripped,
+    }
 }
 
-// The whole check of weights and predecessor tables, for every call on a graph. `within` says that the call's other
-// numbers are within their limits, `others` that its other lists have their lengths.
+// The whole check of weights and predecessor tables, which hands out the order of stripping where it judges 5. `within`
+// says that the call's other numbers are within their limits, `others` that its other lists have their lengths.
+pub fn check_order(
+    limits: Limits,
+    within: bool,
+    others: bool,
+    weights: &[u32],
+    starts: &[u32],
+    preds: &[u32],
+    order: &mut [u32],
+) -> Checked
+    requires { ⌜ length (now order) ≡ 1024 ⌝ }
+    ensures { λ r. ⌜
+        (r .answer ≡ checkAnswer limits within others (now (weights .entry)) (now (starts .entry)) (now (preds .entry)))
+        × Ordered (graphOf (length (now (weights .entry))) (now (starts .entry)) (now (preds .entry))) (r .answer) (now (order .exit)) (r .stripped)
+        ⌝ }
+{
+    let n = weights.len();
+    if !(within & tables::sizes_fit(limits, n, preds.len())) {
+        return refused(refusal::BEYOND_LIMIT, 0);
+    }
+    if !tables::weights_fit(weights) {
+        return refused(refusal::BEYOND_LIMIT, 0);
+    }
+    if !((starts.len() == n + 1) & others) {
+        return refused(refusal::WRONG_LENGTH, 0);
+    }
+    check_tables(n, starts, preds, order)
+}
+
+// The same for every call on a graph that asks for no order.
 pub fn check_graph(
     limits: Limits,
     within: bool,
@@ -42,15 +100,7 @@ pub fn check_graph(
 ) -> Answer
     ensures { λ r. ⌜ r ≡ checkAnswer limits within others (now (weights .entry)) (now (starts .entry)) (now (preds .entry)) ⌝ }
 {
-    let n = weights.len();
-    if !(within & tables::sizes_fit(limits, n, preds.len())) {
-        return Answer::Refused(refusal::BEYOND_LIMIT, 0);
-    }
-    if !tables::weights_fit(weights) {
-        return Answer::Refused(refusal::BEYOND_LIMIT, 0);
-    }
-    if !((starts.len() == n + 1) & others) {
-        return Answer::Refused(refusal::WRONG_LENGTH, 0);
-    }
-    check_tables(n, starts, preds)
+    let mut order = [0u32; 1024];
+    let checked = check_order(limits, within, others, weights, starts, preds, &mut order);
+    checked.answer
 }

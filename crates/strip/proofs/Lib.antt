@@ -1,3 +1,2 @@
-pub mod Closed
 pub mod Queue
 pub mod Turns

@@ -1,24 +1,26 @@
 -- Laws of the queue over plain lists: what one task more at its end changes, and how steps compose.
-use Prim.Native.Nat.{ℕ, suc, _+_, _-_, _≤_, _<_}
+use Prim.Native.Nat.{ℕ, zero, suc, _+_, _-_, _≤_, _<_}
 use mathlib.Core.Path.{_≡_, refl, sym, ap, _∙_}
-use mathlib.Core.List.{List, [], _∷_}
+use mathlib.Core.List.{List, [], _∷_, _++_, append-nil}
 use native.Mathlib.Omega.{arith}
 use native.Mathlib.Decide.{ℕ-discrete, decLt}
 use lib.ListN.{length, getD, set, take, length-set}
-use lib.Seq.{length-take-le, take-set-le, take-all, getD-set-same, getD-set-other}
+use lib.Seq.{length-take-le, take-set-le, take-all, getD-set-same, getD-set-other, append-snoc}
+use Rattle.lists.specs.Decided.{tally}
 use Rattle.lists.specs.Lists.{occ}
 use Rattle.lists.proofs.Decided.{stable, tally-yes, tally-no, tally-le-one, tally-pos}
 use Rattle.lists.proofs.Occurrences.{occ-nil, occ-hit, occ-miss, occ-split}
 use Rattle.lists.proofs.Sums.{short-without}
-use Rattle.lists.proofs.Prefixes.{occ-single, occ-more, occ-more-hit, occ-store, take-same, inside}
+use Rattle.lists.proofs.Prefixes.{occ-single, occ-more, occ-more-hit, occ-store, take-store, take-same, inside}
 use Rattle.graph.specs.Graph.{Among}
-use Rattle.strip.specs.Queue.{stripped, queuedAt, Queued, Looked, Sinks, Lowered}
+use Rattle.graph.specs.Stripping.{keepIf}
+use Rattle.strip.specs.Queue.{stripped, queuedAt, Queued, nonesBelow, Falling, Emptied, Lowered}
 
 -- a task without successors left is counted as 1, another as 0
 pub stripped-none : (left : List ℕ) (u : ℕ) → getD left u 0 ≡ 0 → stripped left u ≡ 1
 stripped-none left u e = tally-yes (ℕ-discrete (getD left u 0) 0) e
 
-stripped-some : (left : List ℕ) (u : ℕ) → 0 < getD left u 0 → stripped left u ≡ 0
+pub stripped-some : (left : List ℕ) (u : ℕ) → 0 < getD left u 0 → stripped left u ≡ 0
 stripped-some left u h = tally-no (ℕ-discrete (getD left u 0) 0) (λ e. omega arith)
 
 stripped-is : (left : List ℕ) (u : ℕ) → 0 < stripped left u → getD left u 0 ≡ 0
@@ -73,22 +75,6 @@ module _ (left queue : List ℕ) (tail : ℕ) (q : Queued left queue tail) where
         count : (u : ℕ) → Dec (u ≡ t) → queuedAt (set queue tail t) (tail + 1) u ≤ stripped left′ u
         count u (yes p) = rw p (omega (arith, push-here, stripped-none left′ t e))
         count u (no n) = rw (o u n) (omega (arith, push-other u n, q .few u))
-
-    pub looked-none : getD left t 0 ≡ 0 → Looked left queue (set queue tail t) tail (tail + 1) t
-    looked-none e =
-        record {
-          queued = pushed left (q .lefts) e (λ u n. refl);
-          here = push-here ∙ sym (stripped-none left t e);
-          others = push-other;
-        }
-
-    pub looked-some : (getD left t 0 ≡ 0 → ⊥) → Looked left queue queue tail tail t
-    looked-some n =
-        record {
-          queued = q;
-          here = z ∙ sym (tally-no (ℕ-discrete (getD left t 0) 0) n);
-          others = λ u m. refl;
-        }
 
   -- one successor less for task u
   module _ (u : ℕ) (some : 0 < getD left u 0) where
@@ -157,33 +143,102 @@ module _ (left queue : List ℕ) (tail : ℕ) (q : Queued left queue tail) where
     unfolding fewer
     lower-more m = lowered-more m
 
+-- a number that is kept or not
+module _ {A : Type 0} where
+  keep-yes : (d : Dec A) (x : ℕ) (l : List ℕ) → A → keepIf d x l ≡ x ∷ l
+  keep-yes (yes a) x l b = refl
+  keep-yes (no n) x l b = absurd (n b)
+
+  keep-no : (d : Dec A) (x : ℕ) (l : List ℕ) → ¬ A → keepIf d x l ≡ l
+  keep-no (yes a) x l n = absurd (n a)
+  keep-no (no m) x l n = refl
+
+  keep-behind : (d : Dec A) (x : ℕ) (k l : List ℕ) → k ++ keepIf d x [] ++ l ≡ k ++ keepIf d x l
+  keep-behind (yes a) x k l = append-snoc k x l
+  keep-behind (no n) x k l = ap (λ (m : List ℕ). m ++ l) (append-nil k)
+
+  keep-hit : (d : Dec A) (x : ℕ) (l : List ℕ) → occ x (keepIf d x l) ≡ tally d + occ x l
+  keep-hit (yes a) x l = omega (arith, occ-hit ℕ-discrete x x l refl)
+  keep-hit (no n) x l = omega arith
+
+  keep-miss : (d : Dec A) (x : ℕ) (l : List ℕ) (u : ℕ) → ¬ (u ≡ x) → occ u (keepIf d x l) ≡ occ u l
+  keep-miss (yes a) x l u n = occ-miss ℕ-discrete u x l n
+  keep-miss (no m) x l u n = refl
+
+pub keep-same : {A B : Type 0} (d : Dec A) (e : Dec B) (x : ℕ) (l : List ℕ) → (A → B) → (B → A) → keepIf d x l ≡ keepIf e x l
+keep-same (yes a) e x l f g = sym (keep-yes e x l (f a))
+keep-same (no n) e x l f g = sym (keep-no e x l (λ b. n (g b)))
+
+-- one task looked at
+module _ (left queue : List ℕ) (tail t : ℕ) where
+  pub queue-one : tail < length queue → getD left t 0 ≡ 0 → take (tail + 1) (set queue tail t) ≡ take tail queue ++ keepIf (ℕ-discrete (getD left t 0) 0) t []
+  queue-one h e = take-store queue tail t h ∙ ap (λ (l : List ℕ). take tail queue ++ l) (sym (keep-yes (ℕ-discrete (getD left t 0) 0) t [] e))
+
+  pub queue-none : (getD left t 0 ≡ 0 → ⊥) → take tail queue ≡ take tail queue ++ keepIf (ℕ-discrete (getD left t 0) 0) t []
+  queue-none n = sym (append-nil (take tail queue)) ∙ ap (λ (l : List ℕ). take tail queue ++ l) (sym (keep-no (ℕ-discrete (getD left t 0) 0) t [] n))
+
 -- no task yet
-pub sinks-none : (n : ℕ) (left queue : List ℕ) → length left ≡ 1024 → length queue ≡ 1024 → Sinks n n left queue 0
-sinks-none n left queue l r =
-    record {
-      queued = record { lefts = l; room = r; short = omega arith; below = λ u h. absurd (omega (arith, occ-nil ℕ-discrete u)); few = λ u. omega (arith, occ-nil ℕ-discrete u) };
-      looked = λ u a b. absurd (omega arith);
-      ahead = λ u h. occ-nil ℕ-discrete u;
-      beyond = λ u h. occ-nil ℕ-discrete u;
-    }
+pub falling-none : (n : ℕ) (left queue : List ℕ) → length queue ≡ 1024 → Falling n n left queue 0
+falling-none n left queue r = record { room = r; few = omega arith; falls = refl }
 
 -- the tasks from t on, after those from t + 1 on
-pub sinks-more : (t k n : ℕ) (left queue queue′ : List ℕ) (tail tail′ : ℕ) → k ≡ suc t → t < n
-    → Sinks k n left queue tail → Looked left queue queue′ tail tail′ t → Sinks t n left queue′ tail′
-sinks-more t k n left queue queue′ tail tail′ e h s l =
+pub falling-more : (t k n : ℕ) (left queue queue′ : List ℕ) (tail tail′ : ℕ) → k ≡ suc t → Falling k n left queue tail → length queue′ ≡ 1024
+    → take tail′ queue′ ≡ take tail queue ++ keepIf (ℕ-discrete (getD left t 0) 0) t [] → tail′ ≤ tail + 1 → Falling t n left queue′ tail′
+unfolding nonesBelow
+falling-more t k n left queue queue′ tail tail′ e f r q m =
     record {
-      queued = l .queued;
-      looked = λ u a b. at u a b (ℕ-discrete u t);
-      ahead = λ u m. l .others u (λ p. omega arith) ∙ s .ahead u (omega arith);
-      beyond = λ u m. l .others u (λ p. omega arith) ∙ s .beyond u m;
+      room = r;
+      few = omega (arith, f .few);
+      falls = ap (λ (l : List ℕ). l ++ nonesBelow left t) q
+          ∙ keep-behind (ℕ-discrete (getD left t 0) 0) t (take tail queue) (nonesBelow left t) ∙ rw e at (f .falls);
     }
-  where
-    at : (u : ℕ) → t ≤ u → u < n → Dec (u ≡ t) → queuedAt queue′ tail′ u ≡ stripped left u
-    at u a b (yes p) = rw p (l .here)
-    at u a b (no m) = l .others u m ∙ s .looked u (omega arith) b
 
-pub sinks-done : (t n : ℕ) (left queue : List ℕ) (tail : ℕ) → t ≡ 0 → Sinks t n left queue tail → Sinks 0 n left queue tail
-sinks-done t n left queue tail e s = rw e at s
+nones-beyond : (left : List ℕ) (n u : ℕ) → n ≤ u → occ u (nonesBelow left n) ≡ 0
+unfolding nonesBelow
+nones-beyond left zero u h = occ-nil ℕ-discrete u
+nones-beyond left (suc n) u h = keep-miss (ℕ-discrete (getD left n 0) 0) n (nonesBelow left n) u (λ e. omega arith) ∙ nones-beyond left n u (omega arith)
+
+nones-at : (left : List ℕ) (n u : ℕ) → u < n → occ u (nonesBelow left n) ≡ stripped left u
+unfolding nonesBelow
+nones-at left zero u h = absurd (omega arith)
+nones-at left (suc n) u h = go (ℕ-discrete u n) (nones-at left n u)
+  where
+    go : Dec (u ≡ n) → (u < n → occ u (nonesBelow left n) ≡ stripped left u) → occ u (keepIf (ℕ-discrete (getD left n 0) 0) n (nonesBelow left n)) ≡ stripped left u
+    go (yes e) rec = rw e (omega (arith, keep-hit (ℕ-discrete (getD left n 0) 0) n (nonesBelow left n), nones-beyond left n n (omega arith)))
+    go (no m) rec = keep-miss (ℕ-discrete (getD left n 0) 0) n (nonesBelow left n) u m ∙ rec (omega arith)
+
+-- all of them: the queue holds the tasks without successors, and no other
+module _ (n : ℕ) (left queue : List ℕ) (tail : ℕ) (f : Falling 0 n left queue tail) where
+  pub falling-all : take tail queue ≡ nonesBelow left n
+  unfolding nonesBelow
+  falling-all = sym (append-nil (take tail queue)) ∙ f .falls
+
+  pub falling-emptied : n ≤ 1024 → length left ≡ 1024 → Emptied n left queue tail
+  falling-emptied h l =
+      record {
+        queued = record {
+          lefts = l;
+          room = f .room;
+          short = omega (arith, f .few);
+          below = λ u m. stable (decLt u 1024) (λ k. omega (arith, beyond u (omega arith)));
+          few = λ u. few u (decLt u n);
+        };
+        looked = looked;
+        beyond = beyond;
+      }
+    where
+      beyond : (u : ℕ) → n ≤ u → queuedAt queue tail u ≡ 0
+      beyond u k = ap (occ u) falling-all ∙ nones-beyond left n u k
+
+      looked : (u : ℕ) → u < n → queuedAt queue tail u ≡ stripped left u
+      looked u k = ap (occ u) falling-all ∙ nones-at left n u k
+
+      few : (u : ℕ) → Dec (u < n) → queuedAt queue tail u ≤ stripped left u
+      few u (yes k) = omega (arith, looked u k)
+      few u (no m) = omega (arith, beyond u (omega arith))
+
+pub falling-done : (k n : ℕ) (left queue : List ℕ) (tail : ℕ) → k ≡ 0 → Falling k n left queue tail → Falling 0 n left queue tail
+falling-done k n left queue tail e f = rw e at f
 
 -- no word yet
 pub lowered-none : (left queue : List ℕ) (tail : ℕ) → Queued left queue tail → Lowered [] left left queue queue tail tail

@@ -1,33 +1,37 @@
 -- What holds at each turn of the stripping, that each turn keeps it, and what it says where the queue is used up.
-use Prim.Native.Nat.{ℕ, _+_, _≤_, _<_}
-use mathlib.Core.Path.{_≡_, refl, ap, _∙_}
+use Prim.Native.Nat.{ℕ, zero, suc, _+_, _≤_, _<_}
+use mathlib.Core.Path.{_≡_, refl, sym, ap, _∙_}
 use mathlib.Core.Logic.{_↔_}
-use mathlib.Core.List.{List, [], _∷_}
+use mathlib.Core.List.{List, [], _∷_, _++_}
 use native.Mathlib.Omega.{arith}
 use native.Mathlib.Decide.{ℕ-discrete, decLt}
-use lib.ListN.{length, getD, take}
+use lib.ListN.{length, getD, take, length-append}
+use lib.Seq.{length-take-le, getD-take, take-take, getD-append-seam, take-append-seam}
 use Rattle.lists.specs.Lists.{occ}
-use Rattle.lists.specs.Sums.{sumOf}
-use Rattle.lists.proofs.Decided.{stable}
-use Rattle.lists.proofs.Sums.{sum-prefix, sumOf-nil, sumOf-single, sumOf-append, sumOf-other, sumOf-missing}
-use Rattle.lists.proofs.Prefixes.{take-more, occ-more-hit, occ-take-le, occ-early, take-same}
+use Rattle.lists.specs.Sums.{sumOf, sumTo}
+use Rattle.lists.proofs.Decided.{stable, tally-yes}
+use Rattle.lists.proofs.Sums.{sum-zero, sum-prefix, sumOf-nil, sumOf-single, sumOf-append, sumOf-other, sumOf-missing}
+use Rattle.lists.proofs.Prefixes.{occ-snoc, take-more, occ-more-hit, occ-take-le, occ-early, take-same}
 use Rattle.graph.specs.Graph.{Graph, Among, predsOf, Edge}
 use Rattle.graph.specs.Conditions.{Sound, ToCycle}
+use Rattle.graph.specs.Stripping.{Strips, Whole, Left, Sink, keepIf, sink?, sinksBelow, sinksOf, Stripped}
 use Rattle.graph.proofs.Parts.{occ-preds, preds-beyond}
-use Rattle.strip.specs.Queue.{queuedAt, Sinks, Lowered}
-use Rattle.strip.proofs.Closed.{after-cycle, closed}
-use Rattle.strip.proofs.Queue.{stripped-none, stripped-le, queued-once, queued-none}
+use Rattle.graph.proofs.Stripping.{last-task, strips-short, strip-leaves}
+use Rattle.strip.specs.Queue.{stripped, queuedAt, nonesBelow, Falling, Emptied, Lowered}
+use Rattle.strip.proofs.Queue.{stripped-none, stripped-le, queued-once, queued-none, stripped-some, keep-same, falling-all, falling-emptied}
 
 -- how many of u's edges lead to the tasks of a list
 abbrev pub edgesTo : Graph → ℕ → List ℕ → ℕ
 edgesTo g u l = sumOf (λ t. occ u (predsOf g t)) l
 
--- the tasks before head took their edges away; the queued tasks are those without one left, and none has a path to a cycle
+-- the tasks before head took their edges away; the queued tasks are those without one left, in an order of stripping
 pub record Stripping (g : Graph) (left queue : List ℕ) (head tail : ℕ) : Type 0 where
-  pub sinks : Sinks 0 (g .tasks) left queue tail
+  pub emptied : Emptied (g .tasks) left queue tail
   pub reached : head ≤ tail
   pub counts : (u : ℕ) → getD left u 0 + edgesTo g u (take head queue) ≡ occ u (g .preds)
-  pub away : (u : ℕ) → Among u (take tail queue) → ¬ (ToCycle g u)
+  pub behind : (k t : ℕ) → k < tail → Edge g (getD queue k 0) t → Among t (take k queue)
+  pub some : length (sinksOf g) ≤ tail
+  pub first : take (length (sinksOf g)) queue ≡ sinksOf g
 
 -- where task t's predecessors stand
 pub record Ranges (g : Graph) (t : ℕ) : Type 0 where
@@ -39,39 +43,62 @@ pub record Ranges (g : Graph) (t : ℕ) : Type 0 where
   pub edges : length (g .preds) ≤ 8192
 
 module _ (g : Graph) (sound : Sound g) (left queue : List ℕ) where
-  -- at the start: a task without successors has no path
-  pub strip-starts : (tail : ℕ) → Sinks 0 (g .tasks) left queue tail → ((u : ℕ) → getD left u 0 ≡ occ u (g .preds)) → Stripping g left queue 0 tail
-  strip-starts tail s e =
-      record {
-        sinks = s;
-        reached = omega arith;
-        counts = λ u. omega (arith, e u, sumOf-nil (λ t. occ u (predsOf g t)));
-        away = λ u h c. none u (queued-none left queue tail (s .queued) u h) (after-cycle g u c);
-      }
-    where
-      none : (u : ℕ) → getD left u 0 ≡ 0 → (t : ℕ) × (Edge g u t × ToCycle g t) → ⊥
-      none u z w =
-          omega (arith, e u, occ-preds sound u, sum-prefix (g .tasks) (λ t. occ u (predsOf g t)) (w .0) (w .1 .0 .task), w .1 .0 .predecessor)
+  -- the counts at the start: none exactly for a task without successors
+  module _ (e : (u : ℕ) → getD left u 0 ≡ occ u (g .preds)) where
+    none-sink : (u : ℕ) → getD left u 0 ≡ 0 → Sink g u
+    none-sink u z t d = omega (arith, e u, occ-preds sound u, sum-prefix (g .tasks) (λ t. occ u (predsOf g t)) t (d .task), d .predecessor)
+
+    sink-none : (u : ℕ) → Sink g u → getD left u 0 ≡ 0
+    sink-none u s = e u ∙ occ-preds sound u ∙ sum-zero (g .tasks) (λ t. occ u (predsOf g t)) (λ t h. stable (ℕ-discrete (occ u (predsOf g t)) 0) (λ n. s t (record { task = h; predecessor = omega arith })))
+
+    nones-sinks : (n : ℕ) → nonesBelow left n ≡ sinksBelow g n
+    unfolding nonesBelow sinksBelow
+    nones-sinks zero = refl
+    nones-sinks (suc u) = keep-same (ℕ-discrete (getD left u 0) 0) (sink? g u) u (nonesBelow left u) (none-sink u) (sink-none u) ∙ ap (λ (l : List ℕ). keepIf (sink? g u) u l) (nones-sinks u)
+
+    pub strip-starts : (tail : ℕ) → length left ≡ 1024 → Falling 0 (g .tasks) left queue tail → Stripping g left queue 0 tail
+    strip-starts tail l f =
+        record {
+          emptied = m;
+          reached = omega arith;
+          counts = λ u. omega (arith, e u, sumOf-nil (λ t. occ u (predsOf g t)));
+          behind = λ k t h d. absurd (none-sink (getD queue k 0) (queued-none left queue tail (m .queued) (getD queue k 0) (occ-early queue tail k h (omega (arith, m .queued .short, m .queued .room)))) t d);
+          some = omega (arith, size);
+          first = ap (λ (k : ℕ). take k queue) size ∙ all;
+        }
+      where
+        m : Emptied (g .tasks) left queue tail
+        m = falling-emptied (g .tasks) left queue tail f (sound .sized .tasks) l
+
+        all : take tail queue ≡ sinksOf g
+        all = falling-all (g .tasks) left queue tail f ∙ nones-sinks (g .tasks)
+
+        size : length (sinksOf g) ≡ tail
+        size = ap length (sym all) ∙ length-take-le tail queue (omega (arith, m .queued .short, m .queued .room))
 
   module _ (head tail : ℕ) (s : Stripping g left queue head tail) where
     queue-length : tail ≤ length queue
-    queue-length = omega (arith, s .sinks .queued .short, s .sinks .queued .room)
+    queue-length = omega (arith, s .emptied .queued .short, s .emptied .queued .room)
 
     -- a queued task is a task
     queued-below : (u : ℕ) → Among u (take tail queue) → u < g .tasks
-    queued-below u h = stable (decLt u (g .tasks)) (λ m. omega (arith, s .sinks .beyond u (omega arith)))
+    queued-below u h = stable (decLt u (g .tasks)) (λ m. omega (arith, s .emptied .beyond u (omega arith)))
 
     module _ (k : ℕ) (k≤tail : k ≤ tail) where
       part-below : (u : ℕ) → Among u (take k queue) → u < g .tasks
       part-below u h = queued-below u (omega (arith, occ-take-le queue k tail u k≤tail))
 
       part-once : (u : ℕ) → occ u (take k queue) ≤ 1
-      part-once u = omega (arith, occ-take-le queue k tail u k≤tail, queued-once left queue tail (s .sinks .queued) u)
+      part-once u = omega (arith, occ-take-le queue k tail u k≤tail, queued-once left queue tail (s .emptied .queued) u)
 
       -- edges to some of the queued tasks and to another task
       other-edges : (u t : ℕ) → t < g .tasks → occ t (take k queue) ≡ 0 → edgesTo g u (take k queue) + occ u (predsOf g t) ≤ occ u (g .preds)
       other-edges u t h z =
           omega (arith, occ-preds sound u, sumOf-other (λ x. occ u (predsOf g x)) (g .tasks) (take k queue) part-below part-once t h z)
+
+      -- a task whose last successor goes: all of them are queued
+      last-goes : (u : ℕ) → occ u (g .preds) ≡ edgesTo g u (take k queue) → (t : ℕ) → Edge g u t → Among t (take k queue)
+      last-goes u e t d = stable (decLt 0 (occ t (take k queue))) (λ n. omega (arith, other-edges u t (d .task) (omega arith), d .predecessor))
 
     module _ (more : head < tail) where
       next-queued : Among (getD queue head 0) (take tail queue)
@@ -105,20 +132,9 @@ module _ (g : Graph) (sound : Sound g) (left queue : List ℕ) where
           ∙ sumOf-append (λ t. occ u (predsOf g t)) (take head queue) (getD queue head 0 ∷ [])
           ∙ ap (λ (m : ℕ). edgesTo g u (take head queue) + m) (sumOf-single (λ t. occ u (predsOf g t)) (getD queue head 0))
 
-      -- a task whose last successor goes has no path, as none of its successors has one
-      last-goes : (u : ℕ) → occ u (g .preds) ≡ edgesTo g u (take (head + 1) queue) → ¬ (ToCycle g u)
-      last-goes u e c = go (after-cycle g u c)
-        where
-          go : (t : ℕ) × (Edge g u t × ToCycle g t) → ⊥
-          go w = at (ℕ-discrete (occ (w .0) (take (head + 1) queue)) 0)
-            where
-              at : Dec (occ (w .0) (take (head + 1) queue) ≡ 0) → ⊥
-              at (yes z) = omega (arith, other-edges (head + 1) (omega arith) u (w .0) (w .1 .0 .task) z, w .1 .0 .predecessor)
-              at (no n) = s .away (w .0) (omega (arith, occ-take-le queue (head + 1) tail (w .0) (omega arith))) (w .1 .1)
-
       module _ (left′ queue′ : List ℕ) (tail′ : ℕ) (l : Lowered (predsOf g (getD queue head 0)) left left′ queue queue′ tail tail′) where
-        same-front : take (head + 1) queue′ ≡ take (head + 1) queue
-        same-front = take-same queue′ queue (head + 1) tail (omega arith) (l .front)
+        same-front : (k : ℕ) → k ≤ tail → take k queue′ ≡ take k queue
+        same-front k h = take-same queue′ queue k tail h (l .front)
 
         counts-next : (u : ℕ) → getD left′ u 0 + edgesTo g u (take (head + 1) queue) ≡ occ u (g .preds)
         counts-next u = omega (arith, l .counts u, s .counts u, edges-more u)
@@ -126,36 +142,80 @@ module _ (g : Graph) (sound : Sound g) (left queue : List ℕ) where
         pub strip-next : Stripping g left′ queue′ (head + 1) tail′
         strip-next =
             record {
-              sinks = record {
+              emptied = record {
                 queued = l .queued;
-                looked = λ u a b. omega (arith, l .joins u, s .sinks .looked u a b);
-                ahead = λ u h. absurd (omega arith);
+                looked = λ u h. omega (arith, l .joins u, s .emptied .looked u h);
                 beyond = λ u h. outside u h;
               };
               reached = omega (arith, l .longer);
-              counts = λ u. rw same-front (counts-next u);
-              away = λ u h. clear u h (ℕ-discrete (queuedAt queue tail u) 0);
+              counts = λ u. rw (same-front (head + 1) (omega arith)) (counts-next u);
+              behind = λ k t h d. after k t h d (decLt k tail);
+              some = omega (arith, s .some, l .longer);
+              first = same-front (length (sinksOf g)) (s .some) ∙ s .first;
             }
           where
             -- beyond the tasks nothing is counted
             outside : (u : ℕ) → g .tasks ≤ u → queuedAt queue′ tail′ u ≡ 0
-            outside u h = omega (arith, l .joins u, s .sinks .beyond u h, stripped-none left u (omega (arith, s .counts u, preds-beyond sound u h)), stripped-le left′ u)
+            outside u h = omega (arith, l .joins u, s .emptied .beyond u h, stripped-none left u (omega (arith, s .counts u, preds-beyond sound u h)), stripped-le left′ u)
 
-            clear : (u : ℕ) → Among u (take tail′ queue′) → Dec (queuedAt queue tail u ≡ 0) → ¬ (ToCycle g u)
-            clear u h (no n) = s .away u (omega arith)
-            clear u h (yes z) = last-goes u (omega (arith, counts-next u, queued-none left′ queue′ tail′ (l .queued) u h))
+            -- a task keeps its place; behind them all joins only one whose successors are all before head
+            after : (k t : ℕ) → k < tail′ → Edge g (getD queue′ k 0) t → Dec (k < tail) → Among t (take k queue′)
+            after k t h d (yes m) = rw (same-front k (omega arith)) (s .behind k t m (rw (kept k m) at d))
+              where
+                kept : (k : ℕ) → k < tail → getD queue′ k 0 ≡ getD queue k 0
+                kept k m = sym (getD-take tail queue′ k 0 m) ∙ ap (λ (x : List ℕ). getD x k 0) (l .front) ∙ getD-take tail queue k 0 m
+            after k t h d (no n) =
+                omega (
+                  arith,
+                  last-goes (head + 1) (omega arith) (getD queue′ k 0) (omega (arith, counts-next (getD queue′ k 0), queued-none left′ queue′ tail′ (l .queued) (getD queue′ k 0) (occ-early queue′ tail′ k h (omega (arith, l .queued .short, l .queued .room))))) t d,
+                  ap (occ t) (same-front (head + 1) (omega arith)),
+                  occ-take-le queue′ (head + 1) k t (omega arith),
+                )
+
+    -- the queued tasks, as an order of stripping
+    queue-strips : Strips g (take tail queue)
+    queue-strips =
+        record {
+          tasks = queued-below;
+          once = part-once tail (omega arith);
+          behind = λ k t h d. at k t (omega (arith, length-take-le tail queue queue-length)) d;
+        }
+      where
+        at : (k t : ℕ) → k < tail → Edge g (getD (take tail queue) k 0) t → Among t (take k (take tail queue))
+        at k t h d = rw (take-take k tail queue (omega arith)) (s .behind k t h (rw (getD-take tail queue k 0 h) at d))
 
     module _ (end : tail ≤ head) where
-      -- a task with successors left has one among them
-      stays : (u : ℕ) → (u < g .tasks) × (0 < getD left u 0) → (t : ℕ) × (Edge g u t × ((t < g .tasks) × (0 < getD left t 0)))
-      stays u r =
-          go (sumOf-missing (λ t. occ u (predsOf g t)) (g .tasks) (take head queue) (part-below head (s .reached)) (omega (arith, s .counts u, r .1, occ-preds sound u)))
+      -- a task all of whose successors are queued has none left, and so is queued
+      queue-whole : Whole g (take tail queue)
+      queue-whole t p = omega (arith, p .once t, occ-snoc t t (take tail queue), tally-yes (ℕ-discrete t t) refl, queued)
         where
-          go : (t : ℕ) × (t < g .tasks) × (0 < occ u (predsOf g t)) × (occ t (take head queue) ≡ 0) → (t : ℕ) × (Edge g u t × ((t < g .tasks) × (0 < getD left t 0)))
-          go w = (w .0, (record { task = w .1; predecessor = w .2 }, (w .1, stable (decLt 0 (getD left (w .0) 0)) left-over)))
-            where
-              left-over : ¬ (¬ (0 < getD left (w .0) 0))
-              left-over n = omega (arith, w .3, occ-take-le queue tail head (w .0) end, s .sinks .looked (w .0) (omega arith) (w .1), stripped-none left (w .0) (omega arith))
+          after : (v : ℕ) → Edge g t v → Among v (take tail queue)
+          after v d =
+              rw (take-append-seam (take tail queue) (t ∷ []))
+              at (p .behind (length (take tail queue)) v (omega (arith, length-append (take tail queue) (t ∷ []))) (rw (getD-append-seam (take tail queue) t [] 0) d))
 
-      pub strip-ends : (t : ℕ) → t < g .tasks → (0 < getD left t 0) ↔ ToCycle g t
-      strip-ends t h = (λ m. closed g (λ u. (u < g .tasks) × (0 < getD left u 0)) stays t (h, m), λ c. stable (decLt 0 (getD left t 0)) (λ n. s .away t (omega (arith, s .sinks .looked t (omega arith) h, stripped-none left t (omega arith))) c))
+          missing : (v : ℕ) × (v < g .tasks) × (0 < occ t (predsOf g v)) × (occ v (take head queue) ≡ 0) → ⊥
+          missing w = omega (arith, w .3, occ-take-le queue tail head (w .0) end, after (w .0) (record { task = w .1; predecessor = w .2 }))
+
+          none : getD left t 0 ≡ 0
+          none =
+              stable (ℕ-discrete (getD left t 0) 0) (λ n. missing
+              (sumOf-missing (λ v. occ t (predsOf g v)) (g .tasks) (take head queue) (part-below head (s .reached)) (omega (arith, s .counts t, occ-preds sound t))))
+
+          queued : 0 < occ t (take tail queue)
+          queued = omega (arith, s .emptied .looked t (last-task g (take tail queue) t p), stripped-none left t none)
+
+      pub strip-ends : ((tail ≤ g .tasks) × Stripped g (take tail queue)) × ((t : ℕ) → t < g .tasks → (0 < getD left t 0) ↔ ToCycle g t)
+      strip-ends = (
+        (
+          omega (arith, strips-short queue-strips, length-take-le tail queue queue-length),
+          record { strips = queue-strips; whole = queue-whole; sinks = take-take (length (sinksOf g)) tail queue (s .some) ∙ s .first },
+        ),
+        λ t h. (λ m. strip-leaves queue-strips queue-whole t h .0 (some-left t h m), λ c. left-some t h (strip-leaves queue-strips queue-whole t h .1 c)),
+      )
+        where
+          some-left : (t : ℕ) → t < g .tasks → 0 < getD left t 0 → Left (take tail queue) t
+          some-left t h m = omega (arith, s .emptied .looked t h, stripped-some left t m)
+
+          left-some : (t : ℕ) → t < g .tasks → Left (take tail queue) t → 0 < getD left t 0
+          left-some t h z = stable (decLt 0 (getD left t 0)) (λ n. omega (arith, s .emptied .looked t h, stripped-none left t (omega arith)))

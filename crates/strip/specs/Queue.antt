@@ -1,12 +1,13 @@
 -- The queue of tasks without remaining successors: the words of `queue` before `tail`.
-use Prim.Native.Nat.{ℕ, _+_, _≤_, _<_}
+use Prim.Native.Nat.{ℕ, zero, suc, _+_, _≤_, _<_}
 use mathlib.Core.Path.{_≡_}
-use mathlib.Core.List.{List}
+use mathlib.Core.List.{List, [], _++_}
 use native.Mathlib.Decide.{ℕ-discrete}
 use lib.ListN.{length, getD, take}
 use Rattle.lists.specs.Decided.{tally}
 use Rattle.lists.specs.Lists.{occ}
 use Rattle.graph.specs.Graph.{Among}
+use Rattle.graph.specs.Stripping.{keepIf}
 
 -- 1 where task u has no successor left, otherwise 0
 abbrev pub stripped : List ℕ → ℕ → ℕ
@@ -24,17 +25,21 @@ pub record Queued (left queue : List ℕ) (tail : ℕ) : Type 0 where
   pub below : (u : ℕ) → Among u (take tail queue) → u < 1024
   pub few : (u : ℕ) → queuedAt queue tail u ≤ stripped left u
 
--- task t is queued if it has no successor left; no other is
-pub record Looked (left queue queue′ : List ℕ) (tail tail′ t : ℕ) : Type 0 where
-  pub queued : Queued left queue′ tail′
-  pub here : queuedAt queue′ tail′ t ≡ stripped left t
-  pub others : (u : ℕ) → ¬ (u ≡ t) → queuedAt queue′ tail′ u ≡ queuedAt queue tail u
+-- the tasks below n without successors left, falling
+unfoldable pub nonesBelow : List ℕ → ℕ → List ℕ
+nonesBelow left zero = []
+nonesBelow left (suc u) = keepIf (ℕ-discrete (getD left u 0) 0) u (nonesBelow left u)
 
--- of the tasks from k up to n, those without successors are queued; no other is
-pub record Sinks (k n : ℕ) (left queue : List ℕ) (tail : ℕ) : Type 0 where
+-- of the tasks from k up to n, those without successors are queued, falling
+pub record Falling (k n : ℕ) (left queue : List ℕ) (tail : ℕ) : Type 0 where
+  pub room : length queue ≡ 1024
+  pub few : tail + k ≤ n
+  pub falls : take tail queue ++ nonesBelow left k ≡ nonesBelow left n
+
+-- of the tasks below n, those without successors left are queued; no other is
+pub record Emptied (n : ℕ) (left queue : List ℕ) (tail : ℕ) : Type 0 where
   pub queued : Queued left queue tail
-  pub looked : (u : ℕ) → k ≤ u → u < n → queuedAt queue tail u ≡ stripped left u
-  pub ahead : (u : ℕ) → u < k → queuedAt queue tail u ≡ 0
+  pub looked : (u : ℕ) → u < n → queuedAt queue tail u ≡ stripped left u
   pub beyond : (u : ℕ) → n ≤ u → queuedAt queue tail u ≡ 0
 
 -- each word took one successor from its task; a task is queued behind the others when its last one goes

@@ -3,17 +3,19 @@
 ghost use mathlib.Core.Path.{_≡_};
 ghost use mathlib.Core.Logic.{_↔_};
 ghost use Prim.Native.Nat.{ℕ, _+_, _≤_, _<_};
-ghost use mathlib.Core.List.{[], _∷_};
-ghost use lib.ListN.{length, getD};
+ghost use mathlib.Core.List.{[], _∷_, _++_};
+ghost use native.Mathlib.Decide.{ℕ-discrete};
+ghost use lib.ListN.{length, getD, take};
 ghost use Rattle.lists.specs.Lists.{occ};
 ghost use Rattle.graph.specs.Graph.{graphOf};
 ghost use Rattle.graph.specs.Conditions.{Sound, ToCycle};
-ghost use Rattle.strip.specs.Queue.{queuedAt, Queued, Looked, Sinks, Lowered};
+ghost use Rattle.graph.specs.Stripping.{keepIf, Stripped};
+ghost use Rattle.strip.specs.Queue.{Queued, Falling, Lowered};
 
 // Queues the tasks without successors, the last first, and answers how many there are.
 fn queue_sinks(n: usize, left: &[u32], queue: &mut [u32]) -> usize
     requires { ⌜ (n ≤ 1024) × ((length (now left) ≡ 1024) × (length (now queue) ≡ 1024)) ⌝ }
-    ensures { λ r. ⌜ Sinks 0 n (now (left .entry)) (now (queue .exit)) r ⌝ }
+    ensures { λ r. ⌜ Falling 0 n (now (left .entry)) (now (queue .exit)) r ⌝ }
 {
     let mut tail = 0;
     let mut t = n;
@@ -26,8 +28,11 @@ fn queue_sinks(n: usize, left: &[u32], queue: &mut [u32]) -> usize
 
 // Queues task t if it has no remaining successor.
 fn queue_if(left: &[u32], queue: &mut [u32], tail: usize, t: usize) -> usize
-    requires { ⌜ Queued (now left) (now queue) tail × ((t < 1024) × (queuedAt (now queue) tail t ≡ 0)) ⌝ }
-    ensures { λ r. ⌜ Looked (now (left .entry)) (now (queue .entry)) (now (queue .exit)) tail r t ⌝ }
+    requires { ⌜ ((t < length (now left)) × (t < 1024)) × (tail < length (now queue)) ⌝ }
+    ensures { λ r. ⌜
+        (take r (now (queue .exit)) ≡ take tail (now (queue .entry)) ++ keepIf (ℕ-discrete (getD (now (left .entry)) t 0) 0) t [])
+        × (r ≤ tail + 1)
+        ⌝ }
 {
     if left[t] == 0 {
         queue[tail] = t as u32;
@@ -65,21 +70,26 @@ fn lower_all(words: &[u32], left: &mut [u32], queue: &mut [u32], from: usize) ->
     tail
 }
 
-// From the numbers of successors in `left`: a task is left with some exactly if it is on a cycle or has a path to one.
-pub fn strip(n: usize, starts: &[u32], preds: &[u32], left: &mut [u32], queue: &mut [u32])
+// From the numbers of successors in `left`: the order in which the tasks are stripped, and how many they are. A task is
+// left with some successor exactly if it is on a cycle or has a path to one.
+pub fn strip(n: usize, starts: &[u32], preds: &[u32], left: &mut [u32], order: &mut [u32]) -> usize
     requires { ⌜
-        Sound (graphOf n (now starts) (now preds)) × ((length (now left) ≡ 1024) × ((length (now queue) ≡ 1024)
+        Sound (graphOf n (now starts) (now preds)) × ((length (now left) ≡ 1024) × ((length (now order) ≡ 1024)
         × ((u : ℕ) → getD (now left) u 0 ≡ occ u (now preds))))
         ⌝ }
-    ensures { λ r. ⌜ ((t : ℕ) → t < n → (0 < getD (now (left .exit)) t 0) ↔ ToCycle (graphOf n (now (starts .entry)) (now (preds .entry))) t) ⌝ }
+    ensures { λ r. ⌜
+        ((r ≤ n) × Stripped (graphOf n (now (starts .entry)) (now (preds .entry))) (take r (now (order .exit))))
+        × ((t : ℕ) → t < n → (0 < getD (now (left .exit)) t 0) ↔ ToCycle (graphOf n (now (starts .entry)) (now (preds .entry))) t)
+        ⌝ }
 {
-    let mut tail = queue_sinks(n, left, queue);
+    let mut tail = queue_sinks(n, left, order);
     let mut head = 0;
     while head < tail {
-        let t = queue[head] as usize;
+        let t = order[head] as usize;
         let a = starts[t] as usize;
         let e = starts[t + 1] as usize;
-        tail = lower_all(&preds[a..e], left, queue, tail);
+        tail = lower_all(&preds[a..e], left, order, tail);
         head += 1;
     }
+    tail
 }

@@ -4,7 +4,8 @@ use mathlib.Core.Logic.{⊎-elim}
 use native.Mathlib.Omega.{arith}
 use borrow.Author.Count.{below-none, below-more}
 use Rattle.graph.specs.Graph.{graphOf}
-use Rattle.cycles.proofs.First.{NoneBelow, stripped-off, asked-off, found-first, none-first}
+use Rattle.cycles.specs.Ranks.{NoneBelow}
+use Rattle.cycles.proofs.First.{stripped-off, asked-off, found-first, none-first}
 use Rattle.cycles.proofs.search.Statement.{statement}
 use Rattle.cycles.proofs.search.Tie as tie
 

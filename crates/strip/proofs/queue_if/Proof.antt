@@ -1,6 +1,6 @@
--- A task that is not queued finds room; queued or not, its count says which.
+-- Queued or not, its count says which.
 use native.Mathlib.Omega.{arith}
-use Rattle.strip.proofs.Queue.{room-for, looked-none, looked-some}
+use Rattle.strip.proofs.Queue.{queue-one, queue-none}
 use borrow.Author.Needs.{needs}
 use Rattle.strip.proofs.queue_if.Statement.{statement}
 use Rattle.strip.proofs.queue_if.Tie as tie
@@ -18,7 +18,7 @@ mul-queue : tie.Need-mul-queue
 mul-queue c = search needs
 
 slice-write-queue : tie.Need-slice-write-queue
-slice-write-queue c = let p = c .before .before .pre in omega (arith, room-for _ _ _ (p .0) _ (p .1 .0) (p .1 .1))
+slice-write-queue c = search needs
 
 add-result : tie.Need-add-result
 add-result c = search needs
@@ -27,10 +27,10 @@ same-length : tie.Need-same-length
 same-length c = search needs
 
 returns : tie.Need-returns
-returns c = let p = c .before .before .pre in looked-none _ _ _ (p .0) _ (p .1 .0) (p .1 .1) (search needs)
+returns c = let a = c .before .before .args in (queue-one (a .left .now) (a .queue .now) (a .tail) (a .t) (c .before .before .pre .1) (c .if1 .taken), omega arith)
 
 returns-2 : tie.Need-returns-2
-returns-2 c = let p = c .before .before .pre in looked-some _ _ _ (p .0) _ (p .1 .0) (p .1 .1) (search needs)
+returns-2 c = let a = c .before .before .args in (queue-none (a .left .now) (a .queue .now) (a .tail) (a .t) (c .if1 .left), omega arith)
 
 pub queue-if-spec : {M : Type 1} → statement M
 queue-if-spec =

@@ -1,4 +1,4 @@
--- The loop keeps `Stripping`. Where the queue is used up, each task with successors left has one among them.
+-- The loop keeps `Stripping`. Where the queue is used up, no task can prolong it.
 use native.Mathlib.Omega.{arith}
 use Prim.Native.Nat.{_-_}
 use lib.ListN.{getD}
@@ -8,10 +8,10 @@ use Rattle.strip.proofs.strip.Statement.{statement}
 use Rattle.strip.proofs.strip.Tie as tie
 
 abbrev Inv-loop : tie.InvT-loop
-Inv-loop n starts preds left₀ queue₀ tail₀ head₀ left queue tail head = Stripping (graphOf n starts preds) left queue head tail
+Inv-loop n starts preds left₀ order₀ tail₀ head₀ left order tail head = Stripping (graphOf n starts preds) left order head tail
 
 abbrev μ-loop : tie.MeasureT-loop
-μ-loop n starts preds left₀ queue₀ tail₀ head₀ left queue tail head = 1024 - head
+μ-loop n starts preds left₀ order₀ tail₀ head₀ left order tail head = 1024 - head
 
 abbrev entry : tie.In-loop Inv-loop μ-loop → tie.Start Inv-loop μ-loop
 entry c = c .before .before .before .before .before .before .before .before .before .before .before
@@ -20,7 +20,7 @@ abbrev graph : tie.In-loop Inv-loop μ-loop → Graph
 graph c = graphOf (entry c .args .n) (entry c .args .starts .now) (entry c .args .preds .now)
 
 -- where the predecessors of the next task stand
-next : (c : tie.In-loop Inv-loop μ-loop) → Ranges (graph c) (getD (c .before .loop .queue) (c .before .loop .head) 0)
+next : (c : tie.In-loop Inv-loop μ-loop) → Ranges (graph c) (getD (c .before .loop .order) (c .before .loop .head) 0)
 next c = next-ranges (graph c) (entry c .pre .0) _ _ _ _ (c .before .loop .inv) (c .loop-test .taken)
 
 queue-sinks-requires : tie.Need-queue-sinks-requires Inv-loop μ-loop
@@ -28,7 +28,7 @@ queue-sinks-requires c κs = omega arith
 
 loop-holds : tie.Need-loop-holds Inv-loop μ-loop
 loop-holds c =
-    let p = c .before .before .before .before .before .before .before .before .before .pre in strip-starts _ (p .0) _ _ _ (c .before .before .queue-sinks .ensures) (p .1 .1 .1)
+    let p = c .before .before .before .before .before .before .before .before .before .pre in strip-starts _ (p .0) _ _ (p .1 .1 .1) _ (p .1 .0) (c .before .before .queue-sinks .ensures)
 
 mul-t : tie.Need-mul-t Inv-loop μ-loop
 mul-t c = omega arith
@@ -76,7 +76,7 @@ lower-all-requires : tie.Need-lower-all-requires Inv-loop μ-loop
 unfolding part
 lower-all-requires c κs =
     let m = c .before .before .before .before .before .before in
-    (m .before .loop .inv .sinks .queued, next-counts (graph m) (entry m .pre .0) _ _ _ _ (m .before .loop .inv) (m .loop-test .taken))
+    (m .before .loop .inv .emptied .queued, next-counts (graph m) (entry m .pre .0) _ _ _ _ (m .before .loop .inv) (m .loop-test .taken))
 
 add-head : tie.Need-add-head Inv-loop μ-loop
 add-head c = omega arith
