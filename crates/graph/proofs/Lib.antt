@@ -7,3 +7,4 @@ pub mod Lookup
 pub mod Linked
 pub mod Closed
 pub mod Stripping
+pub mod StripExamples
