@@ -1,7 +1,8 @@
 //! A model of the engine, written from documents 01 and 02 and not from the proved code: its graph layer, its reader and
 //! writer of texts, begin and the four steps, load windows, and the desk program; and the generators of the trials.
 //!
-//! `trials` lists the graphs from fixed seeds, `text` spells them as lines, and `model` says what each must answer.
+//! `trials` lists the graphs from fixed seeds, `text` spells them as lines, and `model` says what each must answer; `cyclic` has
+//! large graphs with cycles.
 //! `texts` lists the task texts, `frames` frames them, and `reader` says what each must answer; `plain` is a reader as one
 //! would write it without proofs, to compare costs with. `writer` says what saving a graph as a text must answer,
 //! `saves` draws the graphs and compares, and `plain_writer` is the plain one.
@@ -19,6 +20,7 @@
 //! `rule`, `weak_rule` and `refusals` make the tables that stand in the pages of `docs`, and `pages` puts them there.
 
 pub mod beside;
+pub mod cyclic;
 pub mod damages;
 pub mod demand3;
 pub mod desk;

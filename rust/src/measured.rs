@@ -1,7 +1,8 @@
 //! The runs that the engines are measured on: a random graph in layers, from a fixed seed, and the accepted steps of one run;
-//! the run that the preview is measured on, at its limits; the graphs that the writers are measured on, and the finished records
-//! that load windows are.
+//! the run that the preview is measured on, at its limits; the graphs that the writers are measured on, the finished records
+//! that load windows are, and graphs with cycles.
 
+use crate::cyclic::Shape;
 use crate::draw::Draw;
 use crate::engine::{Engine, Limits};
 use crate::frames::LENT;
@@ -51,6 +52,12 @@ pub fn memory(tasks: usize, workers: usize) -> Memory {
 pub fn weak_memory(tasks: usize, workers: usize) -> weak::Memory {
     let Graph { weights, preds } = graph(tasks);
     weak::Memory::sized(weights, preds.starts, preds.words, workers, SLOTS, FILL)
+}
+
+/// The lent memory of a graph of this shape with that many tasks and about eight edges for each, whose begin is refused with 5.
+pub fn looped_memory(shape: Shape, tasks: usize, workers: usize) -> Memory {
+    let Graph { weights, preds } = shape.graph(tasks, EDGES_PER_TASK * tasks, SEED);
+    Memory::sized(weights, preds.starts, preds.words, workers, SLOTS, FILL)
 }
 
 /// The lent memory of a graph with N, E, P and K at the preview's limits, before begin.

@@ -180,11 +180,15 @@ impl Graph {
         }
     }
 
-    /// Whether a path of one edge or more leads from the task back to itself: all that can be reached from the task against
+    /// Whether a path of one edge or more leads from the task back to itself. Tasks behind or before a cycle don't count
+    /// (docs/DECISIONS.md).
+    pub fn on_cycle(&self, task: usize) -> bool {
+        self.leads(task, task)
+    }
+
+    /// Whether a path of one edge or more leads from one task to the other: all that can be reached from the latter against
     /// the edges is visited, each number once.
-    ///
-    /// Tasks behind or before a cycle don't count (docs/DECISIONS.md).
-    fn on_cycle(&self, task: usize) -> bool {
+    fn leads(&self, from: usize, task: usize) -> bool {
         let mut reached = vec![false; self.n()];
         let mut waiting = vec![task];
         while let Some(next) = waiting.pop() {
@@ -196,7 +200,30 @@ impl Graph {
                 }
             }
         }
-        reached[task]
+        reached[from]
+    }
+
+    /// "strip tasks without remaining successors": the tasks in the order in which they go, each time the one that `choose`
+    /// takes of those that can, until none can.
+    ///
+    /// Document 02, No. 7: "Show that the tasks left are exactly those on a cycle or with a path of edges to one".
+    pub fn strip(&self, mut choose: impl FnMut(&[usize]) -> usize) -> Vec<usize> {
+        let mut order = Vec::new();
+        loop {
+            let gone = |task: &usize| order.contains(task);
+            let can_go = |task: &usize| self.successors(*task).iter().all(|&later| gone(&(later as usize)));
+            let next: Vec<usize> = (0..self.n()).filter(|task| !gone(task) && can_go(task)).collect();
+            if next.is_empty() {
+                return order;
+            }
+            order.push(next[choose(&next)]);
+        }
+    }
+
+    /// "on a cycle or with a path of edges to one"
+    pub fn leads_to_cycle(&self, task: usize) -> bool {
+        let cycles = |&other: &usize| self.on_cycle(other) && (other == task || self.leads(task, other));
+        (0..self.n()).any(|other| cycles(&other))
     }
 
     /// "Order in begin: 2, 1, 3, 4, 5, 6": what comes after 1, without 6.

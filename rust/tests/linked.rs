@@ -1,5 +1,6 @@
 //! The proved code, called through its exports, against the model, on the stored trials and on further ones.
 
+use engine_model::cyclic::SHAPES;
 use engine_model::exports::Reply;
 use engine_model::model::{check, link, Answer, Graph, Lent, Limits, Lookup, Side};
 use engine_model::text::{GraphTrial, LookupTrial, Trial};
@@ -204,4 +205,15 @@ fn the_stored_trials() {
 #[test]
 fn further_trials() {
     (100..110).for_each(|seed| compare(&trials::further(seed, 5_000)));
+}
+
+#[test]
+fn graphs_with_cycles_of_all_sizes() {
+    for (seed, tasks) in (0..).zip([4, 5, 6, 7, 9, 16, 33, 100, 257, 600, 1_023, 1_024]) {
+        for (_, shape) in SHAPES {
+            for edges in [2, 3, 8] {
+                compare_graph(&GraphTrial::of(shape.graph(tasks, edges * tasks, seed)));
+            }
+        }
+    }
 }

@@ -2,11 +2,12 @@
 //! runs that costs are compared on.
 
 use engine_model::beside::{compare, compare_all, Side, ANSWERS, STEP_ANSWERS};
+use engine_model::cyclic::SHAPES;
 use engine_model::damages;
 use engine_model::engine::MODEL;
 use engine_model::measured;
 use engine_model::proved_engine;
-use engine_model::runs::{next_case, runs_of_one_graph};
+use engine_model::runs::{next_case, runs_of_one_graph, Call, Case};
 
 const PROVED: Side = Side {
     beside: MODEL,
@@ -51,5 +52,19 @@ fn the_measured_runs() {
         let counts =
             compare(&case, &PROVED, 0).unwrap_or_else(|parted| panic!("{tasks} tasks, {workers} workers: {parted}"));
         assert_eq!(counts[0], 1 + 3 * tasks + measured::EDGES_PER_TASK * tasks);
+    }
+}
+
+#[test]
+fn begins_refused_for_a_cycle() {
+    let (p, k) = (4, measured::SLOTS);
+    for (name, shape) in SHAPES {
+        for tasks in [4, 64, 256, 1_024] {
+            let memory = measured::looped_memory(shape, tasks, p);
+            let calls = vec![Call::Begin { p, k }];
+            let case = Case { memory, p, k, calls };
+            let counts = compare(&case, &PROVED, 3).unwrap_or_else(|parted| panic!("{name}, {tasks} tasks: {parted}"));
+            assert_eq!(counts[5], 1, "{name}, {tasks} tasks");
+        }
     }
 }

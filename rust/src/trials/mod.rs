@@ -4,7 +4,7 @@
 pub(crate) mod damage;
 mod limits;
 mod lookups;
-pub(crate) mod random;
+pub mod random;
 mod small;
 
 use crate::draw::Draw;
