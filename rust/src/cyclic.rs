@@ -6,11 +6,11 @@ use crate::trials::random::{acyclic, add_edge, weighed, Lists};
 
 #[derive(Clone, Copy, Debug, PartialEq, Eq)]
 pub enum Shape {
-    /// A core in which each task waits for all others, a chain of low numbers behind it, and a cycle of two at its end.
+    /// A core in which each task waits for all others, a chain of low numbers behind it, and a cycle of two at the chain's end.
     DenseCore,
     /// A chain of low numbers, each with edges to later ones, before a cycle of two.
     LongChain,
-    /// A graph without cycles but for the last two tasks, so that nearly all others are on a way there.
+    /// A graph without cycles, and behind it a cycle of the last two tasks.
     TwoAtTheEnd,
     /// One cycle over all tasks but the first, and in it a cycle over all of these but two, and so on.
     Nested,
@@ -34,36 +34,45 @@ impl Shape {
         SHAPES.iter().find(|shape| shape.0 == name).map(|shape| shape.1)
     }
 
-    /// The graph of this shape with `tasks` tasks, at least 4, and about `edges` edges, at least 2 for each task and no more.
+    /// The graph of this shape with `tasks` tasks, at least 4, and `edges` edges, or some fewer where these don't fit.
     pub fn graph(self, tasks: usize, edges: usize, seed: u64) -> Graph {
         let mut draw = Draw::new(seed);
         let mut lists = match self {
             Shape::DenseCore => dense_core(tasks, edges),
-            Shape::LongChain => chain(tasks),
-            Shape::TwoAtTheEnd => acyclic(&mut draw, tasks - 2, edges / 2),
+            Shape::LongChain => before_two(chain(tasks - 2)),
+            Shape::TwoAtTheEnd => before_two(acyclic(&mut draw, tasks - 2, edges)),
             Shape::Nested => nested(tasks),
             Shape::AllLoops => (0..tasks).map(|task| vec![word(task)]).collect(),
             Shape::Random => vec![Vec::new(); tasks],
         };
-        lists.resize(tasks, Vec::new());
-        if matches!(self, Shape::DenseCore | Shape::LongChain | Shape::TwoAtTheEnd) {
-            two_at_the_end(&mut lists);
-        }
-        for _ in count(&lists)..edges {
+        let mut missing = edges.saturating_sub(lists.iter().map(Vec::len).sum());
+        for _ in 0..4 * edges {
             let (u, t) = (draw.below(tasks), draw.below(tasks));
-            match self {
-                Shape::Random | Shape::Nested => add_edge(&mut lists, word(u), word(t)),
-                // a further edge rises, and so closes no further cycle
-                _ if u < t => add_edge(&mut lists, word(u), word(t)),
-                _ => (),
+            if missing > 0 && self.admits(u, t, &lists) {
+                lists[t].push(word(u));
+                missing -= 1;
             }
         }
         weighed(&mut draw, &lists)
     }
+
+    /// Whether a further edge from u to t leaves the shape what it is.
+    fn admits(self, u: usize, t: usize, lists: &Lists) -> bool {
+        let fits = match self {
+            Shape::DenseCore => u < t && lists[t].len() < 16 && t < chained(lists),
+            Shape::LongChain | Shape::AllLoops => u < t,
+            Shape::TwoAtTheEnd => false,
+            Shape::Nested => t > 0,
+            Shape::Random => true,
+        };
+        fits && !lists[t].contains(&word(u))
+    }
 }
 
-fn count(lists: &Lists) -> usize {
-    lists.iter().map(Vec::len).sum()
+/// How many tasks, from 0 on, are in a chain: the next one doesn't wait for the one before it.
+fn chained(lists: &Lists) -> usize {
+    let broken = |&task: &usize| !lists[task].contains(&word(task - 1));
+    (1..lists.len()).find(broken).unwrap_or(lists.len())
 }
 
 /// 0 → 1 → … → N−1.
@@ -73,19 +82,19 @@ fn chain(tasks: usize) -> Lists {
         .collect()
 }
 
-/// The last two tasks wait for each other, and one of them for the task before.
-fn two_at_the_end(lists: &mut Lists) {
-    let last = word(lists.len() - 1);
-    add_edge(lists, last - 2, last - 1);
-    add_edge(lists, last - 1, last);
-    add_edge(lists, last, last - 1);
+/// The graph with two more tasks, which wait for each other, and one of them for the last task before.
+fn before_two(mut lists: Lists) -> Lists {
+    let first = word(lists.len());
+    lists.push(vec![first - 1, first + 1]);
+    lists.push(vec![first]);
+    lists
 }
 
-/// The core takes three quarters of the edges.
+/// A core that takes up to three quarters of the edges, behind it the chain, which has the low numbers, then the cycle of two.
 fn dense_core(tasks: usize, edges: usize) -> Lists {
-    let most = (tasks - 2).max(2) - 1;
-    let size = (2..=most)
-        .take_while(|&size| size * size <= edges - edges / 4)
+    let most = tasks - 3;
+    let size = (1..=most)
+        .take_while(|size| 4 * size * size <= 3 * edges)
         .last()
         .unwrap_or(1);
     let first = tasks - 2 - size;
@@ -96,11 +105,12 @@ fn dense_core(tasks: usize, edges: usize) -> Lists {
             .map(|task| core.clone().filter(|&other| other != task).collect()),
     );
     lists[0].push(core.start);
-    lists.resize(tasks, Vec::new());
-    add_edge(&mut lists, word(first - 1), word(tasks - 2));
+    lists.push(vec![word(first - 1), word(tasks - 1)]);
+    lists.push(vec![word(tasks - 2)]);
     lists
 }
 
+/// 0 → 1 → … → N−1, and an edge back to 1 from the last task, to 2 from the one before it, and so on.
 fn nested(tasks: usize) -> Lists {
     let mut lists = chain(tasks);
     for (inner, outer) in (1..tasks)
