@@ -6,6 +6,7 @@ ghost use mathlib.Core.List.{[], _∷_};
 ghost use Prim.Native.Nat.{ℕ, _+_, _≤_, _<_};
 ghost use lib.ListN.{length, getD, take};
 ghost use Rattle.lists.specs.Decided.{holds};
+ghost use Rattle.lists.specs.Lists.{occ};
 ghost use Rattle.graph.specs.Graph.{Among, part, graphOf, Edge, Leads};
 ghost use Rattle.graph.specs.Conditions.{Good, Sound, ToCycle};
 ghost use Rattle.graph.specs.Decide.{onCycle?};
@@ -207,31 +208,39 @@ pub struct Judged {
     pub stripped: usize,
 }
 
-// Strips the tasks into `order`, and judges those left. Where ranks don't tell, they are asked one by one.
-pub fn first_on_cycle(n: usize, starts: &[u32], preds: &[u32], order: &mut [u32]) -> Judged
-    requires { ⌜ Sound (graphOf n (now starts) (now preds)) × (length (now order) ≡ 1024) ⌝ }
+// From the numbers of successors in `left`: strips the tasks into `order`, and judges those left. Where ranks don't tell,
+// they are asked one by one.
+pub fn first_on_cycle(
+    n: usize,
+    starts: &[u32],
+    preds: &[u32],
+    left: &mut [u32],
+    order: &mut [u32],
+) -> Judged
+    requires { ⌜
+        Sound (graphOf n (now starts) (now preds)) × ((length (now left) ≡ 1024) × ((length (now order) ≡ 1024)
+        × ((u : ℕ) → getD (now left) u 0 ≡ occ u (now preds))))
+        ⌝ }
     ensures { λ r. ⌜
         (r .first ≡ firstOnCycle (graphOf n (now (starts .entry)) (now (preds .entry))))
         × ((r .stripped ≤ n) × Stripped (graphOf n (now (starts .entry)) (now (preds .entry))) (take (r .stripped) (now (order .exit))))
         ⌝ }
 {
-    let mut left = [0u32; 1024];
-    tables::count_words(preds, &mut left);
-    let stripped = strip::strip(n, starts, preds, &mut left, order);
+    let stripped = strip::strip(n, starts, preds, left, order);
     if stripped == n {
         return Judged {
             first: n,
             stripped: stripped,
         };
     }
-    let first = by_ranks(n, starts, preds, &left);
+    let first = by_ranks(n, starts, preds, left);
     if first < n {
         return Judged {
             first: first,
             stripped: stripped,
         };
     }
-    let asked = search(n, starts, preds, &left);
+    let asked = search(n, starts, preds, left);
     Judged {
         first: asked,
         stripped: stripped,

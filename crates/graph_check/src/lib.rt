@@ -40,11 +40,12 @@ pub fn check_tables(n: usize, starts: &[u32], preds: &[u32], order: &mut [u32]) 
     if !tables::ends_fit(n, starts, preds) {
         return refused(refusal::BAD_TABLE, n as u32);
     }
-    let twice = tables::first_twice(n, starts, preds);
+    let mut left = [0u32; 1024];
+    let twice = tables::first_twice(n, starts, preds, &mut left);
     if twice < n {
         return refused(refusal::DUPLICATE, twice as u32);
     }
-    let judged = cycles::first_on_cycle(n, starts, preds, order);
+    let judged = cycles::first_on_cycle(n, starts, preds, &mut left, order);
     let looped = judged.first;
     let stripped = judged.stripped;
     if looped < n {

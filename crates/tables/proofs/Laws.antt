@@ -3,24 +3,28 @@ use Prim.Native.Nat.{ℕ, _+_, _-_, _≤_, _<_}
 use mathlib.Core.Path.{_≡_, refl, sym, _∙_}
 use mathlib.Core.List.{List}
 use native.Mathlib.Omega.{arith}
-use native.Mathlib.Decide.{ℕ-discrete, decLt}
+use native.Mathlib.Decide.{ℕ-discrete, decLe, decLt}
+use native.Mathlib.Numerals.{add-one}
 use mathlib.Core.Bool.{Bool, true, false, not, _&&_}
 use borrow.Author.Tests.{eq-eqb, ne-eqb, not-true, not-false, leb-true, ltb-true, ltb-false}
 use borrow.Author.Count.{below-more}
 use lib.Dec.{leb, ltb, eqb}
-use lib.ListN.{length, getD, set, take, drop}
+use lib.ListN.{length, getD, set, take, drop, length-take, length-drop}
 use lib.Seq.{take-all, length-take-le, getD-set-same, getD-set-other}
 use Rattle.lists.specs.Lists.{occ}
+use Rattle.lists.specs.Sums.{sumTo}
 use Rattle.lists.specs.Decided.{holds}
 use Rattle.lists.proofs.Decided.{stable, yes-holds, no-holds, holds-yes, holds-no, first-is, first-none}
 use Rattle.lists.proofs.Apart.{true-and-false}
 use Rattle.lists.proofs.Told.{and-true}
 use Rattle.task.specs.Types.{capped}
 use Rattle.task.specs.declared.Limits.{Limits}
-use Rattle.graph.specs.Graph.{Among, part, graphOf}
+use Rattle.graph.specs.Graph.{Among, part, Graph, graphOf, predsOf}
 use Rattle.graph.specs.Conditions.{Good, Twice, Sound}
 use Rattle.graph.specs.Decide.{light?, among?, good?, bad?, endsFit?, twiceIn?, twice?}
 use Rattle.graph.specs.Check.{sizesFit, firstBad, firstTwice}
+use Rattle.graph.proofs.Parts.{occ-preds}
+use Rattle.lists.proofs.Sums.{sum-suc}
 use Rattle.tables.specs.Ranges.{RangesRise}
 use Rattle.lists.proofs.Occurrences.{occ-nil, occ-le-length, occ-split, at-occ, occ-at}
 use Rattle.lists.proofs.Prefixes.{occ-more-hit, occ-more-miss}
@@ -33,30 +37,30 @@ inside-among u a k words h = omega (arith, occ-split ℕ-discrete u k (drop a wo
 pub word-below : (words : List ℕ) (i : ℕ) → i < length words → (n : ℕ) → ((u : ℕ) → Among u words → u < n) → getD words i 0 < n
 word-below words i h n f = f (getD words i 0) (at-occ ℕ-discrete 0 words i h)
 
--- After i words each count is how often its number stands among them.
-pub record Counted (words counts : List ℕ) (i : ℕ) : Type 0 where
-  pub count : (u : ℕ) → getD counts u 0 ≡ occ u (take i words)
+-- After i words each count has grown by how often its number stands among them.
+pub record Counted (words base counts : List ℕ) (i : ℕ) : Type 0 where
+  pub count : (u : ℕ) → getD counts u 0 ≡ getD base u 0 + occ u (take i words)
 
-pub count-none : (words counts : List ℕ) → ((u : ℕ) → getD counts u 0 ≡ 0) → Counted words counts 0
-count-none words counts f = record { count = λ u. f u ∙ sym (occ-nil ℕ-discrete u) }
+pub count-none : (words base : List ℕ) → Counted words base base 0
+count-none words base = record { count = λ u. omega (arith, occ-nil ℕ-discrete u) }
 
-module _ {words counts : List ℕ} {i : ℕ} (k : Counted words counts i) where
-  pub count-small : i ≤ length words → (u : ℕ) → getD counts u 0 ≤ i
+module _ {words base counts : List ℕ} {i : ℕ} (k : Counted words base counts i) where
+  pub count-small : i ≤ length words → (u : ℕ) → getD counts u 0 ≤ getD base u 0 + i
   count-small h u = omega (arith, k .count u, occ-le-length ℕ-discrete u (take i words), length-take-le i words h)
 
   pub count-turn : i < length words → getD words i 0 < length counts
-      → Counted words (set counts (getD words i 0) (getD counts (getD words i 0) 0 + 1)) (i + 1)
+      → Counted words base (set counts (getD words i 0) (getD counts (getD words i 0) 0 + 1)) (i + 1)
   count-turn h m = record { count = λ u. go u (ℕ-discrete u (getD words i 0)) }
     where
       go : (u : ℕ) → Dec (u ≡ getD words i 0)
-          → getD (set counts (getD words i 0) (getD counts (getD words i 0) 0 + 1)) u 0 ≡ occ u (take (i + 1) words)
+          → getD (set counts (getD words i 0) (getD counts (getD words i 0) 0 + 1)) u 0 ≡ getD base u 0 + occ u (take (i + 1) words)
       go u (yes e) =
           rw e
           (omega (arith, getD-set-same counts (getD words i 0) (getD counts (getD words i 0) 0 + 1) 0 m, k .count (getD words i 0), occ-more-hit words i h (getD words i 0) refl))
       go u (no n) =
           omega (arith, getD-set-other counts (getD words i 0) u (getD counts (getD words i 0) 0 + 1) 0 n, k .count u, occ-more-miss words i h u n)
 
-  pub count-whole : length words ≤ i → (u : ℕ) → getD counts u 0 ≡ occ u words
+  pub count-whole : length words ≤ i → (u : ℕ) → getD counts u 0 ≡ getD base u 0 + occ u words
   count-whole h u = rw (take-all i words h) at (k .count u)
 
 -- Sizes and weights.
@@ -261,3 +265,27 @@ module _ {n : ℕ} {starts preds : List ℕ} (s : Sound (graphOf n starts preds)
   pub twice-none : n ≤ t → ((k : ℕ) → k < t → ¬ (Twice (graphOf n starts preds) k)) → n ≡ firstTwice (graphOf n starts preds)
   unfolding firstTwice
   twice-none h f = first-none n (twice? (graphOf n starts preds)) (λ k l. f k (omega arith))
+
+pub part-short : (starts words : List ℕ) (t n : ℕ) → length words ≤ n → length (take (getD starts (t + 1) 0 - getD starts t 0) (drop (getD starts t 0) words)) ≤ n
+part-short starts words t n h =
+    omega (arith, length-take (getD starts (t + 1) 0 - getD starts t 0) (drop (getD starts t 0) words), length-drop (getD starts t 0) words)
+
+-- The words of the parts before t, counted; each stands there at most once in a part.
+pub record Tallied (g : Graph) (counts : List ℕ) (t : ℕ) : Type 0 where
+  pub count : (u : ℕ) → getD counts u 0 ≡ sumTo t (λ k. occ u (predsOf g k))
+  pub few : (u : ℕ) → getD counts u 0 ≤ t
+
+pub tallied-none : (g : Graph) (counts : List ℕ) → ((u : ℕ) → getD counts u 0 ≡ 0) → Tallied g counts 0
+unfolding sumTo
+tallied-none g counts z = record { count = z; few = λ u. omega (arith, z u) }
+
+pub tallied-more : {g : Graph} {counts : List ℕ} {t : ℕ} (counts′ : List ℕ) → Tallied g counts t → ¬ (Twice g t)
+    → ((u : ℕ) → getD counts′ u 0 ≡ getD counts u 0 + occ u (predsOf g t)) → Tallied g counts′ (t + 1)
+tallied-more {g} {counts} {t} counts′ a n e =
+    record {
+      count = λ u. rw (add-one t) (e u ∙ omega (arith, a .count u, sum-suc t (λ k. occ u (predsOf g k))));
+      few = λ u. omega (arith, e u, a .few u, stable (decLe (occ u (predsOf g t)) 1) (λ m. n (u, omega arith)));
+    }
+
+pub tallied-all : {g : Graph} {counts : List ℕ} {t : ℕ} → Sound g → t ≡ g .tasks → Tallied g counts t → (u : ℕ) → getD counts u 0 ≡ occ u (g .preds)
+tallied-all {g} {counts} {t} s e a u = a .count u ∙ rw e (sym (occ-preds s u))

@@ -1,7 +1,7 @@
 // One leaf per number of the graph check, on parts of lists: sizes and weights (2), ranges and words (3), a
 // predecessor twice (4); and how often each number stands in a list.
 ghost use mathlib.Core.Path.{_≡_};
-ghost use mathlib.Core.Bool.{true};
+ghost use mathlib.Core.Bool.{true, false};
 ghost use Prim.Native.Nat.{ℕ, _+_, _≤_, _<_};
 ghost use native.Mathlib.Decide.{decLt};
 ghost use lib.ListN.{length, getD};
@@ -131,10 +131,18 @@ pub fn ends_fit(n: usize, starts: &[u32], preds: &[u32]) -> bool
     (first == 0) & (last as usize == preds.len())
 }
 
-// Whether a word stands there twice. A word that was met carries the stamp in its mark; no mark carries it yet.
-fn has_twice(words: &[u32], marks: &mut [u32], stamp: u32) -> bool
-    requires { ⌜ (length (now marks) ≡ 1024) × (((u : ℕ) → Among u (now words) → u < 1024) × ((u : ℕ) → getD (now marks) u 0 < stamp)) ⌝ }
-    ensures { λ r. ⌜ (r ≡ holds (twiceIn? (now (words .entry)))) × ((u : ℕ) → getD (now (marks .exit)) u 0 ≤ stamp) ⌝ }
+// Whether a word stands there twice; each word that is met is counted. One that was met carries the stamp in its mark; no
+// mark carries it yet.
+fn has_twice(words: &[u32], marks: &mut [u32], counts: &mut [u32], stamp: u32) -> bool
+    requires { ⌜
+        ((length (now marks) ≡ 1024) × (length (now counts) ≡ 1024))
+        × (((u : ℕ) → Among u (now words) → u < 1024) × (((u : ℕ) → getD (now marks) u 0 < stamp)
+        × ((length (now words) ≤ 8192) × ((u : ℕ) → getD (now counts) u 0 ≤ 1024))))
+        ⌝ }
+    ensures { λ r. ⌜
+        (r ≡ holds (twiceIn? (now (words .entry)))) × (((u : ℕ) → getD (now (marks .exit)) u 0 ≤ stamp)
+        × (r ≡ false → (u : ℕ) → getD (now (counts .exit)) u 0 ≡ getD (now (counts .entry)) u 0 + occ u (now (words .entry))))
+        ⌝ }
 {
     let mut i = 0;
     while i < words.len() {
@@ -143,21 +151,34 @@ fn has_twice(words: &[u32], marks: &mut [u32], stamp: u32) -> bool
             return true;
         }
         marks[u] = stamp;
+        counts[u] = counts[u] + 1;
         i += 1;
     }
     false
 }
 
-// The scan, with marks that start at 0.
-fn scan_twice(n: usize, starts: &[u32], preds: &[u32], marks: &mut [u32]) -> usize
-    requires { ⌜ Sound (graphOf n (now starts) (now preds)) × ((length (now marks) ≡ 1024) × ((u : ℕ) → getD (now marks) u 0 ≡ 0)) ⌝ }
-    ensures { λ r. ⌜ r ≡ firstTwice (graphOf n (now (starts .entry)) (now (preds .entry))) ⌝ }
+// The scan, with marks and counts that start at 0.
+fn scan_twice(
+    n: usize,
+    starts: &[u32],
+    preds: &[u32],
+    marks: &mut [u32],
+    counts: &mut [u32],
+) -> usize
+    requires { ⌜
+        Sound (graphOf n (now starts) (now preds)) × (((length (now marks) ≡ 1024) × (length (now counts) ≡ 1024))
+        × (((u : ℕ) → getD (now marks) u 0 ≡ 0) × ((u : ℕ) → getD (now counts) u 0 ≡ 0)))
+        ⌝ }
+    ensures { λ r. ⌜
+        (r ≡ firstTwice (graphOf n (now (starts .entry)) (now (preds .entry))))
+        × (n ≤ r → (u : ℕ) → getD (now (counts .exit)) u 0 ≡ occ u (now (preds .entry)))
+        ⌝ }
 {
     let mut t = 0;
     while t < n {
         let a = starts[t] as usize;
         let e = starts[t + 1] as usize;
-        if has_twice(&preds[a..e], marks, t as u32 + 1) {
+        if has_twice(&preds[a..e], marks, counts, t as u32 + 1) {
             return t;
         }
         t += 1;
@@ -165,13 +186,18 @@ fn scan_twice(n: usize, starts: &[u32], preds: &[u32], marks: &mut [u32]) -> usi
     n
 }
 
-// The smallest task with a predecessor twice, or n.
-pub fn first_twice(n: usize, starts: &[u32], preds: &[u32]) -> usize
-    requires { ⌜ Sound (graphOf n (now starts) (now preds)) ⌝ }
-    ensures { λ r. ⌜ r ≡ firstTwice (graphOf n (now (starts .entry)) (now (preds .entry))) ⌝ }
+// The smallest task with a predecessor twice, or n; then the counts, 0 before, are the numbers of successors.
+pub fn first_twice(n: usize, starts: &[u32], preds: &[u32], counts: &mut [u32]) -> usize
+    requires { ⌜
+        Sound (graphOf n (now starts) (now preds)) × ((length (now counts) ≡ 1024) × ((u : ℕ) → getD (now counts) u 0 ≡ 0))
+        ⌝ }
+    ensures { λ r. ⌜
+        (r ≡ firstTwice (graphOf n (now (starts .entry)) (now (preds .entry))))
+        × (n ≤ r → (u : ℕ) → getD (now (counts .exit)) u 0 ≡ occ u (now (preds .entry)))
+        ⌝ }
 {
     let mut marks = [0u32; 1024];
-    scan_twice(n, starts, preds, &mut marks)
+    scan_twice(n, starts, preds, &mut marks, counts)
 }
 
 // How often each number stands in the list; the counts start at 0.

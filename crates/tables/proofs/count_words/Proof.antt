@@ -9,13 +9,13 @@ use Rattle.tables.proofs.count_words.Statement.{statement}
 use Rattle.tables.proofs.count_words.Tie as tie
 
 abbrev Inv-loop : tie.InvT-loop
-Inv-loop words counts₀ i₀ counts i = (i ≤ length words) × ((length counts ≡ length counts₀) × Counted words counts i)
+Inv-loop words counts₀ i₀ counts i = (i ≤ length words) × ((length counts ≡ length counts₀) × Counted words counts₀ counts i)
 
 abbrev μ-loop : tie.MeasureT-loop
 μ-loop words counts₀ i₀ counts i = length words - i
 
 loop-holds : tie.Need-loop-holds Inv-loop μ-loop
-loop-holds c = (omega arith, (refl, count-none (c .args .words .now) (c .args .counts .now) (c .pre .1 .1)))
+loop-holds c = (omega arith, (refl, count-none (c .args .words .now) (c .args .counts .now)))
 
 mul-u : tie.Need-mul-u Inv-loop μ-loop
 mul-u c = search needs
@@ -36,7 +36,7 @@ slice-read-counts : tie.Need-slice-read-counts Inv-loop μ-loop
 slice-read-counts c = omega (arith, inside (c .before))
 
 add-counts : tie.Need-add-counts Inv-loop μ-loop
-add-counts c = omega (arith, inside (c .before), count-small (c .before .before .before .loop .inv .1 .1) (omega arith) (getD (c .before .before .before .before .args .words .now) (c .before .before .before .loop .i) 0))
+add-counts c = omega (arith, c .before .before .before .before .pre .1 .1 (getD (c .before .before .before .before .args .words .now) (c .before .before .before .loop .i) 0), inside (c .before), count-small (c .before .before .before .loop .inv .1 .1) (omega arith) (getD (c .before .before .before .before .args .words .now) (c .before .before .before .loop .i) 0))
 
 mul-counts-2 : tie.Need-mul-counts-2 Inv-loop μ-loop
 mul-counts-2 c = omega (arith, inside (c .before), c .before .shared-slice-known .given (c .before .before .before .loop .i))
@@ -57,7 +57,7 @@ same-length : tie.Need-same-length Inv-loop μ-loop
 same-length c = search needs
 
 returns : tie.Need-returns Inv-loop μ-loop
-returns c = count-whole (c .before .loop .inv .1 .1) (omega arith)
+returns c = λ u. omega (arith, count-whole (c .before .loop .inv .1 .1) (omega arith) u, c .before .before .pre .1 .1 u)
 
 pub count-words-spec : {M : Type 1} → statement M
 count-words-spec =
