@@ -8,7 +8,7 @@ ghost use Rattle.graph.specs.Graph.{graphOf};
 ghost use Rattle.graph.specs.Conditions.{Sound};
 ghost use Rattle.components.specs.Places.{Below};
 
-// No search takes more turns: each task is entered and left once, each edge looked at once or twice.
+// No search takes more turns: each task is entered once and left once, each edge passed once, so E + 2N suffice.
 const MOST: u32 = 16384;
 
 // A component's rank is above that of every task on the way.

@@ -101,7 +101,7 @@ fn smaller(a: u32, b: u32) -> u32
     if b < a { b } else { a }
 }
 
-// The least rank of the words.
+// The least rank of the words; of it is promised that none is below it.
 fn lowest(words: &[u32], rank: &[u32; 1024]) -> u32
     requires { ⌜ ((u : ℕ) → Among u (now words) → u < 1024) ⌝ }
     ensures { λ r. ⌜ Lows (now (words .entry)) (now (rank .entry)) r ⌝ }

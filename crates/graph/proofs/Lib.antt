@@ -7,4 +7,5 @@ pub mod Lookup
 pub mod Linked
 pub mod Closed
 pub mod Stripping
+pub mod Judging
 pub mod StripExamples

@@ -154,7 +154,7 @@ ones zero = refl
 ones (suc n) = omega (arith, ones n)
 
 module _ {g : Graph} {order : List ℕ} (s : Strips g order) (w : Whole g order) where
-  -- 5 is judged on the tasks left: it is given exactly if there are some, and names the smallest of them on a cycle
+  -- some task is left exactly if some task is on a cycle, and the smallest on a cycle is among those left
   pub left-cycle : ((t : ℕ) × ((t < g .tasks) × Left order t)) ↔ ((t : ℕ) × OnCycle g t)
   left-cycle = (λ p. on (strip-leaves s w (p .0) (p .1 .0) .0 (p .1 .1)), λ p. (p .0, (leads-task g (p .0) (p .0) (p .1), on-left (p .0) (p .1))))
     where

@@ -1,13 +1,17 @@
 -- Stripping: "strip tasks without remaining successors, last to first".
 use Prim.Native.Nat.{ℕ, zero, suc, _≤_, _<_}
 use mathlib.Core.Path.{_≡_}
+use mathlib.Core.Logic.{_↔_}
 use mathlib.Core.List.{List, [], _∷_, _++_}
 use lib.ListN.{length, take, getD}
+use Rattle.lists.specs.Decided.{Smallest}
 use Rattle.lists.specs.Lists.{occ}
 use Rattle.task.specs.declared.Answer.{Answer}
 use Rattle.task.specs.declared.Answer.the-variants.{Refused, Accepted}
-use Rattle.task.specs.Refusals.{cycle}
+use Rattle.task.specs.Refusals.{cycle, refused, accepted, answerSays}
 use Rattle.graph.specs.Graph.{Among, Graph, Edge}
+use Rattle.graph.specs.Conditions.{OnCycle}
+use Rattle.graph.specs.Check.{tablesAnswer}
 use Rattle.graph.specs.Decide.{not?, map?, below?, edge?}
 
 -- an order in which tasks can be stripped: each task once, all its successors before it
@@ -54,6 +58,12 @@ abbrev pub Judges5 : Answer → Type 0
 Judges5 Accepted = Unit {0}
 Judges5 (Refused number detail) = number ≡ cycle
 
--- the order that a check hands out where it has judged 5: the first words of a list
-pub record Ordered (g : Graph) (answer : Answer) (words : List ℕ) (stripped : ℕ) : Type 0 where
+-- 5 is judged on the tasks that an order leaves: it names the smallest of them on a cycle, and where none is left the tables are accepted
+pub record JudgedBy (g : Graph) (order : List ℕ) : Type 0 where
+  pub names : (d : ℕ) → (answerSays (tablesAnswer g) ≡ refused cycle d) ↔ Smallest (λ t. Left order t × OnCycle g t) d
+  pub accepts : (answerSays (tablesAnswer g) ≡ accepted) ↔ (length order ≡ g .tasks)
+
+-- the order that a check hands out where it has judged 5, as the first words of a list; before that it leaves the list
+pub record Ordered (g : Graph) (answer : Answer) (before words : List ℕ) (stripped : ℕ) : Type 0 where
   pub handed : Judges5 answer → (stripped ≤ g .tasks) × Stripped g (take stripped words)
+  pub kept : ¬ (Judges5 answer) → (stripped ≡ 0) × (words ≡ before)

@@ -1,6 +1,6 @@
 -- The cases of the check, in its order.
 use Prim.Native.Nat.{ℕ, _+_, _≤_, _<_, min}
-use mathlib.Core.Path.{_≡_, sym, _∙_}
+use mathlib.Core.Path.{_≡_, refl, sym, _∙_}
 use mathlib.Core.Bool.{Bool, true, false, not, _&&_}
 use mathlib.Core.List.{List}
 use native.Mathlib.Omega.{arith}
@@ -22,9 +22,9 @@ use Rattle.graph.specs.Stripping.{Judges5, Ordered}
 use Rattle.graph.specs.Check.{sizesFit, firstBad, firstTwice, firstOnCycle, tablesAnswer, checkAnswer}
 
 -- before 5 is judged there is no order to hand out
-pub early : {g : Graph} {a right : Answer} {number detail stripped : ℕ} {words : List ℕ} → a ≡ Refused number detail → ¬ (number ≡ cycle) → Refused number detail ≡ right
-    → (a ≡ right) × Ordered g a words stripped
-early e n t = (e ∙ t, record { handed = λ j. absurd (n (rw e at j)) })
+pub early : {g : Graph} {a right : Answer} {number detail stripped : ℕ} {words : List ℕ} → (a ≡ Refused number detail) × (stripped ≡ 0) → ¬ (number ≡ cycle)
+    → Refused number detail ≡ right → (a ≡ right) × Ordered g a words words stripped
+early (e, z) n t = (e ∙ t, record { handed = λ j. absurd (n (rw e at j)); kept = λ _. (z, refl) })
 
 module _ (g : Graph) (bad : ℕ) (hb : bad ≡ firstBad g) where
   pub tables-bad : bad < g .tasks → Refused 3 bad ≡ tablesAnswer g

@@ -17,7 +17,7 @@ pub struct Checked {
 }
 
 fn refused(number: u32, detail: u32) -> Checked
-    ensures { λ r. ⌜ r .answer ≡ Refused number detail ⌝ }
+    ensures { λ r. ⌜ (r .answer ≡ Refused number detail) × (r .stripped ≡ 0) ⌝ }
 {
     Checked {
         answer: Answer::Refused(number, detail),
@@ -30,7 +30,8 @@ pub fn check_tables(n: usize, starts: &[u32], preds: &[u32], order: &mut [u32]) 
     requires { ⌜ Sized (graphOf n (now starts) (now preds)) × (length (now order) ≡ 1024) ⌝ }
     ensures { λ r. ⌜
         (r .answer ≡ tablesAnswer (graphOf n (now (starts .entry)) (now (preds .entry))))
-        × Ordered (graphOf n (now (starts .entry)) (now (preds .entry))) (r .answer) (now (order .exit)) (r .stripped)
+        × Ordered (graphOf n (now (starts .entry)) (now (preds .entry))) (r .answer)
+        (now (order .entry)) (now (order .exit)) (r .stripped)
         ⌝ }
 {
     let bad = tables::first_bad(n, starts, preds);
@@ -60,9 +61,10 @@ pub fn check_tables(n: usize, starts: &[u32], preds: &[u32], order: &mut [u32]) 
     }
 }
 
-// The whole check of weights and predecessor tables, which hands out the order of stripping where it judges 5. `within`
-// says that the call's other numbers are within their limits, `others` that its other lists have their lengths.
-pub fn check_order(
+// The whole check of weights and predecessor tables. Where it judges 5 it hands out the order of stripping, so that no call
+// is answered without it. `within` says that the call's other numbers are within their limits, `others` that its other
+// lists have their lengths.
+pub fn check_graph(
     limits: Limits,
     within: bool,
     others: bool,
@@ -74,7 +76,8 @@ pub fn check_order(
     requires { ⌜ length (now order) ≡ 1024 ⌝ }
     ensures { λ r. ⌜
         (r .answer ≡ checkAnswer limits within others (now (weights .entry)) (now (starts .entry)) (now (preds .entry)))
-        × Ordered (graphOf (length (now (weights .entry))) (now (starts .entry)) (now (preds .entry))) (r .answer) (now (order .exit)) (r .stripped)
+        × Ordered (graphOf (length (now (weights .entry))) (now (starts .entry)) (now (preds .entry))) (r .answer)
+        (now (order .entry)) (now (order .exit)) (r .stripped)
         ⌝ }
 {
     let n = weights.len();
@@ -88,20 +91,4 @@ pub fn check_order(
         return refused(refusal::WRONG_LENGTH, 0);
     }
     check_tables(n, starts, preds, order)
-}
-
-// The same for every call on a graph that asks for no order.
-pub fn check_graph(
-    limits: Limits,
-    within: bool,
-    others: bool,
-    weights: &[u32],
-    starts: &[u32],
-    preds: &[u32],
-) -> Answer
-    ensures { λ r. ⌜ r ≡ checkAnswer limits within others (now (weights .entry)) (now (starts .entry)) (now (preds .entry)) ⌝ }
-{
-    let mut order = [0u32; 1024];
-    let checked = check_order(limits, within, others, weights, starts, preds, &mut order);
-    checked.answer
 }

@@ -22,7 +22,9 @@ pub fn link_graph(
 {
     let n = weights.len();
     let fit = (succ_starts.len() == n + 1) & ((succs.len() == preds.len()) & (degrees.len() == n));
-    let answer = graph_check::check_graph(limits, true, fit, weights, starts, preds);
+    let mut order = [0u32; 1024];
+    let check = graph_check::check_graph(limits, true, fit, weights, starts, preds, &mut order);
+    let answer = check.answer;
     let Answer::Accepted = answer else {
         return answer;
     };

@@ -158,8 +158,11 @@ pub fn write(weights: &[u32], starts: &[u32], preds: &[u32], text: &mut [u8]) ->
         ≡ writeText (now (weights .entry)) (now (starts .entry)) (now (preds .entry)) (now (text .entry))
         ⌝ }
 {
-    let checked = graph_check::check_graph(Limits::ENGINE, true, true, weights, starts, preds);
-    if let Answer::Refused(number, detail) = checked {
+    let mut order = [0u32; 1024];
+    let limits = Limits::ENGINE;
+    let check = graph_check::check_graph(limits, true, true, weights, starts, preds, &mut order);
+    let answer = check.answer;
+    if let Answer::Refused(number, detail) = answer {
         return WriteAnswer::Refused(number, detail);
     }
     if !dummies_fit(weights, starts) {

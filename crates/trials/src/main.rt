@@ -164,7 +164,10 @@ fn run_graph(
         return;
     }
     cases::show::say(b"check ");
-    cases::show::answer(graph_check::check_graph(limits, true, true, weights, starts, preds));
+    let mut order = [0u32; 1024];
+    let check = graph_check::check_graph(limits, true, true, weights, starts, preds, &mut order);
+    let answer = check.answer;
+    cases::show::answer(answer);
     cases::show::say(b" | link ");
     lend(limits, weights, starts, preds, a, b, c);
     cases::show::say(b"\n");

@@ -22,7 +22,9 @@ pub fn judge(
         return Answer::Refused(refusal::BEYOND_LIMIT, 0);
     }
     let others = weak_admission::others_fit(sizes, p, k);
-    let answer = graph_check::check_graph(limits, true, others, weights, starts, preds);
+    let mut order = [0u32; 1024];
+    let check = graph_check::check_graph(limits, true, others, weights, starts, preds, &mut order);
+    let answer = check.answer;
     let Answer::Accepted = answer else {
         return answer;
     };

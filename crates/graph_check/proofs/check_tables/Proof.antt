@@ -59,13 +59,13 @@ same-length : tie.Need-same-length
 same-length c = search needs
 
 returns-4 : tie.Need-returns-4
-returns-4 c = (tables-cycle _ _ (c .before .before .before .before .before .before .before .before .before .before .before .before .before .before .first-bad .ensures) (c .before .before .before .before .before .before .before .before .before .before .before .before .before .if1 .left) _ (c .before .before .before .before .before .before .before .before .before .before .before .before .ends-fit .ensures) (c .before .before .before .before .before .before .before .before .before .before .before .if2 .left) _ (c .before .before .before .before .before .before .before .before .before .first-twice .ensures .0) (c .before .before .before .before .before .before .before .if3 .left) _ (c .before .before .before .before .first-on-cycle .ensures .0) (c .if4 .taken), record { handed = λ j. c .before .before .before .before .first-on-cycle .ensures .1 })
+returns-4 c = (tables-cycle _ _ (c .before .before .before .before .before .before .before .before .before .before .before .before .before .before .first-bad .ensures) (c .before .before .before .before .before .before .before .before .before .before .before .before .before .if1 .left) _ (c .before .before .before .before .before .before .before .before .before .before .before .before .ends-fit .ensures) (c .before .before .before .before .before .before .before .before .before .before .before .if2 .left) _ (c .before .before .before .before .before .before .before .before .before .first-twice .ensures .0) (c .before .before .before .before .before .before .before .if3 .left) _ (c .before .before .before .before .first-on-cycle .ensures .0) (c .if4 .taken), record { handed = λ j. c .before .before .before .before .first-on-cycle .ensures .1; kept = λ n. absurd (n refl) })
 
 same-length-2 : tie.Need-same-length-2
 same-length-2 c = search needs
 
 returns-5 : tie.Need-returns-5
-returns-5 c = (tables-accepted _ _ (c .before .before .before .before .before .before .before .before .before .before .before .before .before .before .first-bad .ensures) (c .before .before .before .before .before .before .before .before .before .before .before .before .before .if1 .left) _ (c .before .before .before .before .before .before .before .before .before .before .before .before .ends-fit .ensures) (c .before .before .before .before .before .before .before .before .before .before .before .if2 .left) _ (c .before .before .before .before .before .before .before .before .before .first-twice .ensures .0) (c .before .before .before .before .before .before .before .if3 .left) _ (c .before .before .before .before .first-on-cycle .ensures .0) (c .if4 .left), record { handed = λ j. c .before .before .before .before .first-on-cycle .ensures .1 })
+returns-5 c = (tables-accepted _ _ (c .before .before .before .before .before .before .before .before .before .before .before .before .before .before .first-bad .ensures) (c .before .before .before .before .before .before .before .before .before .before .before .before .before .if1 .left) _ (c .before .before .before .before .before .before .before .before .before .before .before .before .ends-fit .ensures) (c .before .before .before .before .before .before .before .before .before .before .before .if2 .left) _ (c .before .before .before .before .before .before .before .before .before .first-twice .ensures .0) (c .before .before .before .before .before .before .before .if3 .left) _ (c .before .before .before .before .first-on-cycle .ensures .0) (c .if4 .left), record { handed = λ j. c .before .before .before .before .first-on-cycle .ensures .1; kept = λ n. absurd (n tt) })
 
 pub check-tables-spec : {M : Type 1} → statement M
 check-tables-spec =

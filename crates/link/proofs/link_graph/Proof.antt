@@ -8,6 +8,9 @@ use Rattle.link.proofs.link_graph.Tie as tie
 add-fit : tie.Need-add-fit
 add-fit c = search needs
 
+slice-aggregate-check-graph : tie.Need-slice-aggregate-check-graph
+slice-aggregate-check-graph c = search needs
+
 check-graph-requires : tie.Need-check-graph-requires
 check-graph-requires c κs = search needs
 
@@ -19,11 +22,11 @@ enum-told-2 c = search needs
 
 returns : tie.Need-returns
 unfolding lentFit
-returns c = link-refused (c .before .before .before .before .before .before .before .before .before .args .limits) (c .before .before .before .before .before .before .before .before .before .args .weights .now) (c .before .before .before .before .before .before .before .before .before .args .starts .now) (c .before .before .before .before .before .before .before .before .before .args .preds .now) (c .before .before .before .before .before .before .before .before .before .args .succ-starts .now) (c .before .before .before .before .before .before .before .before .before .args .succs .now) (c .before .before .before .before .before .before .before .before .before .args .degrees .now) _ (c .before .before .check-graph .ensures) _ _ (c .enum-told2 .given .1)
+returns c = link-refused (c .before .before .before .before .before .before .before .before .before .before .before .args .limits) (c .before .before .before .before .before .before .before .before .before .before .before .args .weights .now) (c .before .before .before .before .before .before .before .before .before .before .before .args .starts .now) (c .before .before .before .before .before .before .before .before .before .before .before .args .preds .now) (c .before .before .before .before .before .before .before .before .before .before .before .args .succ-starts .now) (c .before .before .before .before .before .before .before .before .before .before .before .args .succs .now) (c .before .before .before .before .before .before .before .before .before .before .before .args .degrees .now) _ (c .before .before .before .check-graph .ensures .0) _ _ (c .enum-told2 .given .1)
 
 fill-requires : tie.Need-fill-requires
 unfolding lentFit
-fill-requires c κs = link-fillable (c .before .before .before .before .before .before .before .before .before .before .before .before .args .limits) (c .before .before .before .before .before .before .before .before .before .before .before .before .args .weights .now) (c .before .before .before .before .before .before .before .before .before .before .before .before .args .starts .now) (c .before .before .before .before .before .before .before .before .before .before .before .before .args .preds .now) (c .before .before .before .before .before .before .before .before .before .before .before .before .args .succ-starts .now) (c .before .before .before .before .before .before .before .before .before .before .before .before .args .succs .now) (c .before .before .before .before .before .before .before .before .before .before .before .before .args .degrees .now) _ (c .before .before .before .before .before .check-graph .ensures) (c .before .before .before .enum-told .given .1)
+fill-requires c κs = link-fillable (c .before .before .before .before .before .before .before .before .before .before .before .before .before .before .args .limits) (c .before .before .before .before .before .before .before .before .before .before .before .before .before .before .args .weights .now) (c .before .before .before .before .before .before .before .before .before .before .before .before .before .before .args .starts .now) (c .before .before .before .before .before .before .before .before .before .before .before .before .before .before .args .preds .now) (c .before .before .before .before .before .before .before .before .before .before .before .before .before .before .args .succ-starts .now) (c .before .before .before .before .before .before .before .before .before .before .before .before .before .before .args .succs .now) (c .before .before .before .before .before .before .before .before .before .before .before .before .before .before .args .degrees .now) _ (c .before .before .before .before .before .before .check-graph .ensures .0) (c .before .before .before .enum-told .given .1)
 
 same-length : tie.Need-same-length
 same-length c = search needs
@@ -36,13 +39,14 @@ same-length-3 c = search needs
 
 returns-2 : tie.Need-returns-2
 unfolding lentFit
-returns-2 c = link-filled (c .before .before .before .before .before .before .before .before .before .before .before .before .before .before .before .before .before .before .before .args .limits) (c .before .before .before .before .before .before .before .before .before .before .before .before .before .before .before .before .before .before .before .args .weights .now) (c .before .before .before .before .before .before .before .before .before .before .before .before .before .before .before .before .before .before .before .args .starts .now) (c .before .before .before .before .before .before .before .before .before .before .before .before .before .before .before .before .before .before .before .args .preds .now) (c .before .before .before .before .before .before .before .before .before .before .before .before .before .before .before .before .before .before .before .args .succ-starts .now) (c .before .before .before .before .before .before .before .before .before .before .before .before .before .before .before .before .before .before .before .args .succs .now) (c .before .before .before .before .before .before .before .before .before .before .before .before .before .before .before .before .before .before .before .args .degrees .now) _ (c .before .before .before .before .before .before .before .before .before .before .before .before .check-graph .ensures) (c .before .before .before .before .before .before .before .before .before .before .enum-told .given .1) _ _ _ (c .before .before .before .before .before .before .fill .ensures .0) (c .before .before .before .before .before .before .fill .ensures .1 .0) (c .before .before .before .before .before .before .fill .ensures .1 .1)
+returns-2 c = link-filled (c .before .before .before .before .before .before .before .before .before .before .before .before .before .before .before .before .before .before .before .before .before .args .limits) (c .before .before .before .before .before .before .before .before .before .before .before .before .before .before .before .before .before .before .before .before .before .args .weights .now) (c .before .before .before .before .before .before .before .before .before .before .before .before .before .before .before .before .before .before .before .before .before .args .starts .now) (c .before .before .before .before .before .before .before .before .before .before .before .before .before .before .before .before .before .before .before .before .before .args .preds .now) (c .before .before .before .before .before .before .before .before .before .before .before .before .before .before .before .before .before .before .before .before .before .args .succ-starts .now) (c .before .before .before .before .before .before .before .before .before .before .before .before .before .before .before .before .before .before .before .before .before .args .succs .now) (c .before .before .before .before .before .before .before .before .before .before .before .before .before .before .before .before .before .before .before .before .before .args .degrees .now) _ (c .before .before .before .before .before .before .before .before .before .before .before .before .before .check-graph .ensures .0) (c .before .before .before .before .before .before .before .before .before .before .enum-told .given .1) _ _ _ (c .before .before .before .before .before .before .fill .ensures .0) (c .before .before .before .before .before .before .fill .ensures .1 .0) (c .before .before .before .before .before .before .fill .ensures .1 .1)
 
 pub link-graph-spec : {M : Type 1} → statement M
 link-graph-spec =
     tie.close
     (tie.spec
     add-fit
+    slice-aggregate-check-graph
     check-graph-requires
     enum-told
     enum-told-2

@@ -2,8 +2,8 @@
 use native.Mathlib.Omega.{arith}
 use Rattle.graph_check.proofs.Laws.{early, check-beyond, check-heavy, check-length, check-rest, check-sized}
 use borrow.Author.Needs.{needs}
-use Rattle.graph_check.proofs.check_order.Statement.{statement}
-use Rattle.graph_check.proofs.check_order.Tie as tie
+use Rattle.graph_check.proofs.check_graph.Statement.{statement}
+use Rattle.graph_check.proofs.check_graph.Tie as tie
 
 sizes-fit-requires : tie.Need-sizes-fit-requires
 sizes-fit-requires c κs = search needs
@@ -41,8 +41,8 @@ same-length c = search needs
 returns-4 : tie.Need-returns-4
 returns-4 c = let a = c .before .before .before .before .before .before .before .before .before .before .before .before .before .args in let t = c .before .before .check-tables .ensures in (check-rest (a .limits) (a .within) (a .others) (a .weights .now) (a .starts .now) (a .preds .now) _ (c .before .before .before .before .before .before .before .before .sizes-fit .ensures) (c .before .before .before .before .before .before .before .if1 .left) _ (c .before .before .before .before .before .before .weights-fit .ensures) (c .before .before .before .before .before .if2 .left) (c .before .before .before .before .if3 .left) _ (t .0), t .1)
 
-pub check-order-spec : {M : Type 1} → statement M
-check-order-spec =
+pub check-graph-spec : {M : Type 1} → statement M
+check-graph-spec =
     tie.close
     (tie.spec
     sizes-fit-requires
