@@ -18,7 +18,7 @@ use Rattle.graph.specs.Graph.{Graph, graphOf}
 use Rattle.graph.specs.Conditions.{Sized, Sound}
 use Rattle.graph.specs.Decide.{light?, good?, bad?, endsFit?}
 use Rattle.task.specs.Refusals.{cycle}
-use Rattle.graph.specs.Stripping.{Judges5, Ordered}
+use Rattle.graph.specs.Stripping.{Ordered}
 use Rattle.graph.specs.Check.{sizesFit, firstBad, firstTwice, firstOnCycle, tablesAnswer, checkAnswer}
 
 -- before 5 is judged there is no order to hand out

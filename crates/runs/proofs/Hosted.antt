@@ -1,6 +1,4 @@
 -- PROMISE: what a host sees of its calls is a run, after each of them; so fair fetching holds of it.
-use Prim.Native.Nat.{ℕ}
-use mathlib.Core.List.{[]}
 use lib.ListN.{drop}
 use Rattle.task.specs.Refusals.{taskFetched}
 use Rattle.machine.proofs.Hosted as jobs

@@ -2,13 +2,13 @@
 use Prim.Native.Nat.{ℕ, zero, suc, _+_, _≤_, _<_}
 use mathlib.Core.Path.{_≡_, refl, sym, ap, _∙_}
 use mathlib.Core.Logic.{_↔_}
-use mathlib.Core.List.{List, [], _∷_, _++_}
+use mathlib.Core.List.{List, [], _∷_}
 use native.Mathlib.Omega.{arith}
 use native.Mathlib.Decide.{ℕ-discrete, decLt}
 use lib.ListN.{length, getD, take, length-append}
 use lib.Seq.{length-take-le, getD-take, take-take, getD-append-seam, take-append-seam}
 use Rattle.lists.specs.Lists.{occ}
-use Rattle.lists.specs.Sums.{sumOf, sumTo}
+use Rattle.lists.specs.Sums.{sumOf}
 use Rattle.lists.proofs.Decided.{stable, tally-yes}
 use Rattle.lists.proofs.Sums.{sum-zero, sum-prefix, sumOf-nil, sumOf-single, sumOf-append, sumOf-other, sumOf-missing}
 use Rattle.lists.proofs.Prefixes.{occ-snoc, take-more, occ-more-hit, occ-take-le, occ-early, take-same}
@@ -17,7 +17,7 @@ use Rattle.graph.specs.Conditions.{Sound, ToCycle}
 use Rattle.graph.specs.Stripping.{Strips, Whole, Left, Sink, keepIf, sink?, sinksBelow, sinksOf, Stripped}
 use Rattle.graph.proofs.Parts.{occ-preds, preds-beyond}
 use Rattle.graph.proofs.Stripping.{last-task, strips-short, strip-leaves}
-use Rattle.strip.specs.Queue.{stripped, queuedAt, nonesBelow, Falling, Emptied, Lowered}
+use Rattle.strip.specs.Queue.{queuedAt, nonesBelow, Falling, Emptied, Lowered}
 use Rattle.strip.proofs.Queue.{stripped-none, stripped-le, queued-once, queued-none, stripped-some, keep-same, falling-all, falling-emptied}
 
 -- how many of u's edges lead to the tasks of a list

@@ -213,16 +213,6 @@ module _ (limits : Limits) (p k : ℕ) (m : Mem) (e : answerSays (begin limits p
       (begun-laid-down p k m (f .lengths) (fits-sound g) (omega (arith, f .limits .twoSlots)) (f .limits .oneWorker)
       (rw (length-roots (graphIn m), capacity-is k) few))
 
-  -- R is the number of roots
-  pub begun-roots : rootsWord left ≡ rootCount m
-  begun-roots = laid-roots laid-down
-
-  -- every fixed word is 65,535 or below P
-  pub begun-fixes : (t : ℕ) → t < tasks left → (fixedIn left t ≡ nil .0) ⊎ (fixedIn left t < p)
-  begun-fixes t h =
-      let d : LaidDown p k m left = laid-down in
-      laid-fixes d (begin-accepted limits p k m .0 e .0 .limits .oneWorker) t (omega (arith, h, ap length (d .weights)))
-
   -- the successor table is the predecessor table reversed, "each task's successors rising": t is among u's successors exactly as often as u is among t's
   -- predecessors, each successor is a task, and u's successors rise
   pub begun-reversed : (u : ℕ) → u < tasks left

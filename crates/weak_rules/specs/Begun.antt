@@ -1,5 +1,5 @@
 -- What each lent list holds after an accepted begin of a weak job, "whatever its lists held outside weights and predecessor tables".
-use Prim.Native.Nat.{ℕ, _+_, _%_, _<_}
+use Prim.Native.Nat.{ℕ, _%_, _<_}
 use mathlib.Core.Path.{_≡_}
 use mathlib.Core.Bool.{cond}
 use mathlib.Core.List.{List, [], _∷_, map}

@@ -1,5 +1,5 @@
 -- A step of a weak job reads and checks everything, and then it writes: a plan says which.
-use Prim.Native.Nat.{ℕ, _+_}
+use Prim.Native.Nat.{_+_}
 use mathlib.Core.List.{List, _∷_}
 use Rattle.weak_task.specs.declared.WeakOutcome.{WeakOutcome}
 use Rattle.weak_task.specs.declared.WeakAnswer.{WeakAnswer}

@@ -15,7 +15,7 @@ use Rattle.task.specs.Entries.{Entry, entryOf}
 use Rattle.graph.specs.Graph.{Graph}
 use Rattle.graph.specs.Successors.{roots}
 use Rattle.memory.specs.Field as list
-use Rattle.plans.specs.Sizes.{Lengths, Fits}
+use Rattle.plans.specs.Sizes.{Lengths}
 use Rattle.weak_task.specs.Types.{Copy, copy}
 use Rattle.weak_rules.specs.Memory.{Mem, tasks, edges, rootsWord, entriesIn, acceptedIn}
 use Rattle.weak_rules.proofs.Kept.{step-keeps}
@@ -28,7 +28,7 @@ use Rattle.weak_runs.specs.Calls.{acceptedSteps, acceptedCompletes, Run,
 use Rattle.weak_runs.specs.Demand.{copyWords, workerWord}
 use Rattle.weak_runs.specs.RunWords.{entriesOf, wordsOf, RunWords}
 use Rattle.weak_runs.proofs.Invariant.{none}
-use Rattle.weak_runs.proofs.Calls.{always, weights-reached, starts-reached, preds-reached, graph-reached, tasks-reached, edges-reached, begun-within, kept-now}
+use Rattle.weak_runs.proofs.Calls.{always, weights-reached, starts-reached, preds-reached, graph-reached, tasks-reached, edges-reached}
 use Rattle.weak_runs.proofs.Recounts.{Recounts, recounted}
 
 -- The words of a list of entries: each entry's task, then its predecessor, then its worker.
@@ -99,14 +99,11 @@ module _ (r : Run) where
   abbrev now : Mem
   now = memoryOf r
 
-  -- every list has its length, and the numbers keep begin's limits
+  -- every list has its length
   pub lengths-reached : Lengths (r .workers) (r .slots) (memoryOf r)
   lengths-reached =
       always (r .workers) (r .slots) (Lengths (r .workers) (r .slots)) (λ limits m e. laid-down limits (r .workers) (r .slots) m e .lengths)
       (λ limits m i s a. step-keeps limits (r .workers) (r .slots) i s m .lengths (r .workers) (r .slots)) (r .limits) (r .lent) (r .accepts) (r .calls)
-
-  pub fits-reached : Fits (r .limits) (r .workers) (r .slots) (memoryOf r)
-  fits-reached = record { limits = kept-now r (r .limits) (begun-within r); lengths = lengths-reached }
 
   recounts : Recounts (r .workers) now (eventsOf r)
   recounts = recounted r

@@ -3,7 +3,6 @@ use Rattle.components.proofs.Laws.{set-below}
 use borrow.Author.Needs.{needs}
 use Rattle.components.proofs.leave.Statement.{statement}
 use Rattle.components.proofs.leave.Tie as tie
-use Rattle.components.proofs.close.Reads as close-reads
 
 mul-u : tie.Need-mul-u
 mul-u c = search needs

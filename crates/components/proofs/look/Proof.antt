@@ -5,8 +5,6 @@ use Rattle.components.proofs.Laws.{Looks, looks}
 use borrow.Author.Needs.{needs}
 use Rattle.components.proofs.look.Statement.{statement}
 use Rattle.components.proofs.look.Tie as tie
-use Rattle.components.proofs.enter.Reads as enter-reads
-use Rattle.components.proofs.pass.Reads as pass-reads
 
 -- the predecessor that is looked at
 seen : (c : tie.Start) → Looks (graphOf (c .args .n) (c .args .starts .now) (c .args .preds .now)) (c .args .s .task) (getD (c .args .at .now) (c .args .s .task) 0)

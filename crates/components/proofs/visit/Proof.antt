@@ -4,8 +4,6 @@ use native.Mathlib.Omega.{arith}
 use Rattle.components.specs.Places.{Below}
 use Rattle.components.proofs.visit.Statement.{statement}
 use Rattle.components.proofs.visit.Tie as tie
-use Rattle.components.proofs.enter.Reads as enter-reads
-use Rattle.components.proofs.step.Reads as step-reads
 
 abbrev Inv-loop : tie.InvT-loop
 Inv-loop n starts preds left rank₀ met₀ at₀ back₀ t from s₀ turn₀ rank met at back s turn = Below n back × (((s .task < n) × (s .last < n)) × (turn ≤ 16384))
