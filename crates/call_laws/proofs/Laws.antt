@@ -78,21 +78,25 @@ module _ (w ps p′ ss s d r e : List ℕ) (c : List ℤ) (b x n : List ℕ) (ro
           (ended : (y ≡ answerOf a) × (rows′ ≡ rowsAfter rows i a)) where
         pub start-made : (n′ : List ℕ) → Starts p k i sizes j row n n′ a
             → resultOf y (put list.run n′ (put list.rows rows′ lent)) ≡ step limits p k i Start lent
+        unfolding Starts
         start-made n′ f = rw (ended .0, ended .1) (f limits lent judges (sym measured) (sym loaded))
 
         pub fetch-made : (e′ n′ : List ℕ) → Fetches p k i sizes j row r e e′ n n′ a
             → resultOf y (put list.ends e′ (put list.run n′ (put list.rows rows′ lent))) ≡ step limits p k i Fetch lent
+        unfolding Fetches
         fetch-made e′ n′ f = rw (ended .0, ended .1) (f limits lent judges (sym measured) (sym loaded))
 
         pub complete-made : (c′ : List ℤ) (b′ x′ n′ : List ℕ) → Completes p k i sizes j row w ss c c′ b b′ x x′ n n′ a
             → resultOf y (put list.counters c′ (put list.buffers b′ (put list.executed x′ (put list.run n′ (put list.rows rows′ lent)))))
             ≡ step limits p k i Complete lent
+        unfolding Completes
         complete-made c′ b′ x′ n′ f = rw (ended .0, ended .1) (f limits lent judges (sym measured) (sym loaded))
 
         pub release-made : (d′ r′ e′ : List ℕ) (c′ : List ℤ) (n′ : List ℕ)
             → Releases p k i sizes j row (tablesOf w ss s b) (wordsOf d r e c n) (wordsOf d′ r′ e′ c′ n′) a
             → resultOf y (put list.degrees d′ (put list.rings r′ (put list.ends e′ (put list.counters c′ (put list.run n′ (put list.rows rows′ lent))))))
             ≡ step limits p k i Release lent
+        unfolding Releases
         release-made d′ r′ e′ c′ n′ f = rw (ended .0, ended .1) (f limits lent judges (sym measured) (sym loaded))
 
   pub begin-made : (limits : Limits) (p k : ℕ) (rows′ : List Row) (a : Begun) (ss′ s′ d′ r′ e′ : List ℕ) (c′ : List ℤ) (b′ x′ n′ : List ℕ) (count : ℕ) → length rows ≡ count

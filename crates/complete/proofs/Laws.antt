@@ -247,6 +247,7 @@ module _ (p k i : ℕ) (sizes : Sizes) (row : Row) (weights succStarts : List �
       Completes p k i sizes judged row weights succStarts counters counters' buffers buffers' executed executed' run run' a
 
   pub row-refused : (n d : ℕ) → r ≡ admitted.Refused n d → Leaves counters buffers executed run (stepped.Refused n d)
+  unfolding Completes
   row-refused n d v limits m j e h =
       refused-result limits p k i Complete (before m) n d
       (admission-refused p k i sizes row Complete limits (before m) e h judged j r told n d v)
@@ -261,7 +262,7 @@ module _ (p k i : ℕ) (sizes : Sizes) (row : Row) (weights succStarts : List �
       follows q w = rw (← w) (decided .0 p i (before m) (ap (λ (x : Sizes). x .preds) e) ho (enters .leads) refl refl refl refl)
 
     pub rule-refuses : (n d : ℕ) → plan ≡ Refused n d → Leaves counters buffers executed run (stepped.Refused n d)
-    unfolding ruleOf
+    unfolding Completes ruleOf
     rule-refuses n d w limits m j e h =
         rule-refused limits p k i Complete (before m) after (enters limits m j e h) n d (follows limits m j e h (Refused n d) w)
 
@@ -273,7 +274,7 @@ module _ (p k i : ℕ) (sizes : Sizes) (row : Row) (weights succStarts : List �
         (counters' : List ℤ) (lowered : counters' ≡ set counters own (getD counters own (pos 0) -ℤ pos weight)) (executed' run' : List ℕ)
         (records : Records entries accepted (after .held .0) i executed executed' run run') (a : Stepped) where
       pub sink-made : plan ≡ Sink entries accepted weight → a ≡ stepped.Taken Moved (left (after .write)) → Leaves counters' buffers executed' run' a
-      unfolding ruleOf written updated storeWords
+      unfolding Completes ruleOf written updated storeWords
       sink-made w o limits m j e h =
           rw (o, lowered, records .0, records .1, room .entriesWord, room .acceptedWord, room .weighs, ho, enters limits m j e h .leads)
           (rule-accepted limits p k i Complete (before m) after (enters limits m j e h) Moved _ (follows limits m j e h (Sink entries accepted weight) w))
@@ -282,7 +283,7 @@ module _ (p k i : ℕ) (sizes : Sizes) (row : Row) (weights succStarts : List �
           → (buffers' : List ℕ) → buffers' ≡ set buffers (i * length weights + after .write) (after .held .0)
           → a ≡ stepped.Taken Moved (left (after .write + 1))
           → Leaves counters' buffers' executed' run' a
-      unfolding ruleOf written updated storeWords
+      unfolding Completes ruleOf written updated storeWords
       inner-made w buffers' hb o limits m j e h =
           rw (
             o,

@@ -29,7 +29,7 @@ lent m weights succStarts counters buffers executed run rows =
     (put list.rows rows m))))))
 
 -- whatever the other lists hold
-abbrev pub Completes : ℕ → ℕ → ℕ → Sizes → Judged → Row → List ℕ → List ℕ → List ℤ → List ℤ
+unfoldable pub Completes : ℕ → ℕ → ℕ → Sizes → Judged → Row → List ℕ → List ℕ → List ℤ → List ℤ
     → List ℕ → List ℕ → List ℕ → List ℕ → List ℕ → List ℕ → Stepped → Type 0
 Completes p k i sizes judged row weights succStarts counters counters' buffers buffers' executed executed' run run' r =
     (limits : Limits) (m : Mem) → Judges limits p k i sizes judged

@@ -177,7 +177,7 @@ module _ (p k i n steps : ℕ) (row : Row) (rings ends run : List ℕ) (x : Fetc
 
   pub fetch-refused : (number detail : ℕ) → x ≡ Refused number detail
       → FetchesAdmitted n steps p k i row rings ends ends run run (stepped.Refused number detail)
-  unfolding PlansFetch ruleOf
+  unfolding FetchesAdmitted PlansFetch ruleOf
   fetch-refused number detail v limits m e enters =
       rule-refused limits p k i Fetch (before m) row enters number detail
       (subst (PlansFetch p k i n steps (row .pointer .0) rings ends run) v hx m e (points-at limits m enters))
@@ -213,7 +213,7 @@ module _ (p k i n steps : ℕ) (row : Row) (rings ends run : List ℕ) (x : Fetc
         → (new-ends ≡ storeEnds ends ring (headOn k (head .ends))) × (new-run ≡ set run 1 (head .accepted + 1)) → next ≡ after p (head .filler .0)
         → FetchesAdmitted n steps p k i row rings ends new-ends run new-run
         (stepped.Taken (Fetched (head .task)) (withPointer next (withHand (row .phase) (head .task) row)))
-    unfolding written updated ruleOf
+    unfolding FetchesAdmitted written updated ruleOf
     fetch-taken new-ends new-run next (a, b) f limits m e enters =
         rw (
           a,
@@ -255,6 +255,7 @@ module _ (p k i : ℕ) (sizes : Sizes) (judged : Judged) (known : Knows p k i si
 module _ (p k i : ℕ) (sizes : Sizes) (judged : Judged) (row : Row) (rings ends run : List ℕ) (x : Admitted) (told : Admits row Fetch judged x) where
   pub row-refused : (number detail : ℕ) → x ≡ admitted.Refused number detail
       → Fetches p k i sizes judged row rings ends ends run run (stepped.Refused number detail)
+  unfolding Fetches
   row-refused number detail v limits m judges e h =
       refused-result limits p k i Fetch (old rings ends run m) number detail
       (admission-refused p k i sizes row Fetch limits (old rings ends run m) e h judged judges x told number detail v)
@@ -268,7 +269,7 @@ module _ (p k i : ℕ) (sizes : Sizes) (judged : Judged) (row : Row) (rings ends
     pub row-fetches : (new-ends new-run : List ℕ) (r : Stepped)
         → FetchesAdmitted (sizes .weights) (3 * sizes .weights + sizes .preds) p k i row′ rings ends new-ends run new-run r × HandAndPointer row′ r
         → Fetches p k i sizes judged row rings ends new-ends run new-run r × HandAndPointer row r
-    unfolding allSteps
+    unfolding FetchesAdmitted Fetches allSteps
     row-fetches new-ends new-run r (f, w) = (
       (λ limits m judges e h. f limits m (rw (← e) (refl, refl))
           (admission-enters p k i sizes row Fetch limits (old rings ends run m) e h judged judges x told row′ v)),

@@ -46,13 +46,13 @@ module _ (row : Row) (count read cursor : ℕ) where
 -- The degree stays above 0.
 module _ (a : ℕ) (row : Row) (next : Successor) (d run : List ℕ) where
   pub lower-refused : a ≤ getD run 1 0 → Lowers a row next d run d run (Refused 8 0)
-  unfolding releaseWaiting
+  unfolding Lowers releaseWaiting
   lower-refused h limits p k i m s e = refused-result limits p k i Release _ 8 0 (e ∙ count-refused _ _ refl _ _ (rw (s .steps) h))
 
   pub lower-accepted : getD run 1 0 < a → (left : ℕ) → left ≡ getD d (next .task .0) 0 - 1
       → (after : Row) → after ≡ advancedRow (next .count) row
       → Lowers a row next d run (set d (next .task .0) left) (set run 1 (getD run 1 0 + 1)) (Taken (Released (DegreeLeft left)) after)
-  unfolding releaseWaiting written updated
+  unfolding Lowers releaseWaiting written updated
   lower-accepted h left l after f limits p k i m s e =
       rw (l, f, ← s .next .task, ← s .next .count, ← s .row)
       (accepted-result limits p k i Release _ _ _ (e ∙ count-accepted _ _ refl _ _ (rw (s .steps) h)))
@@ -85,7 +85,7 @@ module _ (p k i a : ℕ) (row : Row) (next : Successor) (o : ℕ) (w : List ℕ)
   heavy-is h m s g = rw (weight-is m s g) (lt-leb _ _ h)
 
   pub place-heavy : 65535 < getD w (next .task .0) 0 → Places p k i a row next o w x x (Refused 8 0)
-  unfolding releaseTo
+  unfolding Places releaseTo
   place-heavy h limits m s g e = refused-result limits p k i Release _ 8 0 (e ∙ fails _ _ (heavy-is h m s g))
 
   module _ (light : getD w (next .task .0) 0 ≤ 65535) where
@@ -93,7 +93,7 @@ module _ (p k i a : ℕ) (row : Row) (next : Successor) (o : ℕ) (w : List ℕ)
     light-is m s g = rw (weight-is m s g) (le-leb _ _ light)
 
     pub place-refused : a ≤ getD (x .run) 1 0 → Places p k i a row next o w x x (Refused 8 0)
-    unfolding releaseTo
+    unfolding Places releaseTo
     place-refused h limits m s g e =
         refused-result limits p k i Release _ 8 0 (e ∙ passes _ _ (light-is m s g) ∙ count-refused _ _ refl _ _ (rw (s .steps) h))
 
@@ -104,7 +104,7 @@ module _ (p k i a : ℕ) (row : Row) (next : Successor) (o : ℕ) (w : List ℕ)
         → Places p k i a row next o w x
         (wordsOf (set (x .degrees) (next .task .0) 0) rings ends counters (set (x .run) 1 (getD (x .run) 1 0 + 1)))
         (Taken (Released (Placed (record { 0 = next .task .0 }) (record { 0 = o }))) after)
-    unfolding releaseTo written updated appendedAt
+    unfolding Places releaseTo written updated appendedAt
     place-accepted h y hy rings ends hr counters hc after f limits m s g e =
         rw (
           ap (λ (t : Rings ℕ). t .slots) hr,
@@ -131,12 +131,14 @@ module _ (p k i a : ℕ) (row : Row) (next : Successor) (w : List ℕ) (x : Word
   offers m s = record { task = s .next .task; ends = refl; counters = refl }
 
   pub ready-refused : (n d : ℕ) → r ≡ owner.Refused n d → PlacesReady p k i a row next w x x (Refused n d)
+  unfolding PlacesReady
   ready-refused n d v limits m s g e =
       refused-result limits p k i Release _ n d
       (e ∙ subst (Owned p k i (next .task .0) (x .ends) (x .counters)) v told _ (offers m s))
 
   pub ready-placed : (o : WorkerId) (both : Ends) → r ≡ owner.At o both → (x′ : Words) (y : Stepped) → Places p k i a row next (o .0) w x x′ y
       → PlacesReady p k i a row next w x x′ y
+  unfolding Places PlacesReady
   ready-placed o both v x′ y f limits m s g e =
       f limits m s g
       (e ∙ owner-takes p k i (next .task .0) (x .ends) (x .counters) r told o both v .0 .follows _ (offers m s))

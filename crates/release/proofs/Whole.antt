@@ -43,6 +43,7 @@ module _ (row : Row) (judged : Judged) (r : Admitted) (told : Admits row Release
 
 module _ (p k i : ℕ) (sizes : Sizes) (judged : Judged) (row : Row) (t : Tables) (x : Words) (r : Admitted) (told : Admits row Release judged r) where
   pub whole-refused : (n d : ℕ) → r ≡ admitted.Refused n d → Releases p k i sizes judged row t x x (stepped.Refused n d)
+  unfolding Releases
   whole-refused n d v limits m j e h =
       refused-result limits p k i Release (lent m t x (m .rows)) n d
       (admission-refused p k i sizes row Release limits (lent m t x (m .rows)) e h judged j r told n d v)
@@ -104,6 +105,7 @@ module _ (p k i : ℕ) (sizes : Sizes) (judged : Judged) (row : Row) (t : Tables
       known z′ c = subst (Picked i after (t .succStarts) (t .succs) (x .degrees) (t .buffers)) c picked
 
       pub whole-none : (n d : ℕ) → z ≡ pick.Refused n d → Releases p k i sizes judged row t x x (stepped.Refused n d)
+      unfolding Releases
       whole-none n d c limits m j e h =
           refused-result limits p k i Release (lent m t x (m .rows)) n d
           (follows m e h limits j _ (known (pick.Refused n d) c p k _ (shows m e h)))
@@ -137,6 +139,7 @@ module _ (p k i : ℕ) (sizes : Sizes) (judged : Judged) (row : Row) (t : Tables
 
         pub whole-waiting : (d′ run′ : List ℕ) (y : Stepped) → Lowers steps after s (x .degrees) (x .run) d′ run′ y
             → Releases p k i sizes judged row t x (wordsOf d′ (x .rings) (x .ends) (x .counters) run′) y
+        unfolding Lowers Releases
         whole-waiting d′ run′ y f limits m j e h =
             f limits p k i (lent m t x (m .rows)) (stands s (λ p k. releaseWaiting i) waits m e h)
             (follows m e h limits j _ (waits .follows p k _ (shows m e h)))
@@ -150,6 +153,7 @@ module _ (p k i : ℕ) (sizes : Sizes) (judged : Judged) (row : Row) (t : Tables
 
         pub whole-ready : (x′ : Words) (y : Stepped) → PlacesReady p k i steps after s (t .weights) x x′ y
             → Releases p k i sizes judged row t x x′ y
+        unfolding PlacesReady Releases
         whole-ready x′ y f limits m j e h =
             f limits (lent m t x (m .rows)) (stands s (λ p k. releaseReady p k i) readied m e h) refl
             (follows m e h limits j _ (readied .follows p k _ (shows m e h)))

@@ -68,19 +68,19 @@ Finishes limits p k i rest m x x′ r =
     ≡ step limits p k i step-name.Release (withWords m x (m .rows))
 
 -- whatever the other lists hold: the degree stays above 0
-abbrev pub Lowers : (a : ℕ) → Row → Successor → (d run d′ run′ : List ℕ) → Stepped → Type 0
+unfoldable pub Lowers : (a : ℕ) → Row → Successor → (d run d′ run′ : List ℕ) → Stepped → Type 0
 Lowers a row next d run d′ run′ r =
     (limits : Limits) (p k i : ℕ) (m : Mem) → Stands i a row next m
     → Finishes limits p k i (releaseWaiting i) m
     (wordsOf d (m .rings) (m .ends) (m .counters) run) (wordsOf d′ (m .rings) (m .ends) (m .counters) run′) r
 
 -- the task joins the ring of owner o
-abbrev pub Places : (p k i a : ℕ) → Row → Successor → ℕ → List ℕ → Words → Words → Stepped → Type 0
+unfoldable pub Places : (p k i a : ℕ) → Row → Successor → ℕ → List ℕ → Words → Words → Stepped → Type 0
 Places p k i a row next o weights x x′ r =
     (limits : Limits) (m : Mem) → Stands i a row next m → m .weights ≡ weights
     → Finishes limits p k i (λ m. releaseTo p k i m (at o)) m x x′ r
 
 -- the degree becomes 0
-abbrev pub PlacesReady : (p k i a : ℕ) → Row → Successor → List ℕ → Words → Words → Stepped → Type 0
+unfoldable pub PlacesReady : (p k i a : ℕ) → Row → Successor → List ℕ → Words → Words → Stepped → Type 0
 PlacesReady p k i a row next weights x x′ r =
     (limits : Limits) (m : Mem) → Stands i a row next m → m .weights ≡ weights → Finishes limits p k i (releaseReady p k i) m x x′ r

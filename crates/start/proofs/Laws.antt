@@ -23,13 +23,14 @@ module _ (p k i : ℕ) (row : Row) (sizes : Sizes) (judged : Judged) (r : Admitt
   before m = withRun m run (m .rows)
 
   pub start-refused : (n d : ℕ) → r ≡ Refused n d → Starts p k i sizes judged row run run (stepped.Refused n d)
+  unfolding Starts
   start-refused n d v limits m j e h =
       refused-result limits p k i Start (before m) n d
       (admission-refused p k i sizes row Start limits (before m) e h judged j r told n d v)
 
   module _ (after : Row) (v : r ≡ To after) where
     pub start-damaged : 3 * sizes .weights + sizes .preds ≤ getD run 1 0 → Starts p k i sizes judged row run run (stepped.Refused 8 0)
-    unfolding ruleOf startRule
+    unfolding Starts ruleOf startRule
     start-damaged b limits m j e h =
         rule-refused limits p k i Start (before m) after
         (admission-enters p k i sizes row Start limits (before m) e h judged j r told after v)
@@ -37,7 +38,7 @@ module _ (p k i : ℕ) (row : Row) (sizes : Sizes) (judged : Judged) (r : Admitt
 
     pub start-accepted : getD run 1 0 < 3 * sizes .weights + sizes .preds
         → Starts p k i sizes judged row run (set run 1 (getD run 1 0 + 1)) (stepped.Taken Moved after)
-    unfolding ruleOf startRule written updated
+    unfolding Starts ruleOf startRule written updated
     start-accepted b limits m j e h =
         let enters = admission-enters p k i sizes row Start limits (before m) e h judged j r told after v in
         rw (enters .leads) (rule-accepted limits p k i Start (before m) after enters Moved _ (count-accepted sizes (before m) e Moved _ b))

@@ -445,6 +445,7 @@ module _ (p k i : ℕ) (sizes : WeakSizes) (row : WeakRow) (weights succStarts d
       Completes p k i sizes judged row weights succStarts degrees degrees' counters counters' buffers buffers' executed executed' run run' a
 
   pub row-refused : (n d : ℕ) → r ≡ admitted.Refused n d → Makes degrees counters buffers executed run (stepped.Refused n d)
+  unfolding Completes
   row-refused n d v limits m j e h =
       refused-result limits p k i Complete (before m) n d
       (admission-refused p k i sizes row Complete limits (before m) e h judged j r told n d v)
@@ -459,7 +460,7 @@ module _ (p k i : ℕ) (sizes : WeakSizes) (row : WeakRow) (weights succStarts d
       follows q w = rw (← w) (decided .0 p i (before m) (ap (λ (x : WeakSizes). x .preds) e) ho (enters .leads) refl refl refl refl refl)
 
     pub rule-refuses : (n d : ℕ) → plan ≡ Refused n d → Makes degrees counters buffers executed run (stepped.Refused n d)
-    unfolding ruleOf
+    unfolding Completes ruleOf
     rule-refuses n d w limits m j e h =
         rule-refused limits p k i Complete (before m) after (enters limits m j e h) n d (follows limits m j e h (Refused n d) w)
 
@@ -473,7 +474,7 @@ module _ (p k i : ℕ) (sizes : WeakSizes) (row : WeakRow) (weights succStarts d
         (records : Records entries accepted degree (copyOf (after .held)) i degrees degrees' executed executed' run run') (a : WeakStepped) where
       pub copy-made : (d : ℕ) → plan ≡ Copy entries accepted d → a ≡ stepped.Taken Moved (left (after .write))
           → Makes degrees' counters buffers executed' run' a
-      unfolding ruleOf written updated
+      unfolding Completes ruleOf written updated
       copy-made d w o limits m j e h =
           rw (
             o,
@@ -491,7 +492,7 @@ module _ (p k i : ℕ) (sizes : WeakSizes) (row : WeakRow) (weights succStarts d
           (lowered : counters' ≡ set counters own (getD counters own (pos 0) -ℤ pos weight)) where
         pub sink-made : plan ≡ Sink entries accepted weight → a ≡ stepped.Taken Moved (left (after .write))
             → Makes degrees' counters' buffers executed' run' a
-        unfolding ruleOf written updated
+        unfolding Completes ruleOf written updated
         sink-made w o limits m j e h =
             rw (
               o,
@@ -512,7 +513,7 @@ module _ (p k i : ℕ) (sizes : WeakSizes) (row : WeakRow) (weights succStarts d
             → (buffers' : List ℕ) → buffers' ≡ set buffers (i * length weights + after .write) (after .held .task .0)
             → a ≡ stepped.Taken Moved (left (after .write + 1))
             → Makes degrees' counters' buffers' executed' run' a
-        unfolding ruleOf written updated
+        unfolding Completes ruleOf written updated
         inner-made w buffers' hb o limits m j e h =
             rw (
               o,

@@ -31,7 +31,7 @@ lent m weights succStarts degrees counters buffers executed run rows =
     (put list.rows rows m)))))))
 
 -- whatever the other lists hold
-abbrev pub Completes : ℕ → ℕ → ℕ → WeakSizes → Judged → WeakRow → List ℕ → List ℕ → List ℕ → List ℕ → List ℤ → List ℤ
+unfoldable pub Completes : ℕ → ℕ → ℕ → WeakSizes → Judged → WeakRow → List ℕ → List ℕ → List ℕ → List ℕ → List ℤ → List ℤ
     → List ℕ → List ℕ → List ℕ → List ℕ → List ℕ → List ℕ → WeakStepped → Type 0
 Completes p k i sizes judged row weights succStarts degrees degrees' counters counters' buffers buffers' executed executed' run run' r =
     (limits : Limits) (m : Mem) → Judges limits p k i sizes judged

@@ -109,21 +109,25 @@ module _ (w ps p′ ss s d f : List ℕ) (slots : List (List ℕ)) (e : List ℕ
           (ended : (y ≡ answerOf a) × (rows′ ≡ rowsAfter (rowsOf cells) i a)) where
         pub start-made : (n′ : List ℕ) → Starts p k i sizes j row n n′ a
             → resultOf y (put list.run n′ (put list.rows rows′ lent)) ≡ step limits p k i Start lent
+        unfolding Starts
         start-made n′ t = rw (ended .0, ended .1) (t limits lent judges (sym measured) (sym loaded))
 
         pub fetch-made : (e′ n′ : List ℕ) → Fetches p k i sizes j row (copiesOf slots) e e′ n n′ a
             → resultOf y (put list.ends e′ (put list.run n′ (put list.rows rows′ lent))) ≡ step limits p k i Fetch lent
+        unfolding Fetches
         fetch-made e′ n′ t = rw (ended .0, ended .1) (t limits lent judges (sym measured) (sym loaded))
 
         pub complete-made : (d′ : List ℕ) (c′ : List ℤ) (b′ x′ n′ : List ℕ) → Completes p k i sizes j row w ss d d′ c c′ b b′ x x′ n n′ a
             → resultOf y (put list.degrees d′ (put list.counters c′ (put list.buffers b′ (put list.executed x′ (put list.run n′ (put list.rows rows′ lent))))))
             ≡ step limits p k i Complete lent
+        unfolding Completes
         complete-made d′ c′ b′ x′ n′ t = rw (ended .0, ended .1) (t limits lent judges (sym measured) (sym loaded))
 
         pub release-made : (f′ : List ℕ) (r′ : List Copy) (e′ : List ℕ) (c′ : List ℤ) (n′ : List ℕ)
             → Releases p k i sizes j row (tablesOf w ss s b) (wordsOf f (copiesOf slots) e c n) (wordsOf f′ r′ e′ c′ n′) a
             → resultOf y (put list.fixed f′ (put list.rings r′ (put list.ends e′ (put list.counters c′ (put list.run n′ (put list.rows rows′ lent))))))
             ≡ step limits p k i Release lent
+        unfolding Releases
         release-made f′ r′ e′ c′ n′ t = rw (ended .0, ended .1) (t limits lent judges (sym measured) (sym loaded))
 
   pub begin-made : (limits : Limits) (p k : ℕ) (rows′ : List WeakRow) (a : Begun) (ss′ s′ d′ f′ : List ℕ) (r′ : List Copy) (e′ : List ℕ) (c′ : List ℤ)

@@ -193,7 +193,7 @@ module _ (p k i n e : ℕ) (row : WeakRow) (rings : List Copy) (ends run : List 
 
   pub fetch-refused : (number detail : ℕ) → x ≡ Refused number detail
       → FetchesAdmitted n e p k i row rings ends ends run run (stepped.Refused number detail)
-  unfolding PlansFetch ruleOf
+  unfolding FetchesAdmitted PlansFetch ruleOf
   fetch-refused number detail v limits m y enters =
       rule-refused limits p k i Fetch (before m) row enters number detail
       (subst (PlansFetch p k i n e (row .pointer .0) rings ends run) v hx m y (points-at limits m enters))
@@ -223,7 +223,7 @@ module _ (p k i n e : ℕ) (row : WeakRow) (rings : List Copy) (ends run : List 
         → (new-ends ≡ storeEnds ends ring (headOn k (head .ends))) × (new-run ≡ set run 1 (head .accepted + 1)) → next ≡ after p (head .filler .0)
         → FetchesAdmitted n e p k i row rings ends new-ends run new-run
         (stepped.Taken (Fetched (head .copy)) (withPointer next (withHand (row .phase) (head .copy) row)))
-    unfolding written updated ruleOf
+    unfolding FetchesAdmitted written updated ruleOf
     fetch-taken new-ends new-run next (a, b) f limits m y enters =
         rw (
           a,
@@ -266,6 +266,7 @@ module _ (p k i : ℕ) (sizes : WeakSizes) (judged : Judged) (row : WeakRow) (ri
     (told : Admits row Fetch judged x) where
   pub row-refused : (number detail : ℕ) → x ≡ admitted.Refused number detail
       → Fetches p k i sizes judged row rings ends ends run run (stepped.Refused number detail)
+  unfolding Fetches
   row-refused number detail v limits m judges e h =
       refused-result limits p k i Fetch (old rings ends run m) number detail
       (admission-refused p k i sizes row Fetch limits (old rings ends run m) e h judged judges x told number detail v)
@@ -279,6 +280,7 @@ module _ (p k i : ℕ) (sizes : WeakSizes) (judged : Judged) (row : WeakRow) (ri
     pub row-fetches : (new-ends new-run : List ℕ) (r : WeakStepped)
         → FetchesAdmitted (sizes .weights) (sizes .preds) p k i row′ rings ends new-ends run new-run r × HandAndPointer row′ r
         → Fetches p k i sizes judged row rings ends new-ends run new-run r × HandAndPointer row r
+    unfolding FetchesAdmitted Fetches
     row-fetches new-ends new-run r (f, w) = (
       (λ limits m judges e h. f limits m (extent-of sizes (old rings ends run m) e)
           (admission-enters p k i sizes row Fetch limits (old rings ends run m) e h judged judges x told row′ v)),

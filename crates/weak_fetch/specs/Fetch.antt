@@ -27,13 +27,13 @@ abbrev pub Extent : ℕ → ℕ → Mem → Type 0
 Extent n e m = (tasks m ≡ n) × (edges m ≡ e)
 
 -- what an admitted Fetch does, by the worker whose row this is in the phase that Fetch leads to
-abbrev pub FetchesAdmitted : ℕ → ℕ → ℕ → ℕ → ℕ → WeakRow → List Copy → List ℕ → List ℕ → List ℕ → List ℕ → WeakStepped → Type 0
+unfoldable pub FetchesAdmitted : ℕ → ℕ → ℕ → ℕ → ℕ → WeakRow → List Copy → List ℕ → List ℕ → List ℕ → List ℕ → WeakStepped → Type 0
 FetchesAdmitted n e p k i row rings ends ends' run run' r =
     (limits : Limits) (m : Mem) → Extent n e m → Enters limits p k i step-name.Fetch (lent m rings ends run (m .rows)) row
     → resultOf (answerOf r) (lent m rings ends' run' (rowsAfter (m .rows) i r)) ≡ step limits p k i step-name.Fetch (lent m rings ends run (m .rows))
 
 -- whatever the other lists hold
-abbrev pub Fetches : ℕ → ℕ → ℕ → WeakSizes → Judged → WeakRow → List Copy → List ℕ → List ℕ → List ℕ → List ℕ → WeakStepped → Type 0
+unfoldable pub Fetches : ℕ → ℕ → ℕ → WeakSizes → Judged → WeakRow → List Copy → List ℕ → List ℕ → List ℕ → List ℕ → WeakStepped → Type 0
 Fetches p k i sizes judged row rings ends ends' run run' r =
     (limits : Limits) (m : Mem) → Judges limits p k i sizes judged → sizesOf (lent m rings ends run (m .rows)) ≡ sizes → rowIn m i ≡ row
     → resultOf (answerOf r) (lent m rings ends' run' (rowsAfter (m .rows) i r)) ≡ step limits p k i step-name.Fetch (lent m rings ends run (m .rows))

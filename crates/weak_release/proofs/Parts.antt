@@ -90,7 +90,7 @@ module _ (p k i o : ℕ) (rings : List Copy) (ends : List ℕ) (z : Ringed p k i
       ends-are = rw (← hq .0) (sym hb)
 
       pub later-unsound : not s ≡ true → PlacesLater p k i n e row next o rings ends run rings ends run (Refused 8 0)
-      unfolding releaseLater
+      unfolding PlacesLater releaseLater
       later-unsound f limits m st g =
           refused-result limits p k i Release _ 8 0 (g ∙ fails _ _ (ap (sound k) ends-are ∙ sym hs ∙ not-true s f))
 
@@ -99,7 +99,7 @@ module _ (p k i o : ℕ) (rings : List Copy) (ends : List ℕ) (z : Ringed p k i
         there = ap (sound k) ends-are ∙ sym hs ∙ not-false s f
 
         pub later-full : u ≡ true → PlacesLater p k i n e row next o rings ends run rings ends run (Refused 11 (next .task .0))
-        unfolding releaseLater
+        unfolding PlacesLater releaseLater
         later-full v limits m st g =
             refused-result limits p k i Release _ 11 (next .task .0)
             (g ∙ passes _ _ there ∙ refuses _ _ _ _ (ap (full k) ends-are ∙ sym hu ∙ v) ∙ rw (st .task) refl)
@@ -109,7 +109,7 @@ module _ (p k i o : ℕ) (rings : List Copy) (ends : List ℕ) (z : Ringed p k i
           free = ap (full k) ends-are ∙ sym hu ∙ v
 
           pub later-damaged : c ≡ counted.Damaged → PlacesLater p k i n e row next o rings ends run rings ends run (Refused 8 0)
-          unfolding releaseLater
+          unfolding PlacesLater releaseLater
           later-damaged w limits m st g =
               refused-result limits p k i Release _ 8 0
               (g ∙ passes _ _ there ∙ lets _ _ _ _ free ∙ count-refused n e _ (st .tasks, st .edges) _ _ (sym hc ∙ w))
@@ -119,7 +119,7 @@ module _ (p k i o : ℕ) (rings : List Copy) (ends : List ℕ) (z : Ringed p k i
               → ringsOf rings′ ends′ ≡ appendedAt k q (copy (next .task .0) (next .completed .0)) (ringsOf rings ends)
               → PlacesLater p k i n e row next o rings ends run rings′ ends′ (set run 1 (a + 1))
               (Taken (Placed (taskCopy (copy (next .task .0) (next .completed .0))) (record { 0 = o })) after)
-          unfolding releaseLater written updated appendedAt
+          unfolding PlacesLater releaseLater written updated appendedAt
           later-accepted a w after l rings′ ends′ hr limits m st g =
               rw (
                 counts-are n e run a (sym hc ∙ w) .0,
@@ -157,7 +157,7 @@ module _ (p k i e : ℕ) (row : WeakRow) (next : Successor) (o : ℕ) (w : List 
   heavy-is h m s g = rw (weight-is m s g) (lt-leb _ _ h)
 
   pub join-heavy : 65535 < getD w (next .task .0) 0 → JoinsFirst p k i e row next o w x x (Refused 8 0)
-  unfolding releaseTo
+  unfolding JoinsFirst releaseTo
   join-heavy h limits m s g f = refused-result limits p k i Release _ 8 0 (f ∙ fails _ _ (heavy-is h m s g))
 
   module _ (light : getD w (next .task .0) 0 ≤ 65535) (c : Counted) (hc : c ≡ countOf (length w) e (x .run)) where
@@ -165,7 +165,7 @@ module _ (p k i e : ℕ) (row : WeakRow) (next : Successor) (o : ℕ) (w : List 
     light-is m s g = rw (weight-is m s g) (le-leb _ _ light)
 
     pub join-damaged : c ≡ counted.Damaged → JoinsFirst p k i e row next o w x x (Refused 8 0)
-    unfolding releaseTo
+    unfolding JoinsFirst releaseTo
     join-damaged v limits m s g f =
         refused-result limits p k i Release _ 8 0
         (f ∙ passes _ _ (light-is m s g) ∙ count-refused (length w) e _ (s .tasks, s .edges) _ _ (sym hc ∙ v))
@@ -178,7 +178,7 @@ module _ (p k i e : ℕ) (row : WeakRow) (next : Successor) (o : ℕ) (w : List 
         → JoinsFirst p k i e row next o w x
         (wordsOf (set (x .fixed) (next .task .0) o) rings ends counters (set (x .run) 1 (a + 1)))
         (Taken (Placed (taskCopy (copy (next .task .0) (next .completed .0))) (record { 0 = o })) after)
-    unfolding releaseTo written updated appendedAt
+    unfolding JoinsFirst releaseTo written updated appendedAt
     join-accepted a v after l y hy counters hk rings ends hr limits m s g f =
         rw (
           counts-are (length w) e (x .run) a (sym hc ∙ v) .0,
@@ -212,7 +212,7 @@ owner-takes p k i s e c r told o both v = subst (Owned p k i s e c) v told
 module _ (p k i e : ℕ) (row : WeakRow) (next : Successor) (w : List ℕ) (x : Words) (r : Owner)
     (told : r ≡ ownerOf p k i (next .task .0) (x .ends) (x .counters)) where
   pub first-refused : (n d : ℕ) → r ≡ owner.Refused n d → PlacesFirst p k i e row next w x x (Refused n d)
-  unfolding releaseTo
+  unfolding PlacesFirst releaseTo
   first-refused n d v limits m s g f =
       refused-result limits p k i Release _ n d
       (f ∙ first-room p k i _
@@ -220,6 +220,7 @@ module _ (p k i e : ℕ) (row : WeakRow) (next : Successor) (w : List ℕ) (x : 
 
   pub first-placed : (o : WorkerId) (both : Ends) → r ≡ owner.At o both → (x′ : Words) (y : WeakStepped) → JoinsFirst p k i e row next (o .0) w x x′ y
       → PlacesFirst p k i e row next w x x′ y
+  unfolding JoinsFirst PlacesFirst
   first-placed o both v x′ y j limits m s g f =
       j limits m s g
       (f ∙ first-room p k i _
@@ -248,16 +249,19 @@ module _ (p k i e : ℕ) (row : WeakRow) (next : Successor) (w : List ℕ) (x : 
   chosen m s = by-word m s ∙ choose (eqb word (nil .0)) (ltb word p) _ _
 
   pub copy-first : word ≡ 65535 → (x′ : Words) (y : WeakStepped) → PlacesFirst p k i e row next w x x′ y → PlacesCopy p k i e row next w x x′ y
+  unfolding PlacesFirst PlacesCopy
   copy-first h x′ y j limits m s g f = j limits m s g (f ∙ chosen m s ∙ rw (eq-eqb word 65535 h) refl)
 
   module _ (h : ¬ (word ≡ 65535)) where
     pub copy-damaged : p ≤ word → PlacesCopy p k i e row next w x x (Refused 8 0)
+    unfolding PlacesCopy
     copy-damaged l limits m s g f =
         refused-result limits p k i Release _ 8 0 (f ∙ chosen m s ∙ rw (ne-eqb word 65535 h, le-ltb word p l) refl)
 
     pub copy-later : word < p → (rings′ : List Copy) (ends′ run′ : List ℕ) (y : WeakStepped)
         → PlacesLater p k i (length w) e row next word (x .rings) (x .ends) (x .run) rings′ ends′ run′ y
         → PlacesCopy p k i e row next w x (wordsOf (x .fixed) rings′ ends′ (x .counters) run′) y
+    unfolding PlacesLater PlacesCopy
     copy-later l rings′ ends′ run′ y j limits m s g f =
         j limits (withWords m x (m .rows)) (record { tasks = s .tasks; edges = s .edges; row = s .row; task = s .task; completed = s .completed; count = s .count })
         (f ∙ chosen m s ∙ rw (ne-eqb word 65535 h, lt-ltb word p l) refl)

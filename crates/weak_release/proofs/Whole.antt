@@ -40,6 +40,7 @@ module _ (row : WeakRow) (judged : Judged) (r : WeakAdmitted) (told : Admits row
 module _ (p k i : ℕ) (sizes : WeakSizes) (judged : Judged) (row : WeakRow) (t : Tables) (x : Words) (r : WeakAdmitted)
     (told : Admits row Release judged r) where
   pub whole-refused : (n d : ℕ) → r ≡ admitted.Refused n d → Releases p k i sizes judged row t x x (stepped.Refused n d)
+  unfolding Releases
   whole-refused n d v limits m j e h =
       refused-result limits p k i Release (lent m t x (m .rows)) n d
       (admission-refused p k i sizes row Release limits (lent m t x (m .rows)) e h judged j r told n d v)
@@ -94,6 +95,7 @@ module _ (p k i : ℕ) (sizes : WeakSizes) (judged : Judged) (row : WeakRow) (t 
 
     module _ (z : Reached) (hz : z ≡ reached) where
       pub whole-none : (n d : ℕ) → z ≡ reach.Refused n d → Releases p k i sizes judged row t x x (stepped.Refused n d)
+      unfolding Releases
       whole-none n d c limits m j e h =
           refused-result limits p k i Release (lent m t x (m .rows)) n d
           (follows m e h limits j ∙ planned-refused reached _ n d (sym hz ∙ c))
@@ -131,6 +133,7 @@ module _ (p k i : ℕ) (sizes : WeakSizes) (judged : Judged) (row : WeakRow) (t 
 
         pub whole-copy : (x′ : Words) (y : WeakStepped) → PlacesCopy p k i (sizes .preds) after s (t .weights) x x′ y
             → Releases p k i sizes judged row t x x′ y
+        unfolding PlacesCopy Releases
         whole-copy x′ y f limits m j e h =
             f limits (lent m t x (m .rows)) (stands m e h) refl
             (follows m e h limits j ∙ planned-at reached _ s (sym hz ∙ c))

@@ -78,7 +78,7 @@ Finishes limits p k i rest m x x′ r =
     ≡ step limits p k i step-name.Release (withWords m x (m .rows))
 
 -- whatever the other lists hold: a later copy joins the ring of owner o
-abbrev pub PlacesLater : (p k i n e : ℕ) → WeakRow → Successor → ℕ → List Copy → (ends run : List ℕ) → List Copy → (ends′ run′ : List ℕ) → WeakStepped
+unfoldable pub PlacesLater : (p k i n e : ℕ) → WeakRow → Successor → ℕ → List Copy → (ends run : List ℕ) → List Copy → (ends′ run′ : List ℕ) → WeakStepped
     → Type 0
 PlacesLater p k i n e row next o rings ends run rings′ ends′ run′ r =
     (limits : Limits) (m : Mem) → Stands i n e row next m
@@ -86,13 +86,13 @@ PlacesLater p k i n e row next o rings ends run rings′ ends′ run′ r =
     (wordsOf (m .fixed) rings ends (m .counters) run) (wordsOf (m .fixed) rings′ ends′ (m .counters) run′) r
 
 -- the first copy joins the ring of owner o
-abbrev pub JoinsFirst : (p k i e : ℕ) → WeakRow → Successor → ℕ → List ℕ → Words → Words → WeakStepped → Type 0
+unfoldable pub JoinsFirst : (p k i e : ℕ) → WeakRow → Successor → ℕ → List ℕ → Words → Words → WeakStepped → Type 0
 JoinsFirst p k i e row next o weights x x′ r =
     (limits : Limits) (m : Mem) → Stands i (length weights) e row next m → m .weights ≡ weights
     → Finishes limits p k i (λ m. releaseTo p k i m (at o)) m x x′ r
 
 -- the first copy looks for its owner
-abbrev pub PlacesFirst : (p k i e : ℕ) → WeakRow → Successor → List ℕ → Words → Words → WeakStepped → Type 0
+unfoldable pub PlacesFirst : (p k i e : ℕ) → WeakRow → Successor → List ℕ → Words → Words → WeakStepped → Type 0
 PlacesFirst p k i e row next weights x x′ r =
     (limits : Limits) (m : Mem) → Stands i (length weights) e row next m → m .weights ≡ weights
     → Finishes limits p k i (releaseFirst p k i) m x x′ r
@@ -104,7 +104,7 @@ releaseCopy p k i m =
     (cond (eqb (fixedIn m (successor m i)) (nil .0)) (releaseFirst p k i m) (releaseLater p k i m (fixedIn m (successor m i))))
 
 -- the worker that the task is fixed to decides
-abbrev pub PlacesCopy : (p k i e : ℕ) → WeakRow → Successor → List ℕ → Words → Words → WeakStepped → Type 0
+unfoldable pub PlacesCopy : (p k i e : ℕ) → WeakRow → Successor → List ℕ → Words → Words → WeakStepped → Type 0
 PlacesCopy p k i e row next weights x x′ r =
     (limits : Limits) (m : Mem) → Stands i (length weights) e row next m → m .weights ≡ weights
     → Finishes limits p k i (releaseCopy p k i) m x x′ r

@@ -28,20 +28,21 @@ module _ (p k i : ℕ) (row : WeakRow) (sizes : WeakSizes) (judged : Judged) (r 
   before m = withRun m run (m .rows)
 
   pub start-refused : (n d : ℕ) → r ≡ Refused n d → Starts p k i sizes judged row run run (stepped.Refused n d)
+  unfolding Starts
   start-refused n d v limits m j e h =
       refused-result limits p k i Start (before m) n d
       (admission-refused p k i sizes row Start limits (before m) e h judged j r told n d v)
 
   module _ (after : WeakRow) (v : r ≡ To after) (x : Counted) (hx : x ≡ countOf (sizes .weights) (sizes .preds) run) where
     pub start-damaged : x ≡ Damaged → Starts p k i sizes judged row run run (stepped.Refused 8 0)
-    unfolding ruleOf startRule
+    unfolding Starts ruleOf startRule
     start-damaged b limits m j e h =
         rule-refused limits p k i Start (before m) after
         (admission-enters p k i sizes row Start limits (before m) e h judged j r told after v)
         8 0 (count-refused (sizes .weights) (sizes .preds) (before m) (extent-of sizes (before m) e) Moved _ (sym hx ∙ b))
 
     pub start-accepted : (a : ℕ) → x ≡ At a → Starts p k i sizes judged row run (set run 1 (a + 1)) (stepped.Taken Moved after)
-    unfolding ruleOf startRule written updated
+    unfolding Starts ruleOf startRule written updated
     start-accepted a b limits m j e h =
         let enters = admission-enters p k i sizes row Start limits (before m) e h judged j r told after v in
         rw (enters .leads, counts-are (sizes .weights) (sizes .preds) run a (sym hx ∙ b) .0)
