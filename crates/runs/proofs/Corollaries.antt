@@ -1,4 +1,4 @@
--- What follows for a run at any time: no task is recorded before its predecessors, no two workers hold one task; and for a finished one: it
+-- What follows for a run at any time: no task is recorded, held or waits before its predecessors are recorded, no two workers hold one task; and for a finished one: it
 -- records the same tasks as any other of its graph, and accepts no further step. With N 0 begun is finished.
 use Prim.Native.Nat.{ℕ, _<_}
 use mathlib.Core.Path.{_≡_, refl, sym, ap, _∙_}
@@ -41,8 +41,8 @@ use Rattle.plans.proofs.Headers.{kept, not-beyond}
 use Rattle.rules.proofs.Limits.{beyond-2}
 use Rattle.rules.proofs.Moves.{accepted-step}
 use Rattle.rules.proofs.Numbers.{TwoOrOne, other-step, other-begin}
-use Rattle.algorithm1.specs.Reading.{queueIn, threadIn}
-use Rattle.algorithm1.proofs.Readings.{thread-at}
+use Rattle.algorithm1.specs.Reading.{queueIn, threadIn, stateOf}
+use Rattle.algorithm1.proofs.Readings.{queue-at, thread-at}
 use Rattle.system.specs.Stages.{inHand}
 use Rattle.system.proofs.Progress as progress
 use Rattle.runs.specs.Calls.{stepCall, beginCall, says, leaves, Run, KeptBy, memoryOf, eventsOf}
@@ -52,11 +52,15 @@ use Rattle.runs.proofs.Invariant.{itemsOf, meaning}
 use Rattle.runs.proofs.Calls.{accepted-fits, graph-reached, tasks-reached, edges-reached}
 use Rattle.runs.proofs.Begun.{items-reversed}
 use Rattle.runs.proofs.Hands.{hand-holds}
+use Rattle.runs.proofs.Waiting.{list-waits}
 use Rattle.runs.proofs.Events.{entries-word}
 use Rattle.runs.proofs.Honest.{systemIn, honest-run}
 use Rattle.runs.proofs.Weights.{counters-add-up}
 use Rattle.runs.proofs.Undamaged.{undamaged}
 use Rattle.runs.proofs.Demand.{run-sound, invariant-run, recorded, recorded-words, recorded-length, finished-count, finished-full, finished-order, demand-3}
+
+edge-as : {g g′ : Graph} {u t : ℕ} → g′ ≡ g → Edge g u t → Edge g′ u t
+edge-as q e = rw q e
 
 module _ (r : Run) where
   abbrev p : ℕ
@@ -80,10 +84,24 @@ module _ (r : Run) where
       progress.one-holder ℕ-discrete (itemsOf graph) (items-reversed graph (run-sound r)) p {s = systemIn p (r .slots) now} (invariant-run r) i j (held now i) hi hj
       (in-hand i hi bi) (rw e (in-hand j hj bj))
 
+  -- the record's tasks are those of the lent words
+  record-at : (z : ℕ) → z < entriesIn now → getD (recorded r) z 0 ≡ taskWord now z
+  record-at z h = ap (λ (l : List ℕ). getD l z 0) (recorded-words r) ∙ getD-tabulate (entriesIn now) (taskWord now) 0 z h
+
+  -- a recorded task stands in one of them
+  recorded-at : (u : ℕ) → 0 < occ u (recorded r)
+      → (placeOf ℕ-discrete u (recorded r) < entriesIn now) × (taskWord now (placeOf ℕ-discrete u (recorded r)) ≡ u)
+  recorded-at u member =
+      let inside : placeOf ℕ-discrete u (recorded r) < entriesIn now = omega (arith, place-member ℕ-discrete u (recorded r) member, recorded-length r) in
+      (inside, sym (record-at (placeOf ℕ-discrete u (recorded r)) inside) ∙ place-at ℕ-discrete 0 u (recorded r) member)
+
   -- a predecessor of a recorded task is recorded before it
   recorded-early : (x u : ℕ) → x < entriesIn now → 0 < occ u (predsOf graph (taskWord now x)) → (y : ℕ) × (y < x) × (taskWord now y ≡ u)
-  recorded-early x u inside pred =
-      (y, omega (arith, before, place-least ℕ-discrete 0 l x within, ap (λ (t : ℕ). placeOf ℕ-discrete t l) (at x inside)), there)
+  recorded-early x u inside pred = (
+    placeOf ℕ-discrete u l,
+    omega (arith, before, place-least ℕ-discrete 0 l x within, ap (λ (t : ℕ). placeOf ℕ-discrete t l) (record-at x inside)),
+    recorded-at u (before-member ℕ-discrete u (taskWord now x) l before) .1,
+  )
     where
       l : List ℕ
       l = recorded r
@@ -91,20 +109,35 @@ module _ (r : Run) where
       within : x < length l
       within = omega (arith, inside, recorded-length r)
 
-      at : (z : ℕ) → z < entriesIn now → getD l z 0 ≡ taskWord now z
-      at z h = ap (λ (l : List ℕ). getD l z 0) (recorded-words r) ∙ getD-tabulate (entriesIn now) (taskWord now) 0 z h
+      before : placeOf ℕ-discrete u l < placeOf ℕ-discrete (taskWord now x) l
+      before = invariant-run r .order u (taskWord now x) pred (rw (record-at x inside) at (at-occ ℕ-discrete 0 l x within))
 
-      y : ℕ
-      y = placeOf ℕ-discrete u l
+  -- the task is recorded
+  abbrev pub Recorded : ℕ → Type 0
+  Recorded u = (y : ℕ) × (y < acceptedCompletes (eventsOf r)) × (taskWord (memoryOf r) y ≡ u)
 
-      before : y < placeOf ℕ-discrete (taskWord now x) l
-      before = invariant-run r .order u (taskWord now x) pred (rw (at x inside) at (at-occ ℕ-discrete 0 l x within))
+  recorded-word : (u : ℕ) → 0 < occ u (recorded r) → Recorded u
+  recorded-word u member =
+      let (inside, there) = recorded-at u member in
+      (placeOf ℕ-discrete u (recorded r), omega (arith, inside, entries-word r), there)
 
-      member : 0 < occ u l
-      member = before-member ℕ-discrete u (taskWord now x) l before
+  edge-here : (u t : ℕ) → Edge (graphIn (r .lent)) u t → 0 < occ u (predsOf graph t)
+  edge-here u t e = edge-as (graph-reached r) e .predecessor
 
-      there : taskWord now y ≡ u
-      there = sym (at y (omega (arith, place-member ℕ-discrete u l member, recorded-length r))) ∙ place-at ℕ-discrete 0 u l member
+  -- a task waits, and a worker holds it, only behind all its predecessors
+  pub waiting-behind : (i j t u : ℕ) → i < r .workers → j < r .workers → 0 < occ t (queueIn (r .workers) (r .slots) (memoryOf r) i j)
+      → Edge (graphIn (r .lent)) u t → Recorded u
+  unfolding meaning
+  waiting-behind i j t u hi hj h e =
+      recorded-word u
+      (progress.waiting-behind ℕ-discrete (itemsOf graph) (items-reversed graph (run-sound r)) p {s = systemIn p (r .slots) now} (invariant-run r) i t u hi
+      (list-waits p (stateOf p (r .slots) now) i ℕ-discrete t j hj (rw (queue-at p (r .slots) now i j hi hj) h)) (edge-here u t e))
+
+  pub held-behind : (i u : ℕ) → i < r .workers → ¬ (_≡_ {A = ℕ} (rowIn (memoryOf r) i .phase) 0) → Edge (graphIn (r .lent)) u (held (memoryOf r) i) → Recorded u
+  held-behind i u hi busy e =
+      recorded-word u
+      (progress.held-behind ℕ-discrete (itemsOf graph) (items-reversed graph (run-sound r)) p {s = systemIn p (r .slots) now} (invariant-run r) i (held now i) u hi
+      (in-hand i hi busy) (edge-here u (held now i) e))
 
 -- finished runs of one graph record the same tasks
 pub same-tasks : (r r′ : Run) → OneGraph r r′ → Finished r → Finished r′ → (t : ℕ) → occ t (orderOf r) ≡ occ t (orderOf r′)
@@ -114,11 +147,7 @@ same-tasks r r′ o f f′ t =
 -- in an unfinished run too, the record has every task after all its predecessors
 pub never-early : (r : Run) (x u : ℕ) → x < acceptedCompletes (eventsOf r) → Edge (graphIn (r .lent)) u (taskWord (memoryOf r) x)
     → (y : ℕ) × (y < x) × (taskWord (memoryOf r) y ≡ u)
-never-early r x u h e =
-    recorded-early r x u (omega (arith, h, entries-word r)) (edge-as (graph-reached r) e .predecessor)
-  where
-    edge-as : {g g′ : Graph} {t : ℕ} → g′ ≡ g → Edge g u t → Edge g′ u t
-    edge-as q e = rw q e
+never-early r x u h e = recorded-early r x u (omega (arith, h, entries-word r)) (edge-here r u (taskWord (memoryOf r) x) e)
 
 -- a finished run accepts no further step, whatever the limits, P, K and worker
 pub no-more : (r : Run) → Finished r → (limits : Limits) (p k i : ℕ) (s : Step) → ¬ (Acceptance (stepSays (step limits p k i s (memoryOf r) .answer)))

@@ -13,7 +13,7 @@ use Rattle.lists.proofs.Occurrences.{occ-nil, occ-hit, less-often}
 use Rattle.lists.proofs.Sums.{sum-zero, sum-prefix, sum-find, one-adds}
 use Rattle.system.specs.Stages.{Hand, idle, fetched, running, inHand, phase, places}
 use Rattle.system.specs.System.{Items, Reversed, State, missing, Invariant, Falls, Step, fetch, start, complete, lower, place, Begins, Ready, toStart, toComplete, toFetch, toRelease}
-use Rattle.system.proofs.Records.{missing-find}
+use Rattle.system.proofs.Records.{missing-none, missing-find}
 
 idle-hand : {A : Type 0} (r : Hand A) → phase r ≡ 0 → r ≡ idle
 idle-hand idle h = refl
@@ -105,6 +105,21 @@ module _ {A : Type 0} (same : Discrete A) (G : Items A) where
       pub waiting-wanted : (i : ℕ) (a : A) → i < P → 0 < occOf same a (s .stages .waiting i) → G .want a ≡ 1
       unfolding places
       waiting-wanted i a l h = omega (arith, h, v .stage a, laws .one a, sum-prefix P (λ j. occOf same a (s .stages .waiting j)) i l)
+
+      -- and all its predecessors are recorded
+      pub held-behind : (i : ℕ) (a u : A) → i < P → 0 < occOf same a (inHand (s .stages .hand i)) → 0 < occOf same u (G .preds a)
+          → 0 < occOf same u (s .stages .done)
+      unfolding places
+      held-behind i a u l h =
+          missing-none same (G .preds a) (s .stages .done) u
+          (omega (arith, h, v .stage a, v .degree a, laws .one a, sum-prefix P (λ j. occOf same a (inHand (s .stages .hand j))) i l))
+
+      pub waiting-behind : (i : ℕ) (a u : A) → i < P → 0 < occOf same a (s .stages .waiting i) → 0 < occOf same u (G .preds a)
+          → 0 < occOf same u (s .stages .done)
+      unfolding places
+      waiting-behind i a u l h =
+          missing-none same (G .preds a) (s .stages .done) u
+          (omega (arith, h, v .stage a, v .degree a, laws .one a, sum-prefix P (λ j. occOf same a (s .stages .waiting j)) i l))
 
       -- no item is in two hands
       pub one-holder : (i j : ℕ) (a : A) → i < P → j < P → 0 < occOf same a (inHand (s .stages .hand i)) → 0 < occOf same a (inHand (s .stages .hand j)) → i ≡ j

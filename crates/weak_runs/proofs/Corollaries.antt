@@ -1,6 +1,7 @@
--- What follows for a weak run at any time: no copy is recorded before the copies of its predecessor, copies of one task are in no order, no two workers
--- hold copies of one task; and for a finished one: it records the same copies as any other of its graph, and accepts no further step. With N 0 begun is finished.
-use Prim.Native.Nat.{ℕ, _<_}
+-- What follows for a weak run at any time: no copy is recorded, held or waits before the copies of its predecessor are recorded, copies of one task are
+-- in no order, no two workers hold copies of one task; and for a finished one: it records the same copies as any other of its graph, and accepts no
+-- further step. With N 0 begun is finished.
+use Prim.Native.Nat.{ℕ, _+_, _<_}
 use mathlib.Core.Path.{_≡_, sym, ap, _∙_}
 use mathlib.Core.Logic.{inl}
 use mathlib.Core.List.{List}
@@ -34,7 +35,9 @@ use Rattle.choice.specs.Least.{load, Least}
 use Rattle.choice.proofs.Least.{least-same}
 use Rattle.exchange.specs.Exchange.{Unordered}
 use Rattle.machine.specs.Jobs as jobs
-use Rattle.copies.specs.Copies.{Copy, sameCopy, Before}
+use Rattle.system.proofs.Progress as progress
+use Rattle.copies.specs.Copies.{Copy, sameCopy, copiesOf, Before}
+use Rattle.copies.proofs.Copies.{before-preds}
 use Rattle.copies.proofs.Runs.{weak-order}
 use Rattle.copies.proofs.Unordered.{copies-unordered}
 use Rattle.plans.specs.Sizes.{KeepsLimits}
@@ -48,19 +51,26 @@ use Rattle.weak_rules.specs.Moves.{ReleasesFirst}
 use Rattle.weak_rules.proofs.Limits.{beyond-2}
 use Rattle.weak_rules.proofs.Moves.{accepted-step}
 use Rattle.weak_rules.proofs.Numbers.{TwoOrOne, other-step, other-begin}
+use Rattle.runs.proofs.Waiting.{list-waits}
 use Rattle.weak_algorithm.specs.State.{noItem}
+use Rattle.weak_algorithm.specs.Reading.{stateOf}
+use Rattle.weak_algorithm.proofs.Readings.{queue-at}
 use Rattle.weak_runs.specs.Calls.{stepCall, beginCall, says, leaves, acceptedSteps, acceptedCompletes, Run, KeptBy, memoryOf, eventsOf, graphOf, rootsOf}
 use Rattle.weak_runs.specs.Counters.{openOf}
 use Rattle.weak_runs.specs.Demand.{Finished, copyWords, orderOf, OneGraph}
-use Rattle.weak_runs.proofs.Invariant.{systemIn}
+use Rattle.weak_runs.specs.Fairness.{queueIn}
+use Rattle.weak_runs.proofs.Invariant.{meaning, systemIn}
 use Rattle.weak_runs.proofs.Calls.{accepted-fits, graph-reached, tasks-reached, edges-reached}
 use Rattle.weak_runs.proofs.Events.{entries-word, roots-word}
 use Rattle.weak_runs.proofs.Honest.{honest-run}
-use Rattle.weak_runs.proofs.Live.{recorded-length}
+use Rattle.weak_runs.proofs.Live.{honest-laws, honest-invariant, recorded-length, in-hand, running-open}
 use Rattle.weak_runs.proofs.Sums.{counters-add-up}
 use Rattle.weak_runs.proofs.FixedWorkers.{fixed-workers}
 use Rattle.weak_runs.proofs.Ranges.{undamaged}
 use Rattle.weak_runs.proofs.Demand.{run-sound, run-once, recorded-words, finished-count, finished-order, order-agreed, demand-3}
+
+before-as : {g g′ : Graph} {b c : Copy} → g′ ≡ g → Before g b c → Before g′ b c
+before-as q e = rw q e
 
 module _ (r : Run) where
   abbrev now : Mem
@@ -72,33 +82,64 @@ module _ (r : Run) where
   one-holder i j hi hj bi bj e =
       omega (arith, fixed-workers .inHand r i hi bi, fixed-workers .inHand r j hj bj, ap (λ (t : ℕ). getD (now .fixed) t 0) e)
 
+  abbrev done : List Copy
+  done = systemIn (r .workers) (r .slots) now .stages .done
+
+  -- the record's copies are those of the lent words
+  record-at : (z : ℕ) → z < entriesIn now → getD done z noItem ≡ copyWords now z
+  record-at z h = ap (λ (l : List Copy). getD l z noItem) (recorded-words r) ∙ getD-tabulate (entriesIn now) (copyWords now) noItem z h
+
+  -- a recorded copy stands in one of them
+  recorded-at : (b : Copy) → 0 < occOf sameCopy b done → (placeOf sameCopy b done < entriesIn now) × (copyWords now (placeOf sameCopy b done) ≡ b)
+  recorded-at b member =
+      let inside : placeOf sameCopy b done < entriesIn now = omega (arith, place-member sameCopy b done member, recorded-length (honest-run r)) in
+      (inside, sym (record-at (placeOf sameCopy b done) inside) ∙ place-at sameCopy noItem b done member)
+
   -- a copy of a recorded copy's predecessor is recorded before it
   recorded-early : (x : ℕ) (b : Copy) → x < entriesIn now → Before (graphIn now) b (copyWords now x) → (y : ℕ) × (y < x) × (copyWords now y ≡ b)
-  recorded-early x b inside e =
-      (y, omega (arith, before, place-least sameCopy noItem l x within, ap (λ (c : Copy). placeOf sameCopy c l) (at x inside)), there)
+  recorded-early x b inside e = (
+    placeOf sameCopy b done,
+    omega (arith, before, place-least sameCopy noItem done x within, ap (λ (c : Copy). placeOf sameCopy c done) (record-at x inside)),
+    recorded-at b (before-member sameCopy b (copyWords now x) done before) .1,
+  )
     where
-      l : List Copy
-      l = systemIn (r .workers) (r .slots) now .stages .done
-
-      within : x < length l
+      within : x < length done
       within = omega (arith, inside, recorded-length (honest-run r))
 
-      at : (z : ℕ) → z < entriesIn now → getD l z noItem ≡ copyWords now z
-      at z h = ap (λ (l : List Copy). getD l z noItem) (recorded-words r) ∙ getD-tabulate (entriesIn now) (copyWords now) noItem z h
-
-      y : ℕ
-      y = placeOf sameCopy b l
-
-      before : y < placeOf sameCopy (copyWords now x) l
+      before : placeOf sameCopy b done < placeOf sameCopy (copyWords now x) done
       before =
           weak-order (graphIn now) (run-sound r) (run-once r) (r .workers) (honest-run r .weak) b (copyWords now x) e
-          (rw (at x inside) at (at-occ sameCopy noItem l x within))
+          (rw (record-at x inside) at (at-occ sameCopy noItem done x within))
 
-      member : 0 < occOf sameCopy b l
-      member = before-member sameCopy b (copyWords now x) l before
+  -- the copy is recorded
+  abbrev pub Recorded : Copy → Type 0
+  Recorded b = (y : ℕ) × (y < acceptedCompletes (eventsOf r)) × (copyWords (memoryOf r) y ≡ b)
 
-      there : copyWords now y ≡ b
-      there = sym (at y (omega (arith, place-member sameCopy b l member, recorded-length (honest-run r)))) ∙ place-at sameCopy noItem b l member
+  recorded-word : (b : Copy) → 0 < occOf sameCopy b done → Recorded b
+  recorded-word b member =
+      let (inside, there) = recorded-at b member in
+      (placeOf sameCopy b done, omega (arith, inside, entries-word r), there)
+
+  before-here : (b c : Copy) → Before (graphOf r) b c → 0 < occOf sameCopy b (copiesOf (graphIn now) .preds c)
+  before-here b c e = before-preds (graphIn now) (run-sound r) (before-as (graph-reached r) e)
+
+  -- "A seam can be corrected with each finished neighbour alone": a copy waits, and a worker holds it, only behind all copies of its predecessor
+  pub waiting-behind : (i j : ℕ) (c b : Copy) → i < r .workers → j < r .workers → 0 < occOf sameCopy c (queueIn (r .workers) (r .slots) (memoryOf r) i j)
+      → Before (graphOf r) b c → Recorded b
+  unfolding meaning stateOf
+  waiting-behind i j c b hi hj h e =
+      recorded-word b
+      (progress.waiting-behind sameCopy (copiesOf (graphIn now)) (honest-laws (honest-run r)) (r .workers) {s = systemIn (r .workers) (r .slots) now}
+      (honest-invariant (honest-run r)) i c b hi
+      (list-waits (r .workers) (stateOf (r .workers) (r .slots) now .lists) i sameCopy c j hj (rw (queue-at (r .workers) (r .slots) now i j hi hj) h)) (before-here b c e))
+
+  pub held-behind : (i : ℕ) (b : Copy) → i < r .workers → ¬ (_≡_ {A = ℕ} (rowIn (memoryOf r) i .phase) 0) → Before (graphOf r) b (held (memoryOf r) i)
+      → Recorded b
+  unfolding meaning
+  held-behind i b hi busy e =
+      recorded-word b
+      (progress.held-behind sameCopy (copiesOf (graphIn now)) (honest-laws (honest-run r)) (r .workers) {s = systemIn (r .workers) (r .slots) now}
+      (honest-invariant (honest-run r)) i (held now i) b hi (in-hand (honest-run r) i hi busy) (before-here b (held now i) e))
 
 -- finished runs of one graph record the same copies
 pub same-copies : (r r′ : Run) → OneGraph r r′ → Finished r → Finished r′ → (c : Copy) → occOf sameCopy c (orderOf r) ≡ occOf sameCopy c (orderOf r′)
@@ -108,9 +149,6 @@ same-copies r r′ o f f′ c = finished-order r f .once c ∙ sym (order-agreed
 pub never-early : (r : Run) (x : ℕ) (b : Copy) → x < acceptedCompletes (eventsOf r) → Before (graphOf r) b (copyWords (memoryOf r) x)
     → (y : ℕ) × (y < x) × (copyWords (memoryOf r) y ≡ b)
 never-early r x b h e = recorded-early r x b (omega (arith, h, entries-word r)) (before-as (graph-reached r) e)
-  where
-    before-as : {g g′ : Graph} {c : Copy} → g′ ≡ g → Before g b c → Before g′ b c
-    before-as q e = rw q e
 
 -- "copies of one task may pass each other": the graph doesn't order them
 pub copies-pass : (r : Run) (b c : Copy) → b .task ≡ c .task → Unordered (Before (graphOf r)) b c
@@ -179,6 +217,10 @@ accepted-kept r limits p k = (
         rw (sym ep, sym ek, sym (tasks-reached r), sym (edges-reached r))
         (kept limits p k (memoryOf r)
         (λ b. accepted-fits said a (inl (beyond (λ w. not-beyond limits p k (memoryOf r) (rw (tasks-reached r, edges-reached r) w) b)))))
+
+-- while a worker holds a copy, an entry is free for it
+pub holding-open : (r : Run) (i : ℕ) → i < r .workers → ¬ (_≡_ {A = ℕ} (rowIn (memoryOf r) i .phase) 0) → entriesIn (memoryOf r) < edges (r .lent) + rootsOf r
+holding-open r i worker busy = omega (arith, running-open (honest-run r) i worker busy, edges-reached r, roots-word r)
 
 -- in memory begun and stepped by the engine Complete never meets 12, whatever the limits, P, K and worker
 pub never-full : (r : Run) (limits : Limits) (p k i d : ℕ) → ¬ (stepSays (step limits p k i Complete (memoryOf r) .answer) ≡ refused recordFull d)

@@ -218,7 +218,7 @@ module _ {limits : Limits} {p k : ℕ} {m : Mem} (h : Honest limits p k m) where
           hand-holds (threadOf state i) (λ e. busy (sym (phase-at p k m i worker) ∙ e))
           ∙ ap (λ (r : Thread). r .held ∷ []) (thread-at p k m i worker)
 
-      in-hand : 0 < occOf sameCopy (held m i) (inHand (handOf (threadOf state i)))
+      pub in-hand : 0 < occOf sameCopy (held m i) (inHand (handOf (threadOf state i)))
       in-hand = omega (arith, ap (occOf sameCopy (held m i)) hand-is, occ-hit sameCopy (held m i) (held m i) [] refl)
 
       pub held-copy : copiesOf (graphIn m) .want (held m i) ≡ 1
