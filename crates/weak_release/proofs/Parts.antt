@@ -8,12 +8,11 @@ use lib.ListN.{length, getD, set}
 use lib.Dec.{eqb, ltb}
 use lib.IntN.{ℤ, pos, _+ℤ_}
 use borrow.Author.Tests.{eq-eqb, ne-eqb, le-leb, lt-leb, lt-ltb, le-ltb, not-true, not-false}
-use Rattle.task.specs.Types.{nil}
 use Rattle.task.specs.Refusals.{damaged}
 use Rattle.task.specs.declared.Ends.{Ends}
 use Rattle.task.specs.declared.WorkerId.{WorkerId}
 use Rattle.task.specs.declared.Step.the-variants.{Release}
-use Rattle.weak_task.specs.Types.{Copy, copy, taskCopy}
+use Rattle.weak_task.specs.Types.{Copy, copy, taskCopy, unfixed}
 use Rattle.weak_task.specs.Rows.{withPlaces}
 use Rattle.weak_task.specs.declared.WeakRow.{WeakRow}
 use Rattle.weak_task.specs.declared.WeakOutcome.the-variants.{Placed}
@@ -235,7 +234,7 @@ module _ (p k i e : ℕ) (row : WeakRow) (next : Successor) (w : List ℕ) (x : 
   by-word : (m : Mem) → Stands i (length w) e row next m
       → releaseCopy p k i (withWords m x (m .rows))
       ≡ checked (fixedFits p word)
-      (cond (eqb word (nil .0)) (releaseFirst p k i (withWords m x (m .rows))) (releaseLater p k i (withWords m x (m .rows)) word))
+      (cond (eqb word (unfixed .0)) (releaseFirst p k i (withWords m x (m .rows))) (releaseLater p k i (withWords m x (m .rows)) word))
   by-word m s = rw (s .task) refl
 
   choose : (b c : Bool) (first later : Plan) → checked (b || c) (cond b first later) ≡ cond b first (checked c later)
@@ -244,9 +243,9 @@ module _ (p k i e : ℕ) (row : WeakRow) (next : Successor) (w : List ℕ) (x : 
 
   chosen : (m : Mem) → Stands i (length w) e row next m
       → releaseCopy p k i (withWords m x (m .rows))
-      ≡ cond (eqb word (nil .0)) (releaseFirst p k i (withWords m x (m .rows)))
+      ≡ cond (eqb word (unfixed .0)) (releaseFirst p k i (withWords m x (m .rows)))
       (checked (ltb word p) (releaseLater p k i (withWords m x (m .rows)) word))
-  chosen m s = by-word m s ∙ choose (eqb word (nil .0)) (ltb word p) _ _
+  chosen m s = by-word m s ∙ choose (eqb word (unfixed .0)) (ltb word p) _ _
 
   pub copy-first : word ≡ 65535 → (x′ : Words) (y : WeakStepped) → PlacesFirst p k i e row next w x x′ y → PlacesCopy p k i e row next w x x′ y
   unfolding PlacesFirst PlacesCopy

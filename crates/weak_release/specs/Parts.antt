@@ -5,10 +5,10 @@ use mathlib.Core.Bool.{cond}
 use mathlib.Core.List.{List}
 use lib.ListN.{length}
 use lib.Dec.{eqb}
-use Rattle.task.specs.Types.{engine, nil}
+use Rattle.task.specs.Types.{engine}
 use Rattle.task.specs.declared.Limits.{Limits}
 use Rattle.task.specs.declared.Step.the-variants as step-name
-use Rattle.weak_task.specs.Types.{Copy}
+use Rattle.weak_task.specs.Types.{Copy, unfixed}
 use Rattle.weak_task.specs.Rows.{withPlaces}
 use Rattle.weak_task.specs.declared.WeakRow.{WeakRow}
 use Rattle.choice.specs.Search.{at}
@@ -101,7 +101,7 @@ PlacesFirst p k i e row next weights x x′ r =
 abbrev pub releaseCopy : ℕ → ℕ → ℕ → Mem → Plan
 releaseCopy p k i m =
     checked (fixedFits p (fixedIn m (successor m i)))
-    (cond (eqb (fixedIn m (successor m i)) (nil .0)) (releaseFirst p k i m) (releaseLater p k i m (fixedIn m (successor m i))))
+    (cond (eqb (fixedIn m (successor m i)) (unfixed .0)) (releaseFirst p k i m) (releaseLater p k i m (fixedIn m (successor m i))))
 
 -- the worker that the task is fixed to decides
 unfoldable pub PlacesCopy : (p k i e : ℕ) → WeakRow → Successor → List ℕ → Words → Words → WeakStepped → Type 0

@@ -17,7 +17,6 @@ use release_plan::Reached;
 use release_plan::Successor;
 use task::Ends;
 use task::Step;
-use task::TaskId;
 use task::WorkerId;
 use task::refusal;
 use weak_admission::Counted;
@@ -222,7 +221,7 @@ fn place_copy(
 {
     let task = next.task;
     let word = fixed[task.0 as usize];
-    if word == TaskId::NIL.0 {
+    if word == weak_task::UNFIXED.0 {
         return place_first(
             weights,
             fixed,

@@ -8,7 +8,7 @@ use lib.ListN.{length, getD, set, replicate, length-set, length-replicate}
 use Rattle.lists.specs.Circles.{after}
 use Rattle.lists.specs.Lists.{joined}
 use Rattle.task.specs.Types.{nil}
-use Rattle.weak_task.specs.Types.{Copy, copy}
+use Rattle.weak_task.specs.Types.{Copy, copy, unfixed}
 use Rattle.ring.specs.Ring.{endWords, ringsOf, appendedAt}
 use Rattle.memory.specs.Updates.{updated, written}
 use Rattle.plans.specs.Laying.{joinRing, rootsLaid}
@@ -44,7 +44,7 @@ rings-kept n l d a b = sym (length-copies l) ∙ a ∙ sym b ∙ length-copies d
 -- cleared lists, before any task
 pub laid-none : (p k : ℕ) (weights degrees : List ℕ) (tasks : ℕ) (fixed′ : List ℕ) (rings rings′ : List (List ℕ)) (ends ends′ : List ℕ) (counters counters′ : List ℤ)
     → Job p k weights degrees → Room p k (copiesOf rings) ends counters → tasks ≡ length degrees
-    → fixed′ ≡ replicate tasks (nil .0) → copiesOf rings′ ≡ replicate (length rings) (copy 0 0) → ends′ ≡ replicate (length ends) 0
+    → fixed′ ≡ replicate tasks (unfixed .0) → copiesOf rings′ ≡ replicate (length rings) (copy 0 0) → ends′ ≡ replicate (length ends) 0
     → counters′ ≡ replicate (length counters) (pos 0)
     → Laid p k weights degrees 0 0 fixed′ (copiesOf rings′) ends′ counters′
 unfolding rootsBelow joined rootsLaid
@@ -55,7 +55,7 @@ laid-none p k weights degrees tasks fixed′ rings rings′ ends ends′ counter
           (ap length r ∙ length-replicate _ _ ∙ sym (length-copies rings)) e c;
       words = ap length f ∙ length-replicate _ _ ∙ words;
       placed = λ m.
-          laid-same m weights (f ∙ ap (λ (n : ℕ). replicate n (nil .0)) words)
+          laid-same m weights (f ∙ ap (λ (n : ℕ). replicate n (unfixed .0)) words)
           (r ∙ ap (λ (n : ℕ). replicate n (copy 0 0)) (sym (length-copies rings) ∙ room .rings))
           (e ∙ ap (λ (n : ℕ). replicate n 0) (room .ends))
           (c ∙ ap (λ (n : ℕ). replicate n (pos 0)) (room .counters));
@@ -96,7 +96,7 @@ module _ (p k : ℕ) (weights degrees : List ℕ) (t owner : ℕ) (fixed : List 
       where
         start : Mem
         start =
-            laidIn m weights (replicate (length degrees) (nil .0)) (replicate (p * p * k) (copy 0 0)) (replicate (p * p * endWords) 0)
+            laidIn m weights (replicate (length degrees) (unfixed .0)) (replicate (p * p * k) (copy 0 0)) (replicate (p * p * endWords) 0)
             (replicate (p * p) (pos 0))
 
         before : Mem

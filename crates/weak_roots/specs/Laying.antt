@@ -5,7 +5,7 @@ use mathlib.Core.List.{List, [], _∷_}
 use lib.IntN.{ℤ, pos}
 use lib.ListN.{length, getD, replicate}
 use Rattle.task.specs.Types.{nil}
-use Rattle.weak_task.specs.Types.{Copy, copy}
+use Rattle.weak_task.specs.Types.{Copy, copy, unfixed}
 use Rattle.ring.specs.Ring.{ringWords, endWords}
 use Rattle.memory.specs.Field as list
 use Rattle.memory.specs.Memory.{put}
@@ -33,7 +33,7 @@ Placed p k weights degrees t fixed rings ends counters =
     (m : Mem)
     → laidIn m weights fixed rings ends counters
     ≡ rootsFixed p k 0 (rootsBelow degrees t)
-    (laidIn m weights (replicate (length degrees) (nil .0)) (replicate (p * p * ringWords k) (copy 0 0)) (replicate (p * p * endWords) 0)
+    (laidIn m weights (replicate (length degrees) (unfixed .0)) (replicate (p * p * ringWords k) (copy 0 0)) (replicate (p * p * endWords) 0)
     (replicate (p * p) (pos 0)))
 
 -- the roots below t are laid down: what lets the next task be laid down

@@ -3,7 +3,8 @@ ghost use mathlib.Core.Path.{_≡_};
 ghost use mathlib.Core.List.{List};
 ghost use Prim.Native.Nat.{ℕ, _+_, _≤_, _<_, max};
 ghost use lib.ListN.{length, replicate, set};
-ghost use Rattle.task.specs.Types.{engine, nil};
+ghost use Rattle.task.specs.Types.{engine};
+ghost use Rattle.weak_task.specs.Types.{unfixed};
 ghost use Rattle.graph.specs.Graph.{graphOf};
 ghost use Rattle.graph.specs.Conditions.{Sound};
 ghost use Rattle.graph.specs.Successors.{roots};
@@ -16,11 +17,11 @@ use weak_task::TaskCopy;
 
 // No task is fixed to a worker.
 fn unfix(fixed: &mut [u32])
-    ensures { λ r. ⌜ now (fixed .exit) ≡ replicate (length (now (fixed .entry))) (nil .0) ⌝ }
+    ensures { λ r. ⌜ now (fixed .exit) ≡ replicate (length (now (fixed .entry))) (unfixed .0) ⌝ }
 {
     let mut t = 0;
     while t < fixed.len() {
-        fixed[t] = TaskId::NIL.0;
+        fixed[t] = weak_task::UNFIXED.0;
         t += 1;
     }
 }

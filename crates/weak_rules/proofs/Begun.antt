@@ -14,10 +14,9 @@ use Rattle.lists.proofs.Blocks.{length-tabulate, getD-tabulate}
 use Rattle.lists.proofs.Decided.{tally-le-one}
 use Rattle.lists.proofs.Prefixes.{getD-equals, zeros}
 use Rattle.lists.proofs.Sums.{sum-prefix, sum-find, sum-most}
-use Rattle.task.specs.Types.{nil}
 use Rattle.task.specs.Refusals.{answerSays, accepted}
 use Rattle.task.specs.declared.Limits.{Limits}
-use Rattle.weak_task.specs.Types.{copy, idle}
+use Rattle.weak_task.specs.Types.{copy, idle, unfixed}
 use Rattle.weak_task.specs.declared.WeakRow.{WeakRow}
 use Rattle.graph.specs.Graph.{predsOf, part}
 use Rattle.graph.specs.Conditions.{Good, Sound}
@@ -106,29 +105,29 @@ module _ (p k : ℕ) (m : Mem) (lengths : Lengths p k m) (sound : Sound (graphIn
         ∙ getD-tabulate (tasks m) (λ t. max 1 (length (predsOf (graphIn m) t))) 0 t h
 
     -- the fixed words, as the roots are fixed one after the other
-    fixed-words : b .fixed ≡ fixAll p 0 rs (replicate (length (m .fixed)) (nil .0))
+    fixed-words : b .fixed ≡ fixAll p 0 rs (replicate (length (m .fixed)) (unfixed .0))
     unfolding begun cleared
     fixed-words = laid-fixed p k 0 rs (cleared m)
 
     once : (t : ℕ) → occ t rs ≤ 1
     once t = omega (arith, occ-roots (graphIn m) sound t, tally-le-one (decLt t (tasks m)))
 
-    fixed-long : length (replicate (length (m .fixed)) (nil .0)) ≡ tasks m
+    fixed-long : length (replicate (length (m .fixed)) (unfixed .0)) ≡ tasks m
     fixed-long = length-replicate _ _ ∙ lengths .list list.fixed
 
     fixed-root : (i t : ℕ) → i < p → 0 < occ t (rootsOf p i m) → fixedIn b t ≡ i
     fixed-root i t h among =
         ap (λ (l : List ℕ). getD l t 0) fixed-words
-        ∙ fixed-dealt p one i t h 0 rs (replicate (length (m .fixed)) (nil .0)) (once t) (omega (arith, fixed-long, task)) among
+        ∙ fixed-dealt p one i t h 0 rs (replicate (length (m .fixed)) (unfixed .0)) (once t) (omega (arith, fixed-long, task)) among
       where
         task : t < tasks m
         task = roots-are (graphIn m) t .0 (omega (arith, among, occ-dealt p one t 0 rs, sum-prefix p (λ j. occ t (dealt p j 0 rs)) i h)) .0
 
-    fixed-none : (t : ℕ) → t < tasks m → 0 < length (predsOf (graphIn m) t) → fixedIn b t ≡ nil .0
+    fixed-none : (t : ℕ) → t < tasks m → 0 < length (predsOf (graphIn m) t) → fixedIn b t ≡ unfixed .0
     fixed-none t h inner =
         ap (λ (l : List ℕ). getD l t 0) fixed-words
-        ∙ fixed-other p 0 rs (replicate (length (m .fixed)) (nil .0)) t 0 (omega (arith, inner, occ-roots (graphIn m) sound t, tally-le-one (decLt t (tasks m))))
-        ∙ getD-replicate (length (m .fixed)) t (nil .0) 0 (omega (arith, h, lengths .list list.fixed))
+        ∙ fixed-other p 0 rs (replicate (length (m .fixed)) (unfixed .0)) t 0 (omega (arith, inner, occ-roots (graphIn m) sound t, tally-le-one (decLt t (tasks m))))
+        ∙ getD-replicate (length (m .fixed)) t (unfixed .0) 0 (omega (arith, h, lengths .list list.fixed))
 
     begun-laid-down : LaidDown p k m b
     unfolding cleared written updated
@@ -186,7 +185,7 @@ module _ {p k : ℕ} {m b : Mem} (laid : LaidDown p k m b) where
       )
 
   -- every fixed word is as a Release may read it: "65,535 before, else below P"
-  pub laid-fixes : 1 ≤ p → (t : ℕ) → t < tasks m → (fixedIn b t ≡ nil .0) ⊎ (fixedIn b t < p)
+  pub laid-fixes : 1 ≤ p → (t : ℕ) → t < tasks m → (fixedIn b t ≡ unfixed .0) ⊎ (fixedIn b t < p)
   laid-fixes one t h = go (ℕ-discrete (length (predsOf (graphIn m) t)) 0)
     where
       rs : List ℕ
@@ -195,7 +194,7 @@ module _ {p k : ℕ} {m b : Mem} (laid : LaidDown p k m b) where
       at : (i : ℕ) × (i < p) × (0 < occ t (dealt p i 0 rs)) → fixedIn b t < p
       at (i, l, among) = rw (laid .fixedRoot i t l among) l
 
-      go : Dec (length (predsOf (graphIn m) t) ≡ 0) → (fixedIn b t ≡ nil .0) ⊎ (fixedIn b t < p)
+      go : Dec (length (predsOf (graphIn m) t) ≡ 0) → (fixedIn b t ≡ unfixed .0) ⊎ (fixedIn b t < p)
       go (yes none) =
           inr (at (sum-find p (λ i. occ t (dealt p i 0 rs)) (omega (arith, roots-are (graphIn m) t .1 (h, none), occ-dealt p one t 0 rs))))
       go (no inner) = inl (laid .fixedNone t h (omega (arith, inner)))

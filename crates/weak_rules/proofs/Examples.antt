@@ -373,6 +373,9 @@ pub record RefusedExamples : Type 0 where
   -- a later copy's ring is its worker's; a fixed word of P is damaged, with every ring full
   pub laterFull : says 2 2 (by 0 Release) (written (putFixed 5 1 ∷ []) allFull) ≡ refused 11 5
   pub fixedBeforeFull : says 2 2 (by 0 Release) (written (putFixed 5 2 ∷ []) allFull) ≡ refused 8 0
+  -- it is judged before that; another ring isn't looked at
+  pub laterDamaged : says 2 2 (by 0 Release) (written (putFixed 5 1 ∷ store list.ends 2 (record { head = 0; tail = 0; count = 3 }) ∷ []) allFull) ≡ refused 8 0
+  pub laterOther : says 2 2 (by 0 Release) (written (putFixed 5 1 ∷ store list.ends 0 (record { head = 0; tail = 0; count = 3 }) ∷ []) allFull) ≡ refused 11 5
   -- "N lent words", "length 3(E + N)", "A third run word": at begin and at a step
   pub fixedShort : beginSays 2 4 (otherFixed (replicate 3 7) diamond) ≡ refused 1 0
   pub recordShort : beginSays 2 4 (otherRecord (replicate 8 7) diamond) ≡ refused 1 0
@@ -390,6 +393,8 @@ refusals =
       fullBeforeRoots = refl;
       laterFull = refl;
       fixedBeforeFull = refl;
+      laterDamaged = refl;
+      laterOther = refl;
       fixedShort = refl;
       recordShort = refl;
       runShort = refl;

@@ -8,11 +8,11 @@ use lib.ListN.{length}
 use lib.Dec.{eqb}
 use borrow.Author.Tests.{lt-ltb, le-leb, eq-eqb, ne-eqb}
 use Rattle.lists.proofs.Told.{told-pass, told-fail}
-use Rattle.task.specs.Types.{nil}
 use Rattle.task.specs.Rows.{Acceptance}
 use Rattle.task.specs.declared.Limits.{Limits}
 use Rattle.task.specs.declared.Step.{Step}
 use Rattle.task.specs.declared.Step.the-variants.{Fetch, Start, Complete, Release}
+use Rattle.weak_task.specs.Types.{unfixed}
 use Rattle.weak_task.specs.Says.{outcomeSays, stepSays}
 use Rattle.weak_task.specs.declared.WeakRow.{WeakRow}
 use Rattle.weak_task.specs.declared.WeakOutcome.{WeakOutcome}
@@ -63,9 +63,9 @@ last-passes p i m r c =
       le-leb _ _ (c .task .inside),
     )
 
-releasing-passes : (p k i : ℕ) (m : Mem) (to : Places) → ¬ (¬ (fixedIn m (successor m i) ≡ nil .0) × (p ≤ fixedIn m (successor m i))) → Releasing i m to
+releasing-passes : (p k i : ℕ) (m : Mem) (to : Places) → ¬ (¬ (fixedIn m (successor m i) ≡ unfixed .0) × (p ≤ fixedIn m (successor m i))) → Releasing i m to
     → releaseRule p k i m
-    ≡ cond (eqb (fixedIn m (successor m i)) (nil .0)) (releaseFirst p k i m) (releaseLater p k i m (fixedIn m (successor m i)))
+    ≡ cond (eqb (fixedIn m (successor m i)) (unfixed .0)) (releaseFirst p k i m) (releaseLater p k i m (fixedIn m (successor m i)))
 unfolding releaseRule
 releasing-passes p k i m to f c =
     rw (

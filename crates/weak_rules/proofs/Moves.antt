@@ -11,12 +11,12 @@ use lib.Dec.{leb, eqb}
 use borrow.Author.Tests.{ltb-true, leb-true, eqb-true, eqb-false}
 use Rattle.lists.proofs.Decided.{stable}
 use Rattle.lists.proofs.Told.{Told, told-true, told-false, same-told, and-true, told-yes, told-no}
-use Rattle.task.specs.Types.{nil}
 use Rattle.task.specs.Phases.{suits, nextPhase}
 use Rattle.task.specs.Rows.{Acceptance}
 use Rattle.task.specs.declared.Limits.{Limits}
 use Rattle.task.specs.declared.Step.{Step}
 use Rattle.task.specs.declared.Step.the-variants.{Fetch, Start, Complete, Release}
+use Rattle.weak_task.specs.Types.{unfixed}
 use Rattle.weak_task.specs.Says.{stepSays}
 use Rattle.weak_task.specs.declared.WeakRow.{WeakRow}
 use Rattle.weak_task.specs.declared.WeakOutcome.{WeakOutcome}
@@ -211,7 +211,7 @@ module _ (m : Mem) where
       below n f = stable (decLt (fixedIn m (successor m i)) p) (λ h. told-yes (fixed-told p (fixedIn m (successor m i))) f (n, omega arith))
 
       if-released : Releasing i m to → fixedFits p (fixedIn m (successor m i)) ≡ true → IfAccepted (Counted m (Releases p k i m))
-          (cond (eqb (fixedIn m (successor m i)) (nil .0)) (releaseFirst p k i m) (releaseLater p k i m (fixedIn m (successor m i))))
+          (cond (eqb (fixedIn m (successor m i)) (unfixed .0)) (releaseFirst p k i m) (releaseLater p k i m (fixedIn m (successor m i))))
       unfolding releaseFirst
       if-released c f =
           if-cond _

@@ -14,10 +14,10 @@ use Rattle.lists.proofs.Told.{Told, told-true, told-false, told-yes, same-told,
 use Rattle.lists.specs.Lists.{allOf}
 use Rattle.lists.specs.Circles.{around}
 use Rattle.lists.proofs.Circles.{mod-reached}
-use Rattle.task.specs.Types.{nil}
 use Rattle.task.specs.Refusals.{damaged, nothingThere, ringsFull}
 use Rattle.task.specs.Rows.{Refusal}
 use Rattle.task.specs.declared.Ends.{Ends}
+use Rattle.weak_task.specs.Types.{unfixed}
 use Rattle.weak_task.specs.Says.{outcomeSays}
 use Rattle.ring.specs.Ring.{Sound, Full, sound, full}
 use Rattle.ring.proofs.Ends.{sound-told, full-told}
@@ -128,14 +128,14 @@ module _ (p k i : ℕ) (m : Mem) where
 
   -- by the worker that the successor is fixed to
   fixed-follows : 0 < p → p ≤ 65535 → length (m .counters) ≡ p * p → fixedFits p (fixedIn m (successor m i)) ≡ true → PlanFollows (rowsFrom 7)
-      (cond (eqb (fixedIn m (successor m i)) (nil .0)) (releaseFirst p k i m) (releaseLater p k i m (fixedIn m (successor m i))))
-  fixed-follows some few e fits = go (same-told (fixedIn m (successor m i)) (nil .0))
+      (cond (eqb (fixedIn m (successor m i)) (unfixed .0)) (releaseFirst p k i m) (releaseLater p k i m (fixedIn m (successor m i))))
+  fixed-follows some few e fits = go (same-told (fixedIn m (successor m i)) (unfixed .0))
     where
       below : ¬ (FirstCopy m i) → fixedIn m (successor m i) < p
       below n = stable (decLt (fixedIn m (successor m i)) p) (λ h. told-yes (fixed-told p (fixedIn m (successor m i))) fits (n, omega arith))
 
-      go : Told (eqb (fixedIn m (successor m i)) (nil .0)) (FirstCopy m i) (¬ (FirstCopy m i))
-          → PlanFollows (rowsFrom 7) (cond (eqb (fixedIn m (successor m i)) (nil .0)) (releaseFirst p k i m) (releaseLater p k i m (fixedIn m (successor m i))))
+      go : Told (eqb (fixedIn m (successor m i)) (unfixed .0)) (FirstCopy m i) (¬ (FirstCopy m i))
+          → PlanFollows (rowsFrom 7) (cond (eqb (fixedIn m (successor m i)) (unfixed .0)) (releaseFirst p k i m) (releaseLater p k i m (fixedIn m (successor m i))))
       go (told-true q f) = rw q (first-follows f some few e)
       go (told-false q n) = rw q (later-follows n (below n))
 

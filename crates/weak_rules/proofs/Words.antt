@@ -5,7 +5,7 @@ use mathlib.Core.Bool.{_||_}
 use lib.Dec.{eqb, ltb}
 use Rattle.lists.proofs.Told.{Told, told-true, told-false, same-told, le-told, lt-told, and-told}
 use Rattle.task.specs.Types.{nil}
-use Rattle.weak_task.specs.Types.{Copy}
+use Rattle.weak_task.specs.Types.{Copy, unfixed}
 pub use Rattle.plans.proofs.Words.{counter-told, counters-told, join-told}
 use Rattle.weak_rules.specs.Memory.{Mem, tasks, edges, rootsWord, allSteps, allEntries, entriesIn, acceptedIn}
 use Rattle.weak_rules.specs.Words.{copyFits, fixedFits, rootsFit, entriesFit, acceptedFits}
@@ -26,7 +26,7 @@ pub copy-told : (m : Mem) (c : Copy) → Told (copyFits m c) (¬ (BadCopy m c)) 
 copy-told m c = and-told _ _ (lt-told (c .task) (tasks m)) (nil-or-below (c .predecessor) (tasks m))
 
 -- "65,535 before, else below P or damaged"
-pub fixed-told : (p word : ℕ) → Told (fixedFits p word) (¬ (¬ (word ≡ nil .0) × (p ≤ word))) (¬ (word ≡ nil .0) × (p ≤ word))
+pub fixed-told : (p word : ℕ) → Told (fixedFits p word) (¬ (¬ (word ≡ unfixed .0) × (p ≤ word))) (¬ (word ≡ unfixed .0) × (p ≤ word))
 fixed-told p word = nil-or-below word p
 
 -- "over N is damaged"

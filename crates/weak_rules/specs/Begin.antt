@@ -9,7 +9,7 @@ use Rattle.task.specs.declared.Limits.{Limits}
 use Rattle.task.specs.declared.Answer.{Answer}
 use Rattle.graph.specs.Graph.{Graph, predsOf}
 use Rattle.graph.specs.Successors.{succStarts, succWords, roots}
-use Rattle.weak_task.specs.Types.{copy, idle}
+use Rattle.weak_task.specs.Types.{copy, idle, unfixed}
 use Rattle.plans.specs.Laying.{rootsLaid}
 pub use Rattle.plans.specs.Begin.{beginResult}
 unfoldable pub use Rattle.plans.specs.Begin.{rootsAnswer, beginAnswer}
@@ -26,7 +26,7 @@ weakDegrees g = tabulate (g .tasks) (λ t. max 1 (length (predsOf g t)))
 unfoldable pub cleared : Mem → Mem
 cleared m =
     memOf (m .weights) (m .predStarts) (m .preds) (succStarts (graphIn m)) (succWords (graphIn m)) (weakDegrees (graphIn m))
-    (replicate (length (m .fixed)) (nil .0))
+    (replicate (length (m .fixed)) (unfixed .0))
     (replicate (length (m .rings)) (copy 0 0))
     (replicate (length (m .ends)) 0)
     (replicate (length (m .counters)) (pos 0))

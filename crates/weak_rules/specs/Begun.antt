@@ -12,7 +12,7 @@ use Rattle.task.specs.Types.{nil}
 use Rattle.graph.specs.Graph.{predsOf}
 use Rattle.graph.specs.Successors.{succStarts, succWords, roots}
 use Rattle.ring.specs.Ring.{slotAt, queue}
-use Rattle.weak_task.specs.Types.{Copy, copy, idle}
+use Rattle.weak_task.specs.Types.{Copy, copy, idle, unfixed}
 use Rattle.plans.specs.Laying.{dealt}
 use Rattle.plans.specs.Sizes.{Lengths}
 use Rattle.weak_rules.specs.Memory.{Mem, tasks, graphIn, ringNumber, ringsIn, endsIn, counterIn, weightIn, degreeIn, fixedIn}
@@ -39,7 +39,7 @@ pub record LaidDown (p k : ℕ) (m b : Mem) : Type 0 where
   pub rootDegree : (t : ℕ) → t < tasks m → _≡_ {A = ℕ} (length (predsOf (graphIn m) t)) 0 → _≡_ {A = ℕ} (degreeIn b t) 1
   -- a root is fixed to the worker that it goes to, every other task to none: "65,535 before"
   pub fixedRoot : (i t : ℕ) → i < p → 0 < occ t (rootsOf p i m) → fixedIn b t ≡ i
-  pub fixedNone : (t : ℕ) → t < tasks m → 0 < length (predsOf (graphIn m) t) → fixedIn b t ≡ nil .0
+  pub fixedNone : (t : ℕ) → t < tasks m → 0 < length (predsOf (graphIn m) t) → fixedIn b t ≡ unfixed .0
   -- the ring of owner and filler i holds the copies of the roots that go to i
   pub own : (i : ℕ) → i < p → queue (copy 0 0) k (ringsIn b) (ringNumber p i i) ≡ rootCopiesOf p i m
   -- every other ring is empty

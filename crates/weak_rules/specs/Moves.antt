@@ -10,7 +10,7 @@ use Rattle.task.specs.Phases.{suits}
 use Rattle.task.specs.declared.Limits.{Limits}
 use Rattle.task.specs.declared.Step.{Step}
 use Rattle.task.specs.declared.Step.the-variants.{Fetch, Start, Complete, Release}
-use Rattle.weak_task.specs.Types.{Copy, copy, taskCopy}
+use Rattle.weak_task.specs.Types.{Copy, copy, taskCopy, unfixed}
 use Rattle.weak_task.specs.Says.{outcomeSays, stepSays}
 use Rattle.weak_task.specs.declared.WeakRow.{WeakRow}
 use Rattle.weak_task.specs.declared.WeakOutcome.{WeakOutcome}
@@ -164,7 +164,7 @@ pub record ReleasesLater (p k i : ℕ) (m : Mem) (o : WeakOutcome) (us : List Up
   pub owner : ℕ
   pub fixed : fixedIn m (successor m i) ≡ owner
   pub worker : owner < p
-  pub later : ¬ (owner ≡ nil .0)
+  pub later : ¬ (owner ≡ unfixed .0)
   pub ring : ℕ
   pub ringIs : ring ≡ ringNumber p owner i
   pub sound : Sound k (endsIn m ring)

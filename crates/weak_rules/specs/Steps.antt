@@ -14,7 +14,7 @@ use Rattle.task.specs.Refusals.{damaged, nothingThere, ringsFull, recordFull}
 use Rattle.task.specs.declared.Limits.{Limits}
 use Rattle.task.specs.declared.Step.{Step}
 use Rattle.task.specs.declared.Step.the-variants.{Fetch, Start, Complete, Release}
-use Rattle.weak_task.specs.Types.{Copy, copy, taskCopy}
+use Rattle.weak_task.specs.Types.{Copy, copy, taskCopy, unfixed}
 use Rattle.weak_task.specs.declared.WeakRow.{WeakRow}
 use Rattle.weak_task.specs.declared.WeakAnswer.{WeakAnswer}
 use Rattle.weak_task.specs.declared.WeakOutcome.the-variants.{Moved, Fetched, Placed}
@@ -148,7 +148,7 @@ releaseRule p k i m =
     (checked (cursorFits m (oldest m i) (rowIn m i .cursor))
     (checked (taskFits m (successor m i))
     (checked (fixedFits p (fixedIn m (successor m i)))
-    (cond (eqb (fixedIn m (successor m i)) (nil .0)) (releaseFirst p k i m) (releaseLater p k i m (fixedIn m (successor m i))))))))))
+    (cond (eqb (fixedIn m (successor m i)) (unfixed .0)) (releaseFirst p k i m) (releaseLater p k i m (fixedIn m (successor m i))))))))))
 
 unfoldable pub ruleOf : Step → ℕ → ℕ → ℕ → Mem → Plan
 ruleOf Fetch p k i m = fetchRule p k i m

@@ -10,7 +10,7 @@ use Rattle.task.specs.Rows.{Refusal, row, only}
 use Rattle.task.specs.declared.Limits.{Limits}
 use Rattle.task.specs.declared.Step.{Step}
 use Rattle.task.specs.declared.Step.the-variants.{Fetch, Start, Complete, Release}
-use Rattle.weak_task.specs.Types.{Copy}
+use Rattle.weak_task.specs.Types.{Copy, unfixed}
 use Rattle.ring.specs.Ring.{Sound, Empty, Full}
 use Rattle.choice.specs.Least.{load, Least}
 use Rattle.plans.specs.Tables.{headedRows}
@@ -88,7 +88,7 @@ completeRows p i m =
 
 -- the successor's first copy: it is fixed to no worker yet
 abbrev pub FirstCopy : Mem → ℕ → Type 0
-FirstCopy m i = fixedIn m (successor m i) ≡ nil .0
+FirstCopy m i = fixedIn m (successor m i) ≡ unfixed .0
 
 -- or a later one: it is fixed to worker o
 abbrev pub LaterCopy : ℕ → Mem → ℕ → ℕ → Type 0

@@ -3,7 +3,7 @@ use Prim.Native.Nat.{ℕ}
 use mathlib.Core.Bool.{Bool, _&&_, _||_}
 use lib.Dec.{ltb, leb, eqb}
 use Rattle.task.specs.Types.{nil}
-use Rattle.weak_task.specs.Types.{Copy}
+use Rattle.weak_task.specs.Types.{Copy, unfixed}
 use Rattle.weak_rules.specs.Memory.{Mem, tasks, rootsWord, allSteps, allEntries, entriesIn, acceptedIn}
 pub use Rattle.plans.specs.Words.{endsFit, taskFits, phaseFits, pointerFits, counterFits, degreeFits, placesFit, joinFits, cursorFits, rangeFits, weightFits}
 unfoldable pub use Rattle.plans.specs.Words.{countersFit}
@@ -18,7 +18,7 @@ copyFits m c = ltb (c .task) (tasks m) && predecessorFits m (c .predecessor)
 
 -- "65,535 before, else below P or damaged"
 abbrev pub fixedFits : ℕ → ℕ → Bool
-fixedFits p word = eqb word (nil .0) || ltb word p
+fixedFits p word = eqb word (unfixed .0) || ltb word p
 
 -- "keeps R (over N is damaged)"
 abbrev pub rootsFit : Mem → Bool

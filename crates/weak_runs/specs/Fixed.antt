@@ -4,7 +4,7 @@ use mathlib.Core.Path.{_≡_}
 use mathlib.Core.Logic.{_⊎_}
 use mathlib.Core.List.{List}
 use Rattle.lists.specs.Lists.{tabulate, occOf}
-use Rattle.task.specs.Types.{nil}
+use Rattle.weak_task.specs.Types.{unfixed}
 use Rattle.machine.specs.Machine.{begins}
 use Rattle.system.specs.System.{missing}
 use Rattle.copies.specs.Copies.{Copy, sameCopy, taskCopies}
@@ -23,9 +23,9 @@ pub record NoCopy (r : Run) (t : ℕ) : Type 0 where
 -- PROMISE: after every list of a run's calls
 pub record FixedWorkers : Type 0 where
   -- "65,535 before, else below P"
-  pub words : (r : Run) (t : ℕ) → t < tasks (r .lent) → (fixedIn (memoryOf r) t ≡ nil .0) ⊎ (fixedIn (memoryOf r) t < r .workers)
+  pub words : (r : Run) (t : ℕ) → t < tasks (r .lent) → (fixedIn (memoryOf r) t ≡ unfixed .0) ⊎ (fixedIn (memoryOf r) t < r .workers)
   -- it is 65,535 as long as the task has no copy
-  pub before : (r : Run) (t : ℕ) → t < tasks (r .lent) → NoCopy r t → fixedIn (memoryOf r) t ≡ nil .0
+  pub before : (r : Run) (t : ℕ) → t < tasks (r .lent) → NoCopy r t → fixedIn (memoryOf r) t ≡ unfixed .0
   -- "fixes the task's worker": it stays until another begin, whatever is called
   pub stays : (r : Run) (further : List Call) (t : ℕ) → _≡_ {A = ℕ} (begins weak further (memoryOf r)) 0 → fixedIn (memoryOf r) t < r .workers
       → fixedIn (memoryOf (longer r further)) t ≡ fixedIn (memoryOf r) t

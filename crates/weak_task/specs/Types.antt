@@ -1,6 +1,7 @@
--- "copies (task, predecessor), two words each, an empty hand NIL twice; a root has one copy with NIL"
+-- "copies (task, predecessor), two words each, an empty hand NIL twice; a root has one copy with NIL"; the word of a worker that isn't fixed.
 use Prim.Native.Nat.{ℕ}
 use Rattle.task.specs.Types.{nil}
+use Rattle.task.specs.declared.WorkerId.{WorkerId}
 use Rattle.weak_task.specs.declared.TaskCopy.{TaskCopy}
 use Rattle.weak_task.specs.declared.WeakRow.{WeakRow}
 
@@ -21,6 +22,10 @@ taskCopy c = record { task = record { 0 = c .task }; predecessor = record { 0 = 
 
 abbrev pub noCopy : TaskCopy
 noCopy = record { task = nil; predecessor = nil }
+
+-- what a task's fixed word holds as long as it has no worker: "65,535 before"
+abbrev pub unfixed : WorkerId
+unfixed = record { 0 = 65535 }
 
 -- a worker's row as begin leaves it
 abbrev pub idle : WeakRow

@@ -4,6 +4,9 @@ ghost use Rattle.weak_task.specs.Types.{noCopy, idle};
 use task::TaskId;
 use task::WorkerId;
 
+// What a task's fixed word holds as long as it has no worker.
+pub const UNFIXED: WorkerId = WorkerId(65535);
+
 // A copy of a task: the task, and the finished neighbour that it is run with. A root's one copy has NIL for this.
 #[repr(C)]
 pub struct TaskCopy {

@@ -2,13 +2,13 @@
 use Prim.Native.Nat.{_-_}
 use native.Mathlib.Omega.{arith}
 use lib.ListN.{length}
-use Rattle.task.specs.Types.{nil}
+use Rattle.weak_task.specs.Types.{unfixed}
 use Rattle.roots.proofs.Laws.{Filling, filling-none, filling-more, filling-whole}
 use Rattle.weak_roots.proofs.unfix.Statement.{statement}
 use Rattle.weak_roots.proofs.unfix.Tie as tie
 
 abbrev Inv-loop : tie.InvT-loop
-Inv-loop fixed₀ t₀ fixed t = Filling (nil .0) fixed₀ fixed t
+Inv-loop fixed₀ t₀ fixed t = Filling (unfixed .0) fixed₀ fixed t
 
 abbrev μ-loop : tie.MeasureT-loop
 μ-loop fixed₀ t₀ fixed t = length fixed₀ - t
