@@ -164,10 +164,10 @@ fn lines(files: &[PathBuf]) -> usize {
 fn what_is_counted() {
     let counts = [
         ("10,600 lines of code", 10_600, lines(&files("src", "rt"))),
-        ("9,900 lines of definitions", 9_900, lines(&files("specs", "antt"))),
-        ("64,900 lines of proof", 64_900, lines(&files("proofs", "antt"))),
-        ("about 370 wrong programs", 370, files("must-fail", "edit").len()),
-        ("about 93 crates", 93, entries(&file("crates")).len()),
+        ("10,000 lines of definitions", 10_000, lines(&files("specs", "antt"))),
+        ("65,000 lines of proof", 65_000, lines(&files("proofs", "antt"))),
+        ("about 380 wrong programs", 380, files("must-fail", "edit").len()),
+        ("the proofs of 93 crates", 93, entries(&file("crates")).len()),
     ];
     let page = text(FRONT);
     for (told, about, counted) in counts {
