@@ -1,5 +1,5 @@
 -- How many steps and entries a run has, and what the tests on its words tell.
-use Prim.Native.Nat.{ℕ, _+_, _*_, _<_}
+use Prim.Native.Nat.{_+_, _*_, _<_}
 use mathlib.Core.Path.{_≡_, refl}
 use lib.Dec.{eqb}
 use Rattle.lists.proofs.Told.{Told, same-told, le-told, lt-told}

@@ -1,5 +1,5 @@
 -- A step of a plain job reads and checks everything, and then it writes: a plan says which.
-use Prim.Native.Nat.{ℕ, _+_}
+use Prim.Native.Nat.{_+_}
 use mathlib.Core.List.{List, _∷_}
 use Rattle.task.specs.declared.StepOutcome.{StepOutcome}
 use Rattle.task.specs.declared.StepAnswer.{StepAnswer}

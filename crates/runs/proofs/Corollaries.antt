@@ -1,18 +1,15 @@
--- What follows for a run at any time: no task is recorded, held or waits before its predecessors are recorded, no two workers hold one task; and for a finished one: it
--- records the same tasks as any other of its graph, and accepts no further step. With N 0 begun is finished.
+-- What follows for a run at any time: no task is recorded, held or waits before its predecessors are recorded, no two workers hold one task; and for
+-- a finished one: it records the same tasks as any other of its graph, and accepts no further step. With N 0 begun is finished.
 use Prim.Native.Nat.{ℕ, _<_}
 use mathlib.Core.Path.{_≡_, refl, sym, ap, _∙_}
 use mathlib.Core.Logic.{inl}
 use mathlib.Core.List.{List, [], _++_}
 use native.Mathlib.Omega.{arith}
 use native.Mathlib.Decide.{ℕ-discrete}
-use lib.ListN.{length, getD}
 use lib.IntN.{pos}
-use Rattle.lists.specs.Lists.{occ, placeOf, joined}
-use Rattle.lists.proofs.Blocks.{getD-tabulate}
+use Rattle.lists.specs.Lists.{occ, joined, tabulate}
 use Rattle.lists.proofs.Decided.{stable, both?}
-use Rattle.lists.proofs.Occurrences.{occ-hit, at-occ}
-use Rattle.lists.proofs.Positions.{place-member, place-at, place-least, before-member}
+use Rattle.lists.proofs.Occurrences.{occ-hit}
 use Rattle.lists.specs.Sums.{sumOf}
 use Rattle.task.specs.Refusals.{Said, answerSays, stepSays, refused, recordFull}
 use Rattle.task.specs.Rows.{Acceptance}
@@ -30,7 +27,7 @@ use Rattle.choice.specs.Least.{load, Least}
 use Rattle.choice.proofs.Least.{least-same}
 use Rattle.exchange.specs.Pairs.{eachOnce}
 use Rattle.machine.specs.Jobs as jobs
-use Rattle.rules.specs.Memory.{Mem, tasks, edges, graphIn, weightIn, rowIn, held, entriesIn}
+use Rattle.rules.specs.Memory.{Mem, tasks, edges, graphIn, weightIn, rowIn, held}
 use Rattle.rules.specs.Sizes.{KeepsLimits}
 use Rattle.rules.specs.Updates.{Update}
 use Rattle.rules.specs.Plans.{Result, resultOf}
@@ -44,6 +41,7 @@ use Rattle.rules.proofs.Numbers.{TwoOrOne, other-step, other-begin}
 use Rattle.algorithm1.specs.Reading.{queueIn, threadIn, stateOf}
 use Rattle.algorithm1.proofs.Readings.{queue-at, thread-at}
 use Rattle.system.specs.Stages.{inHand}
+use Rattle.system.proofs.Records.{word-recorded, recorded-word, earlier-word}
 use Rattle.system.proofs.Progress as progress
 use Rattle.runs.specs.Calls.{stepCall, beginCall, says, leaves, Run, KeptBy, memoryOf, eventsOf}
 use Rattle.runs.specs.Counters.{inHandOf}
@@ -57,7 +55,7 @@ use Rattle.runs.proofs.Events.{entries-word}
 use Rattle.runs.proofs.Honest.{systemIn, honest-run}
 use Rattle.runs.proofs.Weights.{counters-add-up}
 use Rattle.runs.proofs.Undamaged.{undamaged}
-use Rattle.runs.proofs.Demand.{run-sound, invariant-run, recorded, recorded-words, recorded-length, finished-count, finished-full, finished-order, demand-3}
+use Rattle.runs.proofs.Demand.{run-sound, invariant-run, recorded, recorded-words, finished-count, finished-full, finished-order, demand-3}
 
 edge-as : {g g′ : Graph} {u t : ℕ} → g′ ≡ g → Edge g u t → Edge g′ u t
 edge-as q e = rw q e
@@ -84,42 +82,12 @@ module _ (r : Run) where
       progress.one-holder ℕ-discrete (itemsOf graph) (items-reversed graph (run-sound r)) p {s = systemIn p (r .slots) now} (invariant-run r) i j (held now i) hi hj
       (in-hand i hi bi) (rw e (in-hand j hj bj))
 
-  -- the record's tasks are those of the lent words
-  record-at : (z : ℕ) → z < entriesIn now → getD (recorded r) z 0 ≡ taskWord now z
-  record-at z h = ap (λ (l : List ℕ). getD l z 0) (recorded-words r) ∙ getD-tabulate (entriesIn now) (taskWord now) 0 z h
-
-  -- a recorded task stands in one of them
-  recorded-at : (u : ℕ) → 0 < occ u (recorded r)
-      → (placeOf ℕ-discrete u (recorded r) < entriesIn now) × (taskWord now (placeOf ℕ-discrete u (recorded r)) ≡ u)
-  recorded-at u member =
-      let inside : placeOf ℕ-discrete u (recorded r) < entriesIn now = omega (arith, place-member ℕ-discrete u (recorded r) member, recorded-length r) in
-      (inside, sym (record-at (placeOf ℕ-discrete u (recorded r)) inside) ∙ place-at ℕ-discrete 0 u (recorded r) member)
-
-  -- a predecessor of a recorded task is recorded before it
-  recorded-early : (x u : ℕ) → x < entriesIn now → 0 < occ u (predsOf graph (taskWord now x)) → (y : ℕ) × (y < x) × (taskWord now y ≡ u)
-  recorded-early x u inside pred = (
-    placeOf ℕ-discrete u l,
-    omega (arith, before, place-least ℕ-discrete 0 l x within, ap (λ (t : ℕ). placeOf ℕ-discrete t l) (record-at x inside)),
-    recorded-at u (before-member ℕ-discrete u (taskWord now x) l before) .1,
-  )
-    where
-      l : List ℕ
-      l = recorded r
-
-      within : x < length l
-      within = omega (arith, inside, recorded-length r)
-
-      before : placeOf ℕ-discrete u l < placeOf ℕ-discrete (taskWord now x) l
-      before = invariant-run r .order u (taskWord now x) pred (rw (record-at x inside) at (at-occ ℕ-discrete 0 l x within))
-
   -- the task is recorded
   abbrev pub Recorded : ℕ → Type 0
   Recorded u = (y : ℕ) × (y < acceptedCompletes (eventsOf r)) × (taskWord (memoryOf r) y ≡ u)
 
-  recorded-word : (u : ℕ) → 0 < occ u (recorded r) → Recorded u
-  recorded-word u member =
-      let (inside, there) = recorded-at u member in
-      (placeOf ℕ-discrete u (recorded r), omega (arith, inside, entries-word r), there)
+  words : recorded r ≡ tabulate (acceptedCompletes (eventsOf r)) (taskWord now)
+  words = recorded-words r ∙ ap (λ (n : ℕ). tabulate n (taskWord now)) (entries-word r)
 
   edge-here : (u t : ℕ) → Edge (graphIn (r .lent)) u t → 0 < occ u (predsOf graph t)
   edge-here u t e = edge-as (graph-reached r) e .predecessor
@@ -129,13 +97,14 @@ module _ (r : Run) where
       → Edge (graphIn (r .lent)) u t → Recorded u
   unfolding meaning
   waiting-behind i j t u hi hj h e =
-      recorded-word u
+      recorded-word ℕ-discrete _ (taskWord now) (recorded r) words u
       (progress.waiting-behind ℕ-discrete (itemsOf graph) (items-reversed graph (run-sound r)) p {s = systemIn p (r .slots) now} (invariant-run r) i t u hi
       (list-waits p (stateOf p (r .slots) now) i ℕ-discrete t j hj (rw (queue-at p (r .slots) now i j hi hj) h)) (edge-here u t e))
 
-  pub held-behind : (i u : ℕ) → i < r .workers → ¬ (_≡_ {A = ℕ} (rowIn (memoryOf r) i .phase) 0) → Edge (graphIn (r .lent)) u (held (memoryOf r) i) → Recorded u
+  pub held-behind : (i u : ℕ) → i < r .workers → ¬ (_≡_ {A = ℕ} (rowIn (memoryOf r) i .phase) 0) → Edge (graphIn (r .lent)) u (held (memoryOf r) i)
+      → Recorded u
   held-behind i u hi busy e =
-      recorded-word u
+      recorded-word ℕ-discrete _ (taskWord now) (recorded r) words u
       (progress.held-behind ℕ-discrete (itemsOf graph) (items-reversed graph (run-sound r)) p {s = systemIn p (r .slots) now} (invariant-run r) i (held now i) u hi
       (in-hand i hi busy) (edge-here u (held now i) e))
 
@@ -147,7 +116,10 @@ same-tasks r r′ o f f′ t =
 -- in an unfinished run too, the record has every task after all its predecessors
 pub never-early : (r : Run) (x u : ℕ) → x < acceptedCompletes (eventsOf r) → Edge (graphIn (r .lent)) u (taskWord (memoryOf r) x)
     → (y : ℕ) × (y < x) × (taskWord (memoryOf r) y ≡ u)
-never-early r x u h e = recorded-early r x u (omega (arith, h, entries-word r)) (edge-here r u (taskWord (memoryOf r) x) e)
+never-early r x u h e =
+    earlier-word ℕ-discrete _ (taskWord (memoryOf r)) (recorded r) (words r) x u h
+    (invariant-run r .order u (taskWord (memoryOf r) x) (edge-here r u (taskWord (memoryOf r) x) e)
+    (word-recorded ℕ-discrete _ (taskWord (memoryOf r)) (recorded r) (words r) x h))
 
 -- a finished run accepts no further step, whatever the limits, P, K and worker
 pub no-more : (r : Run) → Finished r → (limits : Limits) (p k i : ℕ) (s : Step) → ¬ (Acceptance (stepSays (step limits p k i s (memoryOf r) .answer)))

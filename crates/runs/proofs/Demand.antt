@@ -42,7 +42,7 @@ use Rattle.runs.specs.Demand.{Finished, taskWord, orderOf, AllowedOrder,
 use Rattle.runs.proofs.Invariant.{itemsOf, pendingOf, meaning}
 use Rattle.runs.proofs.Calls.{graph-reached, tasks-reached, edges-reached, begun-within}
 use Rattle.runs.proofs.Begun.{all-listed, items-reversed}
-use Rattle.runs.proofs.Hands.{hand-running}
+use Rattle.runs.proofs.Hands.{hand-holds}
 use Rattle.runs.proofs.Meaning.{length-tasks}
 use Rattle.runs.proofs.Events.{length-record, record-words, recorded-workers, entries-word, accepted-word}
 use Rattle.runs.proofs.Honest.{systemIn, Honest, honest-invariant, honest-under, honest-run}
@@ -123,15 +123,15 @@ module _ (r : Run) where
         omega (arith, reached-few ℕ-discrete (itemsOf graph) p laws (system.allDue (itemsOf graph)) (honest-run r .plain) x, degree-at p k now x, few-preds (honest-run r .graph .graph) x (is-task x wanted)),
       )
 
-  -- While a task runs, an entry is free for it: in memory begun and stepped by the engine Complete never meets 12.
-  pub running-open : (i : ℕ) → i < p → _≡_ {A = ℕ} (rowIn now i .phase) 2 → entriesIn now < tasks now
+  -- While a worker holds a task, an entry is free for it: in memory begun and stepped by the engine Complete never meets 12.
+  pub holding-open : (i : ℕ) → i < p → ¬ (_≡_ {A = ℕ} (rowIn now i .phase) 0) → entriesIn now < tasks now
   unfolding meaning
-  running-open i worker e =
+  holding-open i worker busy =
       omega (
         arith,
         held-few ℕ-discrete (itemsOf graph) p (allOf (tasks now)) (all-listed graph) {s = systemIn p k now} invariant-run,
         sum-prefix p (λ j. length (inHand (handOf (threadOf state j)))) i worker,
-        ap (λ (h : Hand ℕ). length (inHand h)) (hand-running (threadOf state i) (phase-at p k now i worker ∙ e)),
+        ap length (hand-holds (threadOf state i) (λ e. busy (sym (phase-at p k now i worker) ∙ e))),
         recorded-length,
         length-all (tasks now),
       )

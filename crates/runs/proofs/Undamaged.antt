@@ -39,7 +39,7 @@ use Rattle.runs.proofs.Honest.{Honest, honest-run}
 use Rattle.runs.proofs.Weights.{honest-within}
 use Rattle.runs.proofs.Live.{within-range, row-held, row-pointer, joined-recorded, task-ranged, next-waits, scan-sound}
 use Rattle.runs.proofs.LiveRelease.{counters-good, few-places, places-good, pending-none, releasing, room-sound}
-use Rattle.runs.proofs.Demand.{running-task, waiting-task, pending-task, running-open, low, unfinished-free, held-task}
+use Rattle.runs.proofs.Demand.{running-task, waiting-task, pending-task, holding-open, low, unfinished-free, held-task}
 use Rattle.runs.proofs.Afterwards.{rests, scan-none}
 
 -- rows of which none that is given has one of the two numbers
@@ -126,7 +126,7 @@ module _ (r : Run) where
           rw (row-held h i worker _ runs) (running-task r i _ worker runs)
 
       free : entriesIn now < tasks now
-      free = running-open r i worker two
+      free = holding-open r i worker (λ e. omega (arith, e, two))
 
       complete-harmless : Harmless (completeRows p i now)
       complete-harmless =

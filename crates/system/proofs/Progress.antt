@@ -106,20 +106,19 @@ module _ {A : Type 0} (same : Discrete A) (G : Items A) where
       unfolding places
       waiting-wanted i a l h = omega (arith, h, v .stage a, laws .one a, sum-prefix P (λ j. occOf same a (s .stages .waiting j)) i l)
 
-      -- and all its predecessors are recorded
+      -- an item that is in a place has all its predecessors recorded
+      placed-behind : (a u : A) → 0 < places same P (s .stages) a → 0 < occOf same u (G .preds a) → 0 < occOf same u (s .stages .done)
+      placed-behind a u h = missing-none same (G .preds a) (s .stages .done) u (omega (arith, h, v .stage a, v .degree a, laws .one a))
+
       pub held-behind : (i : ℕ) (a u : A) → i < P → 0 < occOf same a (inHand (s .stages .hand i)) → 0 < occOf same u (G .preds a)
           → 0 < occOf same u (s .stages .done)
       unfolding places
-      held-behind i a u l h =
-          missing-none same (G .preds a) (s .stages .done) u
-          (omega (arith, h, v .stage a, v .degree a, laws .one a, sum-prefix P (λ j. occOf same a (inHand (s .stages .hand j))) i l))
+      held-behind i a u l h = placed-behind a u (omega (arith, h, sum-prefix P (λ j. occOf same a (inHand (s .stages .hand j))) i l))
 
       pub waiting-behind : (i : ℕ) (a u : A) → i < P → 0 < occOf same a (s .stages .waiting i) → 0 < occOf same u (G .preds a)
           → 0 < occOf same u (s .stages .done)
       unfolding places
-      waiting-behind i a u l h =
-          missing-none same (G .preds a) (s .stages .done) u
-          (omega (arith, h, v .stage a, v .degree a, laws .one a, sum-prefix P (λ j. occOf same a (s .stages .waiting j)) i l))
+      waiting-behind i a u l h = placed-behind a u (omega (arith, h, sum-prefix P (λ j. occOf same a (s .stages .waiting j)) i l))
 
       -- no item is in two hands
       pub one-holder : (i j : ℕ) (a : A) → i < P → j < P → 0 < occOf same a (inHand (s .stages .hand i)) → 0 < occOf same a (inHand (s .stages .hand j)) → i ≡ j

@@ -10,12 +10,9 @@ use native.Mathlib.Decide.{ℕ-discrete}
 use lib.ListN.{length, getD}
 use lib.IntN.{pos}
 use Rattle.lists.specs.Decided.{tally}
-use Rattle.lists.specs.Lists.{occOf, placeOf}
+use Rattle.lists.specs.Lists.{tabulate, occOf}
 use Rattle.lists.specs.Sums.{sumOf}
-use Rattle.lists.proofs.Blocks.{getD-tabulate}
 use Rattle.lists.proofs.Decided.{stable, both?}
-use Rattle.lists.proofs.Occurrences.{at-occ}
-use Rattle.lists.proofs.Positions.{place-member, place-at, place-least, before-member}
 use Rattle.lists.proofs.Sums.{sum-zero}
 use Rattle.task.specs.Refusals.{Said, answerSays, refused, recordFull}
 use Rattle.task.specs.Rows.{Acceptance}
@@ -35,6 +32,7 @@ use Rattle.choice.specs.Least.{load, Least}
 use Rattle.choice.proofs.Least.{least-same}
 use Rattle.exchange.specs.Exchange.{Unordered}
 use Rattle.machine.specs.Jobs as jobs
+use Rattle.system.proofs.Records.{word-recorded, recorded-word, earlier-word}
 use Rattle.system.proofs.Progress as progress
 use Rattle.copies.specs.Copies.{Copy, sameCopy, copiesOf, Before}
 use Rattle.copies.proofs.Copies.{before-preds}
@@ -52,7 +50,6 @@ use Rattle.weak_rules.proofs.Limits.{beyond-2}
 use Rattle.weak_rules.proofs.Moves.{accepted-step}
 use Rattle.weak_rules.proofs.Numbers.{TwoOrOne, other-step, other-begin}
 use Rattle.runs.proofs.Waiting.{list-waits}
-use Rattle.weak_algorithm.specs.State.{noItem}
 use Rattle.weak_algorithm.specs.Reading.{stateOf}
 use Rattle.weak_algorithm.proofs.Readings.{queue-at}
 use Rattle.weak_runs.specs.Calls.{stepCall, beginCall, says, leaves, acceptedSteps, acceptedCompletes, Run, KeptBy, memoryOf, eventsOf, graphOf, rootsOf}
@@ -63,7 +60,7 @@ use Rattle.weak_runs.proofs.Invariant.{meaning, systemIn}
 use Rattle.weak_runs.proofs.Calls.{accepted-fits, graph-reached, tasks-reached, edges-reached}
 use Rattle.weak_runs.proofs.Events.{entries-word, roots-word}
 use Rattle.weak_runs.proofs.Honest.{honest-run}
-use Rattle.weak_runs.proofs.Live.{honest-laws, honest-invariant, recorded-length, in-hand, running-open}
+use Rattle.weak_runs.proofs.Live.{honest-laws, honest-invariant, in-hand, entry-free}
 use Rattle.weak_runs.proofs.Sums.{counters-add-up}
 use Rattle.weak_runs.proofs.FixedWorkers.{fixed-workers}
 use Rattle.weak_runs.proofs.Ranges.{undamaged}
@@ -85,40 +82,12 @@ module _ (r : Run) where
   abbrev done : List Copy
   done = systemIn (r .workers) (r .slots) now .stages .done
 
-  -- the record's copies are those of the lent words
-  record-at : (z : ℕ) → z < entriesIn now → getD done z noItem ≡ copyWords now z
-  record-at z h = ap (λ (l : List Copy). getD l z noItem) (recorded-words r) ∙ getD-tabulate (entriesIn now) (copyWords now) noItem z h
-
-  -- a recorded copy stands in one of them
-  recorded-at : (b : Copy) → 0 < occOf sameCopy b done → (placeOf sameCopy b done < entriesIn now) × (copyWords now (placeOf sameCopy b done) ≡ b)
-  recorded-at b member =
-      let inside : placeOf sameCopy b done < entriesIn now = omega (arith, place-member sameCopy b done member, recorded-length (honest-run r)) in
-      (inside, sym (record-at (placeOf sameCopy b done) inside) ∙ place-at sameCopy noItem b done member)
-
-  -- a copy of a recorded copy's predecessor is recorded before it
-  recorded-early : (x : ℕ) (b : Copy) → x < entriesIn now → Before (graphIn now) b (copyWords now x) → (y : ℕ) × (y < x) × (copyWords now y ≡ b)
-  recorded-early x b inside e = (
-    placeOf sameCopy b done,
-    omega (arith, before, place-least sameCopy noItem done x within, ap (λ (c : Copy). placeOf sameCopy c done) (record-at x inside)),
-    recorded-at b (before-member sameCopy b (copyWords now x) done before) .1,
-  )
-    where
-      within : x < length done
-      within = omega (arith, inside, recorded-length (honest-run r))
-
-      before : placeOf sameCopy b done < placeOf sameCopy (copyWords now x) done
-      before =
-          weak-order (graphIn now) (run-sound r) (run-once r) (r .workers) (honest-run r .weak) b (copyWords now x) e
-          (rw (record-at x inside) at (at-occ sameCopy noItem done x within))
-
   -- the copy is recorded
   abbrev pub Recorded : Copy → Type 0
   Recorded b = (y : ℕ) × (y < acceptedCompletes (eventsOf r)) × (copyWords (memoryOf r) y ≡ b)
 
-  recorded-word : (b : Copy) → 0 < occOf sameCopy b done → Recorded b
-  recorded-word b member =
-      let (inside, there) = recorded-at b member in
-      (placeOf sameCopy b done, omega (arith, inside, entries-word r), there)
+  words : done ≡ tabulate (acceptedCompletes (eventsOf r)) (copyWords now)
+  words = recorded-words r ∙ ap (λ (n : ℕ). tabulate n (copyWords now)) (entries-word r)
 
   before-here : (b c : Copy) → Before (graphOf r) b c → 0 < occOf sameCopy b (copiesOf (graphIn now) .preds c)
   before-here b c e = before-preds (graphIn now) (run-sound r) (before-as (graph-reached r) e)
@@ -128,7 +97,7 @@ module _ (r : Run) where
       → Before (graphOf r) b c → Recorded b
   unfolding meaning stateOf
   waiting-behind i j c b hi hj h e =
-      recorded-word b
+      recorded-word sameCopy _ (copyWords now) done words b
       (progress.waiting-behind sameCopy (copiesOf (graphIn now)) (honest-laws (honest-run r)) (r .workers) {s = systemIn (r .workers) (r .slots) now}
       (honest-invariant (honest-run r)) i c b hi
       (list-waits (r .workers) (stateOf (r .workers) (r .slots) now .lists) i sameCopy c j hj (rw (queue-at (r .workers) (r .slots) now i j hi hj) h)) (before-here b c e))
@@ -137,7 +106,7 @@ module _ (r : Run) where
       → Recorded b
   unfolding meaning
   held-behind i b hi busy e =
-      recorded-word b
+      recorded-word sameCopy _ (copyWords now) done words b
       (progress.held-behind sameCopy (copiesOf (graphIn now)) (honest-laws (honest-run r)) (r .workers) {s = systemIn (r .workers) (r .slots) now}
       (honest-invariant (honest-run r)) i (held now i) b hi (in-hand (honest-run r) i hi busy) (before-here b (held now i) e))
 
@@ -148,7 +117,10 @@ same-copies r r′ o f f′ c = finished-order r f .once c ∙ sym (order-agreed
 -- in an unfinished run too, the record has every copy behind all copies of its predecessor
 pub never-early : (r : Run) (x : ℕ) (b : Copy) → x < acceptedCompletes (eventsOf r) → Before (graphOf r) b (copyWords (memoryOf r) x)
     → (y : ℕ) × (y < x) × (copyWords (memoryOf r) y ≡ b)
-never-early r x b h e = recorded-early r x b (omega (arith, h, entries-word r)) (before-as (graph-reached r) e)
+never-early r x b h e =
+    earlier-word sameCopy _ (copyWords (memoryOf r)) (done r) (words r) x b h
+    (weak-order (graphIn (memoryOf r)) (run-sound r) (run-once r) (r .workers) (honest-run r .weak) b (copyWords (memoryOf r) x) (before-as (graph-reached r) e)
+    (word-recorded sameCopy _ (copyWords (memoryOf r)) (done r) (words r) x h))
 
 -- "copies of one task may pass each other": the graph doesn't order them
 pub copies-pass : (r : Run) (b c : Copy) → b .task ≡ c .task → Unordered (Before (graphOf r)) b c
@@ -220,7 +192,7 @@ accepted-kept r limits p k = (
 
 -- while a worker holds a copy, an entry is free for it
 pub holding-open : (r : Run) (i : ℕ) → i < r .workers → ¬ (_≡_ {A = ℕ} (rowIn (memoryOf r) i .phase) 0) → entriesIn (memoryOf r) < edges (r .lent) + rootsOf r
-holding-open r i worker busy = omega (arith, running-open (honest-run r) i worker busy, edges-reached r, roots-word r)
+holding-open r i worker busy = omega (arith, entry-free (honest-run r) i worker busy, edges-reached r, roots-word r)
 
 -- in memory begun and stepped by the engine Complete never meets 12, whatever the limits, P, K and worker
 pub never-full : (r : Run) (limits : Limits) (p k i d : ℕ) → ¬ (stepSays (step limits p k i Complete (memoryOf r) .answer) ≡ refused recordFull d)

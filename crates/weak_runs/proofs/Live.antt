@@ -265,9 +265,9 @@ module _ {limits : Limits} {p k : ℕ} {m : Mem} (h : Honest limits p k m) where
               )
 
       -- While a copy is in hand, an entry is free for it: in memory begun and stepped by the engine Complete never meets 12.
-      pub running-open : entriesIn m < edges m + rootsWord m
+      pub entry-free : entriesIn m < edges m + rootsWord m
       unfolding meaning
-      running-open =
+      entry-free =
           omega (
             arith,
             held-few sameCopy (copiesOf (graphIn m)) p (allCopies (graphIn m)) want-copy {s = systemIn p k m} honest-invariant,

@@ -40,7 +40,7 @@ use Rattle.weak_runs.specs.Undamaged.{NoDamage, NoDamageIn, Undamaged}
 use Rattle.weak_runs.proofs.Invariant.{Honest}
 use Rattle.weak_runs.proofs.Calls.{graph-reached, tasks-reached, edges-reached}
 use Rattle.weak_runs.proofs.Live.{Ranges, within-range, few-roots, low, ends-sound, task-ranged}
-use Rattle.weak_runs.proofs.Live.{row-pointer, next-good, scan-sound, held-copy, held-good, held-degree, running-open, few-places, open-room}
+use Rattle.weak_runs.proofs.Live.{row-pointer, next-good, scan-sound, held-copy, held-good, held-degree, entry-free, few-places, open-room}
 use Rattle.weak_runs.proofs.Full.{rest-phase, rest-buffer, rest-scan}
 use Rattle.weak_runs.proofs.LiveRelease.{counters-good, places-good, releasing, room-sound, fixed-range}
 
@@ -91,8 +91,8 @@ module _ {limits : Limits} {p k : ℕ} {m : Mem} (h : Honest limits p k m) (w : 
       complete-harmless : Harmless (completeRows p i m)
       complete-harmless =
           failing-row (λ d c. omega (arith, c .1, few-roots h))
-          (failing-row (λ d c. omega (arith, c .1, running-open h i worker busy))
-          (failing-row (λ d c. omega (arith, c .1, running-open h i worker busy))
+          (failing-row (λ d c. omega (arith, c .1, entry-free h i worker busy))
+          (failing-row (λ d c. omega (arith, c .1, entry-free h i worker busy))
           (failing-row (λ d c. held-good h i worker busy .1 (c .1))
           (failing-row (λ d c. degree-good (c .1))
           (failing-row (λ d c. omega (arith, c .1 .1, h .graph .light t task))

@@ -5,7 +5,7 @@ use Rattle.lists.proofs.Circles.{after-lt}
 use Rattle.ring.specs.Ring.{sound, full, endsAt}
 use Rattle.choice.specs.Search as rules
 use Prim.Native.Nat.{ℕ, _+_, _*_, _<_}
-use mathlib.Core.Path.{_≡_, sym, _∙_, ap}
+use mathlib.Core.Path.{_≡_, ap}
 use mathlib.Core.Bool.{not}
 use mathlib.Core.List.{List}
 use native.Mathlib.Omega.{arith}

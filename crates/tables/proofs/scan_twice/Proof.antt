@@ -5,7 +5,7 @@ use Rattle.graph.specs.Conditions.{Good, Twice}
 use borrow.Author.Count.{below-more}
 use lib.ListN.{length, getD}
 use mathlib.Core.Path.{_≡_}
-use Prim.Native.Nat.{ℕ, _+_, _≤_, _<_, _-_}
+use Prim.Native.Nat.{ℕ, _≤_, _<_, _-_}
 use native.Mathlib.Omega.{arith}
 use Rattle.tables.proofs.scan_twice.Statement.{statement}
 use Rattle.tables.proofs.scan_twice.Tie as tie
