@@ -9,16 +9,21 @@ use Rattle.task.specs.declared.Step.{Step}
 use Rattle.task.specs.declared.Step.the-variants.{Fetch, Start, Complete, Release}
 use Rattle.task.specs.declared.StepOutcome.{StepOutcome}
 use Rattle.ring.specs.Ring.{capacity}
+use Rattle.memory.specs.Field as list
 use Rattle.memory.specs.Updates.{written}
+use Rattle.plans.specs.Forms.{own}
+use Rattle.plans.proofs.Forms.{own-chooses}
 use Rattle.rules.specs.Memory.{Mem, acceptedIn}
 use Rattle.rules.specs.Updates.{Update}
 use Rattle.rules.specs.Steps.{step}
 use Rattle.rules.specs.Plans.{withCount}
 use Rattle.rules.specs.Moves.{Allowed, AcceptedStep}
 use Rattle.rules.proofs.Moves.{accepted-step}
+use Rattle.algorithm1.specs.State.{workload}
 use Rattle.algorithm1.specs.Algorithm.{Lines, Does}
 use Rattle.algorithm1.specs.Reading.{stateOf}
 use Rattle.algorithm1.specs.Promise.{FollowsAlgorithm1}
+use Rattle.algorithm1.proofs.Readings.{workload-at}
 use Rattle.algorithm1.proofs.Fetched.{fetch-does, start-does}
 use Rattle.algorithm1.proofs.Completed.{complete-does}
 use Rattle.algorithm1.proofs.Released.{release-does}
@@ -30,7 +35,9 @@ module _ (limits : Limits) (p k i : ℕ) where
   made-lines Fetch m o us a = fetch-does limits p k i m (a .fits) (a .worker) (acceptedIn m + 1) o us (a .phase) (a .made)
   made-lines Start m o us a = start-does limits p k i m (a .fits) (a .worker) (acceptedIn m + 1) o us (a .phase) (a .made)
   made-lines Complete m o us a = complete-does limits p k i m (a .fits) (a .worker) (acceptedIn m + 1) o us (a .phase) (a .made)
-  made-lines Release m o us a = release-does limits p k i m (a .fits) (a .worker) (acceptedIn m + 1) o us (a .phase) (a .made)
+  made-lines Release m o us a =
+      release-does (own p m) (workload p (stateOf p k m)) limits p k i m (own-chooses p m (a .fits .limits .oneWorker) (a .fits .lengths .list list.counters))
+      (workload-at p k m) (a .fits) (a .worker) (acceptedIn m + 1) o us (a .phase) (a .made)
 
   module _ (s : Step) (m : Mem) where
     pub step-does : (r : AcceptedStep limits p k i s m) → Does p (capacity k) i s (stateOf p k m) (stateOf p k (step limits p k i s m .memory)) (r .outcome)

@@ -4,7 +4,7 @@ use mathlib.Core.Path.{_≡_, refl, ap, _∙_}
 use mathlib.Core.List.{List, _∷_}
 use native.Mathlib.Omega.{arith}
 use lib.ListN.{length, set}
-use lib.IntN.{pos, _+ℤ_}
+use lib.IntN.{ℤ, pos, _+ℤ_}
 use Rattle.lists.specs.Circles.{after}
 use Rattle.task.specs.Types.{nil}
 use Rattle.task.specs.Phases.{suits}
@@ -12,7 +12,9 @@ use Rattle.task.specs.declared.Limits.{Limits}
 use Rattle.task.specs.declared.Step.the-variants.{Release}
 use Rattle.task.specs.declared.StepOutcome.{StepOutcome}
 use Rattle.ring.specs.Ring.{capacity, Sound, Full, tailOn, appendedAt}
+use Rattle.choice.specs.Form.{Form}
 use Rattle.choice.proofs.Least.{least-same}
+use Rattle.choice.proofs.Form.{Chooses}
 use Rattle.memory.specs.Family.{Places}
 use Rattle.memory.specs.Updates.{updated, written}
 use Rattle.rules.specs.Memory.{Mem, ringNumber, endsIn, weightIn, degreeIn, rowIn, movedTo, succCount, oldest, successor}
@@ -24,9 +26,9 @@ use Rattle.split_lists.proofs.Memories.{between, threadFrom, counters-put}
 use Rattle.split_lists.proofs.Lists.{queues-appended, first-room}
 use Rattle.split_lists.proofs.Buffers.{buffer-is, cursor-inside, successor-is, thread-next, thread-last}
 use Rattle.algorithm1.specs.State.{successorsOf, queueOf, threadOf}
-use Rattle.algorithm1.specs.Algorithm.{First, passed, Passes, lowers, allocates, Lines}
+use Rattle.algorithm1.specs.Algorithm.{First, passed, Passes, Releases, lowers, allocates}
 use Rattle.algorithm1.specs.Reading.{recordIn, stateOf}
-use Rattle.algorithm1.proofs.Readings.{state-same, degree-at, workload-at, phase-at}
+use Rattle.algorithm1.proofs.Readings.{state-same, degree-at, phase-at}
 use Rattle.algorithm1.proofs.Memories.{state-after, first-lt}
 
 module _ (p k i : ℕ) (m : Mem) (worker : i < p) (lengths : Lengths p k m) where
@@ -55,9 +57,11 @@ module _ (p k i : ℕ) (m : Mem) (worker : i < p) (lengths : Lengths p k m) wher
       goes-on to (next h) = thread-next p k i m (recordIn m) (nil .0) worker lengths (f .task) (f .cursor) h
       goes-on to (last h) = thread-last p k i m (recordIn m) (nil .0) worker lengths (f .task) (f .cursor) (f .notEmpty) (f .places) h
 
-module _ (limits : Limits) (p k i : ℕ) (m : Mem) (fits : Fits limits p k m) (worker : i < p) (n : ℕ) where
+-- a Release by a sane form, whose sums the loads W are of its candidates
+module _ (form : Form) (W : ℕ → ℤ) (limits : Limits) (p k i : ℕ) (m : Mem) (sane : Chooses p form) (same : (h : ℕ) → form .Candidate h → W h ≡ form .sum h)
+    (fits : Fits limits p k m) (worker : i < p) (n : ℕ) where
   waiting-does : (o : StepOutcome) (us : List Update) → rowIn m i .phase ≡ suits Release → moves.ReleasesWaiting i m o us
-      → Lines p (capacity k) i Release (stateOf p k m) (stateOf p k (written (putAccepted n ∷ us) m)) o
+      → Releases (form .Candidate) W p (capacity k) i (stateOf p k m) (stateOf p k (written (putAccepted n ∷ us) m)) o
   unfolding written updated stateOf
   waiting-does o us phase f =
       rw (f .updates)
@@ -72,8 +76,8 @@ module _ (limits : Limits) (p k i : ℕ) (m : Mem) (fits : Fits limits p k m) (w
         outcome = f .outcome;
       }))
 
-  placed-does : (o : StepOutcome) (us : List Update) → rowIn m i .phase ≡ suits Release → moves.ReleasesPlaced p k i m o us
-      → Lines p (capacity k) i Release (stateOf p k m) (stateOf p k (written (putAccepted n ∷ us) m)) o
+  placed-does : (o : StepOutcome) (us : List Update) → rowIn m i .phase ≡ suits Release → moves.ReleasesPlaced form p k i m o us
+      → Releases (form .Candidate) W p (capacity k) i (stateOf p k m) (stateOf p k (written (putAccepted n ∷ us) m)) o
   unfolding written updated stateOf appendedAt tailOn after
   placed-does o us phase f =
       rw (f .updates, f .ringIs)
@@ -83,7 +87,7 @@ module _ (limits : Limits) (p k i : ℕ) (m : Mem) (fits : Fits limits p k m) (w
         pass = passes p k i m worker (fits .lengths) (f .to) phase (f .common);
         zero = omega (arith, f .ready);
         target = f .target;
-        least = least-same (workload-at p k m) (f .least);
+        least = least-same same (f .least);
         owner = f .owner;
         room = room;
         after =
@@ -97,8 +101,11 @@ module _ (limits : Limits) (p k i : ℕ) (m : Mem) (fits : Fits limits p k m) (w
         outcome = f .outcome;
       }))
     where
-      room : First p (λ h. length (queueOf (stateOf p k m) h i) < capacity k) (f .target) (f .owner)
-      room = rw (f .ownerIs) (first-room p k i m (recordIn m) worker (f .target) (f .distance) (f .stop))
+      room : First p (λ h. form .Candidate h × (length (queueOf (stateOf p k m) h i) < capacity k)) (f .target) (f .owner)
+      room =
+          rw (f .ownerIs)
+          (first-room p k i m (recordIn m) worker (form .Candidate) (sane .below) (f .target) (form .offered (f .target))
+          (sane .offers (f .target) (f .least .candidate)) (f .place) (f .stop))
 
       sound : Sound k (endsIn m (ringNumber p (f .owner) i))
       sound = rw (f .ownerIs) (f .stop .sound)
@@ -107,7 +114,7 @@ module _ (limits : Limits) (p k i : ℕ) (m : Mem) (fits : Fits limits p k m) (w
       free = rw (f .ownerIs) (f .stop .stops)
 
   -- an accepted Release is Algorithm 1's; the phase is the one that suits it
-  pub release-does : (o : StepOutcome) (us : List Update) → rowIn m i .phase ≡ suits Release → moves.Releases p k i m o us
-      → Lines p (capacity k) i Release (stateOf p k m) (stateOf p k (written (putAccepted n ∷ us) m)) o
+  pub release-does : (o : StepOutcome) (us : List Update) → rowIn m i .phase ≡ suits Release → moves.Releases form p k i m o us
+      → Releases (form .Candidate) W p (capacity k) i (stateOf p k m) (stateOf p k (written (putAccepted n ∷ us) m)) o
   release-does o us phase (waiting f) = waiting-does o us phase f
   release-does o us phase (placed f) = placed-does o us phase f

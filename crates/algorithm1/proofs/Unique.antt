@@ -2,6 +2,7 @@
 -- circular list, the thread) is the only one that is as the paper says.
 use Prim.Native.Nat.{ℕ}
 use mathlib.Core.Path.{_≡_}
+use lib.IntN.{ℤ}
 use Rattle.task.specs.declared.Step.{Step}
 use Rattle.task.specs.declared.Step.the-variants.{Fetch, Start, Complete, Release}
 use Rattle.task.specs.declared.StepOutcome.{StepOutcome}
@@ -17,7 +18,7 @@ passes-one f g = (cc, cc)
 fetches-one : {p i : ℕ} {s a b : State} {o q : StepOutcome} → Fetches p i s a o → Fetches p i s b q → (a ≡ b) × (o ≡ q)
 fetches-one f g = let list = first-one (f .first) (g .first) in (cc, cc)
 
-releases-one : {p capacity i : ℕ} {s a b : State} {o q : StepOutcome} → Releases p capacity i s a o → Releases p capacity i s b q → (a ≡ b) × (o ≡ q)
+releases-one : {C : ℕ → Type 0} {W : ℕ → ℤ} {p capacity i : ℕ} {s a b : State} {o q : StepOutcome} → Releases C W p capacity i s a o → Releases C W p capacity i s b q → (a ≡ b) × (o ≡ q)
 releases-one (lowers f) (lowers g) = let (task, next) = passes-one (f .pass) (g .pass) in (cc, cc)
 -- the degree left is 0 or it isn't
 releases-one (lowers f) (allocates g) = absurd (f .some (rw (passes-one (f .pass) (g .pass) .0) (g .zero)))

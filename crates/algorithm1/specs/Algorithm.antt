@@ -10,6 +10,7 @@ use Prim.Native.Nat.{ℕ, _-_, _≤_, _<_}
 use mathlib.Core.Path.{_≡_}
 use mathlib.Core.List.{List, [], _∷_, _++_}
 use lib.ListN.{length, getD}
+use lib.IntN.{ℤ}
 use Rattle.task.specs.Types.{nil}
 use Rattle.task.specs.declared.Step.{Step}
 use Rattle.task.specs.declared.Step.the-variants.{Fetch, Start, Complete, Release}
@@ -81,8 +82,8 @@ pub record Lowers (i : ℕ) (s s′ : State) (o : StepOutcome) : Type 0 where
   pub after : s′ ≡ lowered i task next s
   pub outcome : o ≡ Released (DegreeLeft (degreeOf s task - 1))
 
--- line 8: "if d_T = 0"
-pub record Allocates (p capacity i : ℕ) (s s′ : State) (o : StepOutcome) : Type 0 where
+-- line 8: "if d_T = 0". Who may be chosen (`Candidate`) and the loads W that the choice goes by are those of the form of Release
+pub record Allocates (Candidate : ℕ → Type 0) (W : ℕ → ℤ) (p capacity i : ℕ) (s s′ : State) (o : StepOutcome) : Type 0 where
   pub task : ℕ
   pub next : Thread
   pub pass : Passes i s task next
@@ -90,26 +91,26 @@ pub record Allocates (p capacity i : ℕ) (s s′ : State) (o : StepOutcome) : T
   -- line 9: "fetch T from GL and append it to LL_j where j = arg min_{t=1…P} (W_t)"; "both take the least counter over 1..P, here it is workers
   -- 0..P−1", "the lowest number on equal sums"
   pub target : ℕ
-  pub least : Least (λ h. h < p) (workload p s) target
+  pub least : Least Candidate W target
   -- Thread i fills Q_j^i; "If Q_i^j is full, Thread j inserts tasks into Q_k^j, 0 ≤ k < P and k ≠ i, in a round robin fashion" (i and j change roles there); "s is
   -- appended to the first ring filled by i that isn't full, owners taken j, j+1, … modulo P"
   pub owner : ℕ
-  pub room : First p (λ h. length (queueOf s h i) < capacity) target owner
+  pub room : First p (λ h. Candidate h × (length (queueOf s h i) < capacity)) target owner
   -- line 10: "W_j = W_j + w_T": "Thread i updates W_j^i = W_j^i + w_T", and "The weight joins the counter of the ring really used."
   pub after : s′ ≡ addWeight owner i task (withQueue owner i (queueOf s owner i ++ (task ∷ [])) (lowered i task next s))
   pub outcome : o ≡ Released (Placed (record { 0 = task }) (record { 0 = owner }))
 
 -- one pass of lines 6 to 12
-pub data Releases (p capacity i : ℕ) (s s′ : State) (o : StepOutcome) : Type 0 where
-  lowers : Lowers i s s′ o → Releases p capacity i s s′ o
-  allocates : Allocates p capacity i s s′ o → Releases p capacity i s s′ o
+pub data Releases (Candidate : ℕ → Type 0) (W : ℕ → ℤ) (p capacity i : ℕ) (s s′ : State) (o : StepOutcome) : Type 0 where
+  lowers : Lowers i s s′ o → Releases Candidate W p capacity i s s′ o
+  allocates : Allocates Candidate W p capacity i s s′ o → Releases Candidate W p capacity i s s′ o
 
--- the lines of each step
+-- the lines of each step: a Release's candidates are all P threads, its loads their workloads
 abbrev pub Lines : ℕ → ℕ → ℕ → Step → State → State → StepOutcome → Type 0
 Lines p capacity i Fetch s s′ o = Fetches p i s s′ o
 Lines p capacity i Start s s′ o = Starts i s s′ o
 Lines p capacity i Complete s s′ o = Completes i s s′ o
-Lines p capacity i Release s s′ o = Releases p capacity i s s′ o
+Lines p capacity i Release s s′ o = Releases (λ h. h < p) (workload p s) p capacity i s s′ o
 
 -- Algorithm 1's step of Thread i from s to s′, with circular lists that hold `capacity` tasks
 pub record Does (p capacity i : ℕ) (step : Step) (s s′ : State) (o : StepOutcome) : Type 0 where

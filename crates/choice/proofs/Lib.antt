@@ -3,3 +3,4 @@ pub mod Examples
 pub mod Least
 pub mod Candidates
 pub mod Search
+pub mod Form

@@ -10,3 +10,4 @@ pub mod Laid
 pub mod Examples
 pub mod Accepted
 pub mod Kept
+pub mod Forms

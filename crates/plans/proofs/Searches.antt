@@ -3,7 +3,9 @@
 use Prim.Native.Nat.{ℕ, _+_, _%_, _≤_, _<_}
 use mathlib.Core.Path.{_≡_, sym, ap, subst, _∙_}
 use mathlib.Core.Bool.{Bool, not}
+use mathlib.Core.List.{List}
 use native.Mathlib.Omega.{arith}
+use lib.ListN.{length, getD}
 use Rattle.lists.specs.Circles.{around}
 use Rattle.lists.specs.Decided.{Smallest}
 use Rattle.lists.proofs.Circles.{length-around, around-at}
@@ -12,7 +14,7 @@ use Rattle.lists.proofs.Told.{Told, told-true, told-false, not-told}
 use Rattle.task.specs.declared.Ends.{Ends}
 use Rattle.ring.specs.Ring.{Sound, Empty, Full, sound, empty, full}
 use Rattle.ring.proofs.Ends.{sound-told, empty-told, full-told}
-use Rattle.choice.specs.Search.{Found, unsound, none, at, search, WentOn, Outcome}
+use Rattle.choice.specs.Search.{Found, unsound, none, at, search, Outcome}
 use Rattle.choice.proofs.Search.{search-is}
 use Rattle.memory.specs.Family.{Family}
 use Rattle.memory.specs.Memory.{Mem}
@@ -50,12 +52,18 @@ module _ (p k : ℕ) (Skip : Ends → Type 0) (at-distance : ℕ → Ends) where
   pub stop-not-all : {e : ℕ} → StopsAt p k Skip at-distance e → ¬ (GoesOn k Skip at-distance p)
   stop-not-all {e} s all = s .stops (all e (s .inside) .1)
 
--- the search itself, over rings that are found by their numbers
-module _ (p k x : ℕ) (Skip : Ends → Type 0) (skips : Ends → Bool)
-    (skip-told : (e : Ends) → Told (skips e) (Skip e) (¬ (Skip e))) (ends : ℕ → Ends) where
-  abbrev away : ℕ → Ends
-  away d = ends ((x + d) % p)
+-- what is found along a list of rings, by their numbers
+module _ (k : ℕ) (Skip : Ends → Type 0) (ends : ℕ → Ends) (xs : List ℕ) where
+  abbrev along : ℕ → Ends
+  along d = ends (getD xs d 0)
 
+  abbrev pub Sought : Found → Type 0
+  Sought unsound = BadEnds (length xs) k Skip (λ d. ends (getD xs d 0))
+  Sought none = GoesOn k Skip (λ d. ends (getD xs d 0)) (length xs)
+  Sought (at j) = (e : ℕ) × StopsAt (length xs) k Skip (λ d. ends (getD xs d 0)) e × (j ≡ getD xs e 0)
+
+-- the search itself
+module _ (k : ℕ) (Skip : Ends → Type 0) (skips : Ends → Bool) (skip-told : (e : Ends) → Told (skips e) (Skip e) (¬ (Skip e))) (ends : ℕ → Ends) where
   abbrev SoundAt : ℕ → Type 0
   SoundAt j = Sound k (ends j)
 
@@ -76,50 +84,73 @@ module _ (p k x : ℕ) (Skip : Ends → Type 0) (skips : Ends → Bool)
       go (told-true q y) = not-told (skips (ends j)) (told-true q (λ n. n y))
       go (told-false q m) = not-told (skips (ends j)) (told-false q m)
 
-  pass-to : (n : ℕ) → n ≤ p → WentOn SoundAt BlocksAt (around p x) n → GoesOn k Skip away n
-  pass-to n h passed d l = (q .0, skip-stable (away d) (q .1))
-    where
-      q : SoundAt ((x + d) % p) × ¬ (BlocksAt ((x + d) % p))
-      q = subst (λ j. SoundAt j × ¬ (BlocksAt j)) (around-at p x d 0 (omega arith)) (passed d l)
+  module _ (xs : List ℕ) where
+    abbrev found : Found
+    found = search (λ j. sound k (ends j)) (λ j. not (skips (ends j))) xs
 
-  looked-of : (f : Found) → Outcome SoundAt BlocksAt (around p x) f → Looked p k Skip away x f
-  looked-of unsound m = (
-    m .place,
-    inside,
-    pass-to (m .place) (omega (arith, inside)) (m .passed),
-    λ s. m .damaged (subst SoundAt (sym (around-at p x (m .place) 0 inside)) s),
-  )
-    where
-      inside : m .place < p
-      inside = omega (arith, m .inside, length-around p x)
-  looked-of none passed = pass-to p (omega arith) (λ d l. passed d (omega (arith, length-around p x)))
-  looked-of (at j) m = (
-    m .place,
-    record {
-      inside = inside;
-      goesOn = pass-to (m .place) (omega (arith, inside)) (m .passed);
-      sound = subst SoundAt there (m .sound);
-      stops = subst BlocksAt there (m .stops);
-    },
-    there,
-  )
-    where
-      inside : m .place < p
-      inside = omega (arith, m .inside, length-around p x)
+    sought-of : (f : Found) → Outcome SoundAt BlocksAt xs f → Sought k Skip ends xs f
+    sought-of unsound m = (m .place, m .inside, λ d l. (m .passed d l .0, skip-stable (ends (getD xs d 0)) (m .passed d l .1)), m .damaged)
+    sought-of none passed = λ d l. (passed d l .0, skip-stable (ends (getD xs d 0)) (passed d l .1))
+    sought-of (at j) m = (
+      m .place,
+      record {
+        inside = m .inside;
+        goesOn = λ d l. (m .passed d l .0, skip-stable (ends (getD xs d 0)) (m .passed d l .1));
+        sound = subst SoundAt (sym (m .there)) (m .sound);
+        stops = subst BlocksAt (sym (m .there)) (m .stops);
+      },
+      sym (m .there),
+    )
 
-      there : j ≡ (x + m .place) % p
-      there = sym (m .there) ∙ around-at p x (m .place) 0 inside
+    pub search-sought : Sought k Skip ends xs (search (λ j. sound k (ends j)) (λ j. not (skips (ends j))) xs)
+    search-sought = sought-of found (search-is _ _ SoundAt BlocksAt (λ j. sound-told k (ends j)) stops-told xs)
 
-  abbrev found : Found
-  found = search (λ j. sound k (ends j)) (λ j. not (skips (ends j))) (around p x)
+    -- so where a search would stop, it does
+    pub search-stops-at : (e : ℕ) → StopsAt (length xs) k Skip (λ d. ends (getD xs d 0)) e
+        → search (λ j. sound k (ends j)) (λ j. not (skips (ends j))) xs ≡ at (getD xs e 0)
+    search-stops-at e s = go found search-sought
+      where
+        go : (f : Found) → Sought k Skip ends xs f → f ≡ at (getD xs e 0)
+        go unsound bad = absurd (stop-not-bad (length xs) k Skip (along k Skip ends xs) s bad)
+        go none all = absurd (stop-not-all (length xs) k Skip (along k Skip ends xs) s all)
+        go (at j) (d, t, q) = ap at (q ∙ ap (λ (n : ℕ). getD xs n 0) (stop-unique (length xs) k Skip (along k Skip ends xs) t s))
+
+-- the same over p rings, from number x upward modulo p: what is found along the list of their numbers
+module _ (p k x : ℕ) (Skip : Ends → Type 0) (skips : Ends → Bool)
+    (skip-told : (e : Ends) → Told (skips e) (Skip e) (¬ (Skip e))) (ends : ℕ → Ends) where
+  abbrev away : ℕ → Ends
+  away d = ends ((x + d) % p)
+
+  there-is : (d : ℕ) → d < p → ends (getD (around p x) d 0) ≡ away d
+  there-is d l = ap ends (around-at p x d 0 l)
+
+  on-away : (n : ℕ) → n ≤ p → GoesOn k Skip (λ d. ends (getD (around p x) d 0)) n → GoesOn k Skip away n
+  on-away n h on d l = rw (there-is d (omega (arith, l, h))) at (on d l)
+
+  away-of : (f : Found) → Sought k Skip ends (around p x) f → Looked p k Skip away x f
+  away-of unsound (e, l, on, bad) =
+      let inside : e < p = omega (arith, l, length-around p x) in
+      (e, inside, on-away e (omega (arith, inside)) on, rw (there-is e inside) at bad)
+  away-of none all = on-away p (omega arith) (rw (length-around p x) at all)
+  away-of (at j) (e, s, q) =
+      let inside : e < p = omega (arith, s .inside, length-around p x) in (
+        e,
+        record {
+          inside = inside;
+          goesOn = on-away e (omega (arith, inside)) (s .goesOn);
+          sound = rw (there-is e inside) at (s .sound);
+          stops = rw (there-is e inside) at (s .stops);
+        },
+        q ∙ around-at p x e 0 inside,
+      )
 
   pub search-looked : Looked p k Skip (λ d. ends ((x + d) % p)) x (search (λ j. sound k (ends j)) (λ j. not (skips (ends j))) (around p x))
-  search-looked = looked-of found (search-is _ _ SoundAt BlocksAt (λ j. sound-told k (ends j)) stops-told (around p x))
+  search-looked = away-of (search (λ j. sound k (ends j)) (λ j. not (skips (ends j))) (around p x)) (search-sought k Skip skips skip-told ends (around p x))
 
   -- so where a search would stop, it does
   pub search-stops : (e : ℕ) → StopsAt p k Skip (λ d. ends ((x + d) % p)) e
       → search (λ j. sound k (ends j)) (λ j. not (skips (ends j))) (around p x) ≡ at ((x + e) % p)
-  search-stops e s = go found search-looked
+  search-stops e s = go (search (λ j. sound k (ends j)) (λ j. not (skips (ends j))) (around p x)) search-looked
     where
       go : (f : Found) → Looked p k Skip away x f → f ≡ at ((x + e) % p)
       go unsound bad = absurd (stop-not-bad p k Skip away s bad)
@@ -136,12 +167,12 @@ module _ {F : Family} (p k i : ℕ) (m : Mem F) where
   unfolding scan
   scan-stops = search-stops p k (pointerIn m i) Empty empty empty-told (λ j. endsIn m (ringNumber p i j))
 
--- what the search for room finds from owner j on, and that it stops where it would
-module _ {F : Family} (p k i j : ℕ) (m : Mem F) where
-  pub room-looked : Looked p k (Full k) (offeredEnds p i m j) j (findRoom p k i m (around p j))
+-- what the search for room finds along a list of owners, and that it stops where it would
+module _ {F : Family} (p k i : ℕ) (owners : List ℕ) (m : Mem F) where
+  pub room-looked : Sought k (Full k) (λ o. endsIn m (ringNumber p o i)) owners (findRoom p k i m owners)
   unfolding findRoom
-  room-looked = search-looked p k j (Full k) (full k) (full-told k) (λ o. endsIn m (ringNumber p o i))
+  room-looked = search-sought k (Full k) (full k) (full-told k) (λ o. endsIn m (ringNumber p o i)) owners
 
-  pub room-stops : (e : ℕ) → StopsAt p k (Full k) (offeredEnds p i m j) e → findRoom p k i m (around p j) ≡ at ((j + e) % p)
+  pub room-stops : (e : ℕ) → StopsAt (length owners) k (Full k) (offeredEnds p i m owners) e → findRoom p k i m owners ≡ at (getD owners e 0)
   unfolding findRoom
-  room-stops = search-stops p k j (Full k) (full k) (full-told k) (λ o. endsIn m (ringNumber p o i))
+  room-stops = search-stops-at k (Full k) (full k) (full-told k) (λ o. endsIn m (ringNumber p o i)) owners

@@ -8,3 +8,4 @@ pub mod Begin
 pub mod Laying
 pub mod Searches
 pub mod Moves
+pub mod Forms

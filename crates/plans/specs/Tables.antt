@@ -40,7 +40,7 @@ BadCounter n counters = (q : ℕ) × (q < n) × Beyond2^30 (getD counters q (pos
 
 -- Rings that are looked at one after the other: `ends d` are the ends of the ring at distance d from the first, and a ring is skipped if
 -- it is as `Skip` says, an empty one for Fetch, a full one for Release. The search goes on to distance e: every ring before is sound and
--- skipped.
+-- skipped. Fetch looks at P rings, Release at those of the owners offered.
 abbrev pub GoesOn : ℕ → (Ends → Type 0) → (ℕ → Ends) → ℕ → Type 0
 GoesOn k Skip ends e = (d : ℕ) → d < e → Sound k (ends d) × Skip (ends d)
 
@@ -95,9 +95,9 @@ module _ {F : Family} where
   abbrev pub scannedEnds : ℕ → ℕ → Mem F → ℕ → Ends
   scannedEnds p i m d = endsIn m (scanned p i m d)
 
-  -- Release's rings "filled by i .., owners taken j, j+1, … modulo P": the ends of the ring whose owner is at distance d from j
-  abbrev pub offeredEnds : ℕ → ℕ → Mem F → ℕ → ℕ → Ends
-  offeredEnds p i m j d = endsIn m (ringNumber p ((j + d) % p) i)
+  -- Release's rings "filled by i", of the owners offered: the ends of the ring of the owner at place d
+  abbrev pub offeredEnds : ℕ → ℕ → Mem F → List ℕ → ℕ → Ends
+  offeredEnds p i m owners d = endsIn m (ringNumber p (getD owners d 0) i)
 
   -- "In a step: 2, 1, 7, phase word (8), 9; then the step's rule is followed from its first sentence, and whichever of 8, 10, 11, 12
   -- it meets first is given.": the rows of the step's own rule behind the others

@@ -10,6 +10,7 @@ use Rattle.task.specs.declared.Limits.{Limits}
 use Rattle.task.specs.declared.Row.{Row}
 use Rattle.task.specs.declared.Step.the-variants.{Release}
 use Rattle.memory.specs.Field as list
+use Rattle.plans.specs.Forms.{own}
 use Rattle.rules.specs.Memory.{Mem, rowIn, withHand}
 use Rattle.rules.specs.Plans.{Plan}
 use Rattle.rules.specs.Steps.{releaseWaiting, releaseReady, releaseRule, ruleOf, stepPlan}
@@ -93,7 +94,7 @@ module _ (p k i : ℕ) (sizes : Sizes) (judged : Judged) (row : Row) (t : Tables
             buffers = refl;
           }
 
-      follows : (limits : Limits) → Judges limits p k i sizes judged → (plan : Plan) → releaseRule p k i (lent m t x (m .rows)) ≡ plan
+      follows : (limits : Limits) → Judges limits p k i sizes judged → (plan : Plan) → releaseRule (own p (lent m t x (m .rows))) p k i (lent m t x (m .rows)) ≡ plan
           → stepPlan limits p k i Release (lent m t x (m .rows)) ≡ plan
       unfolding ruleOf
       follows limits j plan f =
@@ -145,15 +146,15 @@ module _ (p k i : ℕ) (sizes : Sizes) (judged : Judged) (row : Row) (t : Tables
             (follows m e h limits j _ (waits .follows p k _ (shows m e h)))
 
       module _ (s : Successor) (c : z ≡ pick.Ready s) where
-        abbrev readied : Picks i after (t .succStarts) (t .succs) (x .degrees) (t .buffers) s (λ p k. releaseReady p k i)
+        abbrev readied : Picks i after (t .succStarts) (t .succs) (x .degrees) (t .buffers) s (λ p k m. releaseReady (own p m) p k i m)
         readied = known (pick.Ready s) c
 
         pub ready-goes : Goes steps after s (length (t .weights)) (x .run) × Sized p k i (length (t .weights)) x
-        ready-goes = (rw (sym (words-fit .degrees)) (goes s (λ p k. releaseReady p k i) readied), words-fit)
+        ready-goes = (rw (sym (words-fit .degrees)) (goes s (λ p k m. releaseReady (own p m) p k i m) readied), words-fit)
 
         pub whole-ready : (x′ : Words) (y : Stepped) → PlacesReady p k i steps after s (t .weights) x x′ y
             → Releases p k i sizes judged row t x x′ y
         unfolding PlacesReady Releases
         whole-ready x′ y f limits m j e h =
-            f limits (lent m t x (m .rows)) (stands s (λ p k. releaseReady p k i) readied m e h) refl
+            f limits (lent m t x (m .rows)) (stands s (λ p k m. releaseReady (own p m) p k i m) readied m e h) refl
             (follows m e h limits j _ (readied .follows p k _ (shows m e h)))

@@ -12,6 +12,7 @@ use Rattle.choice.specs.Search.{at}
 use Rattle.memory.specs.Field as list
 use Rattle.memory.specs.Memory.{put}
 use Rattle.memory.specs.Shape.{lengthOf, fixedLength}
+use Rattle.plans.specs.Forms.{own}
 use Rattle.rules.specs.Memory.{plainShape, plain, Mem, tasks, edges, rowIn, movedTo}
 use Rattle.rules.specs.Plans.{Plan, resultOf}
 use Rattle.rules.specs.Steps.{advanced, releaseTo, releaseReady, releaseWaiting, stepPlan, step}
@@ -78,9 +79,9 @@ Lowers a row next d run d′ run′ r =
 unfoldable pub Places : (p k i a : ℕ) → Row → Successor → ℕ → List ℕ → Words → Words → Stepped → Type 0
 Places p k i a row next o weights x x′ r =
     (limits : Limits) (m : Mem) → Stands i a row next m → m .weights ≡ weights
-    → Finishes limits p k i (λ m. releaseTo p k i m (at o)) m x x′ r
+    → Finishes limits p k i (λ m. releaseTo (own p m) p k i m (at o)) m x x′ r
 
 -- the degree becomes 0
 unfoldable pub PlacesReady : (p k i a : ℕ) → Row → Successor → List ℕ → Words → Words → Stepped → Type 0
 PlacesReady p k i a row next weights x x′ r =
-    (limits : Limits) (m : Mem) → Stands i a row next m → m .weights ≡ weights → Finishes limits p k i (releaseReady p k i) m x x′ r
+    (limits : Limits) (m : Mem) → Stands i a row next m → m .weights ≡ weights → Finishes limits p k i (λ m. releaseReady (own p m) p k i m) m x x′ r

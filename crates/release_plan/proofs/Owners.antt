@@ -17,6 +17,7 @@ use Rattle.choice.specs.Least.{load, least}
 use Rattle.choice.specs.Search.{unsound, none, at, search}
 use Rattle.choice.specs.Search as rules
 use Rattle.choice.proofs.Least.{least-worker}
+use Rattle.plans.specs.Forms.{own}
 use Rattle.rules.specs.Memory.{Mem, ringNumber}
 use Rattle.rules.specs.Words.{counterFits, countersFit}
 use Rattle.rules.specs.Steps.{findRoom, releaseTo, releaseReady}
@@ -70,7 +71,7 @@ module _ (p : ℕ) (c : List ℤ) (x : Choice) (hx : Chosen p c x) where
     owner-damaged g = (rw (rw g at hx) refl, λ m v. rw (v .counters, rw g at hx))
 
     module _ (j : WorkerId) (t : x ≡ choice.Target j) (r : Found) (hr : foundOf r ≡ room p k i (j .0) e) where
-      goes-to : (m : Mem) → Offers i s e c m → releaseReady p k i m ≡ releaseTo p k i m (foundOf r)
+      goes-to : (m : Mem) → Offers i s e c m → releaseReady (own p m) p k i m ≡ releaseTo (own p m) p k i m (foundOf r)
       unfolding releaseReady findRoom
       goes-to m v = rw (v .counters, v .ends, chosen j t .0, ← (chosen j t .1), ← hr)
 

@@ -9,6 +9,7 @@ use lib.Dec.{leb, eqb}
 use borrow.Author.Tests.{eq-eqb, ne-eqb, not-true, not-false}
 use Rattle.lists.proofs.Told.{first-holds}
 use Rattle.task.specs.declared.Row.{Row}
+use Rattle.plans.specs.Forms.{own}
 use Rattle.rules.specs.Memory.{Mem, edges}
 use Rattle.rules.specs.Plans.{Plan, checked}
 use Rattle.rules.specs.Steps.{releaseReady, releaseWaiting, releaseRule}
@@ -33,13 +34,13 @@ module _ (i : ℕ) (r : Row) (ss s d b : List ℕ) where
   within y = leb 1 (getD d (y .task .0) 0) && leb (getD d (y .task .0) 0) (length d)
 
   abbrev onward : Successor → ℕ → ℕ → Mem → Plan
-  onward y p k m = cond (eqb (getD d (y .task .0) 0) 1) (releaseReady p k i m) (releaseWaiting i m)
+  onward y p k m = cond (eqb (getD d (y .task .0) 0) 1) (releaseReady (own p m) p k i m) (releaseWaiting i m)
 
   abbrev there : Successor
   there = successorAt i (length d) (r .read) (r .write) (r .cursor) ss s b
 
   -- the rule, by these lists
-  rule-reads : (p k : ℕ) (m : Mem) → Shows i r ss s d b m → releaseRule p k i m ≡ planned reached (checked (within there) (onward there p k m))
+  rule-reads : (p k : ℕ) (m : Mem) → Shows i r ss s d b m → releaseRule (own p m) p k i m ≡ planned reached (checked (within there) (onward there p k m))
   unfolding releaseRule
   rule-reads p k m v =
       reach-plan i m lengths _ ∙ simp (v .tasks, v .row, v .succStarts, v .succs, v .degrees, v .buffers)
@@ -55,7 +56,7 @@ module _ (i : ℕ) (r : Row) (ss s d b : List ℕ) where
       abbrev known : Reaches i (length d) (r .read) (r .write) (r .cursor) ss s b y
       known = reach-known i (length d) (r .read) (r .write) (r .cursor) ss s b y (sym hz ∙ e)
 
-      rule-goes : (p k : ℕ) (m : Mem) → Shows i r ss s d b m → releaseRule p k i m ≡ checked (within y) (onward y p k m)
+      rule-goes : (p k : ℕ) (m : Mem) → Shows i r ss s d b m → releaseRule (own p m) p k i m ≡ checked (within y) (onward y p k m)
       rule-goes p k m v = rw (known .is) (rule-reads p k m v ∙ planned-at reached (checked (within there) (onward there p k m)) y (sym hz ∙ e))
 
       pub pick-degree : not (within y) ≡ true → Picked i r ss s d b (Refused 8 0)
@@ -77,7 +78,7 @@ module _ (i : ℕ) (r : Row) (ss s d b : List ℕ) where
             }
 
         pub pick-ready : getD d (y .task .0) 0 ≡ 1 → Picked i r ss s d b (Ready y)
-        pick-ready q = picks (λ p k. releaseReady p k i) (λ p k m. simp (eq-eqb _ _ q))
+        pick-ready q = picks (λ p k m. releaseReady (own p m) p k i m) (λ p k m. simp (eq-eqb _ _ q))
 
         pub pick-waiting : (left : ℕ) → ¬ (getD d (y .task .0) 0 ≡ 1) → left ≡ getD d (y .task .0) 0 - 1 → Picked i r ss s d b (Waiting y left)
         pick-waiting left q l = (picks (λ p k. releaseWaiting i) (λ p k m. simp (ne-eqb _ _ q)), l)

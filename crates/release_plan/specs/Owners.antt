@@ -12,6 +12,7 @@ use Rattle.task.specs.declared.Ends.{Ends}
 use Rattle.ring.specs.Ring.{Sound, sound, full, endsAt}
 use Rattle.choice.specs.Least.{load, least}
 use Rattle.choice.specs.Search.{Found, unsound, none, at, search}
+use Rattle.plans.specs.Forms.{own}
 use Rattle.rules.specs.Memory.{Mem, ringNumber, successor}
 use Rattle.rules.specs.Words.{counterFits, countersFit}
 use Rattle.rules.specs.Plans.{refuse}
@@ -46,8 +47,8 @@ pub record Takes (p k i s : ℕ) (e : List ℕ) (c : List ℤ) (o : ℕ) : Type 
   pub owner : o < p
   pub sound : Sound k (endsAt e (ringNumber p o i))
   pub counters : (q : ℕ) → q < length c → counterFits (getD c q (pos 0)) ≡ true
-  pub follows : (m : Mem) → Offers i s e c m → releaseReady p k i m ≡ releaseTo p k i m (at o)
+  pub follows : (m : Mem) → Offers i s e c m → releaseReady (own p m) p k i m ≡ releaseTo (own p m) p k i m (at o)
 
 abbrev pub Owned : (p k i s : ℕ) → List ℕ → List ℤ → Owner → Type 0
-Owned p k i s e c (Refused n d) = (m : Mem) → Offers i s e c m → releaseReady p k i m ≡ refuse n d
+Owned p k i s e c (Refused n d) = (m : Mem) → Offers i s e c m → releaseReady (own p m) p k i m ≡ refuse n d
 Owned p k i s e c (At o both) = Takes p k i s e c (o .0) × (both ≡ endsAt e (ringNumber p (o .0) i))

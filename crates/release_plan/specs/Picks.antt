@@ -4,6 +4,7 @@ use mathlib.Core.Path.{_≡_}
 use mathlib.Core.List.{List}
 use lib.ListN.{length, getD}
 use Rattle.task.specs.declared.Row.{Row}
+use Rattle.plans.specs.Forms.{own}
 use Rattle.rules.specs.Memory.{Mem, tasks, edges, rowIn, succCount, oldest, successor}
 use Rattle.rules.specs.Plans.{Plan, refuse}
 use Rattle.rules.specs.Steps.{releaseReady, releaseWaiting, releaseRule}
@@ -32,9 +33,9 @@ pub record Picks (i : ℕ) (r : Row) (ss s d b : List ℕ) (x : Successor) (rest
   pub place : r .read < r .write
   pub cursor : r .cursor < x .count
   pub next : (m : Mem) → Shows i r ss s d b m → Next i m x
-  pub follows : (p k : ℕ) (m : Mem) → Shows i r ss s d b m → releaseRule p k i m ≡ rest p k m
+  pub follows : (p k : ℕ) (m : Mem) → Shows i r ss s d b m → releaseRule (own p m) p k i m ≡ rest p k m
 
 abbrev pub Picked : ℕ → Row → (ss s d b : List ℕ) → Pick → Type 0
-Picked i r ss s d b (Refused n x) = (p k : ℕ) (m : Mem) → Shows i r ss s d b m → releaseRule p k i m ≡ refuse n x
+Picked i r ss s d b (Refused n x) = (p k : ℕ) (m : Mem) → Shows i r ss s d b m → releaseRule (own p m) p k i m ≡ refuse n x
 Picked i r ss s d b (Waiting x left) = Picks i r ss s d b x (λ p k. releaseWaiting i) × (left ≡ getD d (x .task .0) 0 - 1)
-Picked i r ss s d b (Ready x) = Picks i r ss s d b x (λ p k. releaseReady p k i)
+Picked i r ss s d b (Ready x) = Picks i r ss s d b x (λ p k m. releaseReady (own p m) p k i m)

@@ -12,6 +12,8 @@ use Rattle.rules.specs.Sizes.{Fits}
 use Rattle.rules.specs.Steps.{ruleOf, stepPlan, step}
 use Rattle.rules.specs.Tables.{ownRows, stepRows}
 use Rattle.rules.proofs.Plans.{PlanFollows, answer-planned}
+use Rattle.plans.specs.Forms.{own}
+use Rattle.plans.proofs.Forms.{own-chooses}
 use Rattle.plans.proofs.Headers.{headed-follows}
 use Rattle.rules.proofs.Complete.{start-follows, complete-follows}
 use Rattle.rules.proofs.Fetch.{fetch-follows}
@@ -23,7 +25,7 @@ unfolding ruleOf
 rule-follows limits p k i Fetch m f h = fetch-follows p k i m
 rule-follows limits p k i Start m f h = start-follows i m
 rule-follows limits p k i Complete m f h = complete-follows p i m
-rule-follows limits p k i Release m f h = release-follows p k i m (omega (arith, f .limits .oneWorker)) (f .lengths .list list.counters)
+rule-follows limits p k i Release m f h = release-follows (own p m) p k i m (own-chooses p m (omega (arith, f .limits .oneWorker)) (f .lengths .list list.counters))
 
 pub step-follows : (limits : Limits) (p k i : ℕ) (s : Step) (m : Mem) → Follows (stepRows limits p k i s m) (stepSays (step limits p k i s m .answer))
 unfolding step stepPlan

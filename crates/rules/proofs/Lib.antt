@@ -20,3 +20,4 @@ pub mod Begun
 pub mod Limits
 pub mod PreviewExamples
 pub mod PreviewWrong
+pub mod FormExamples

@@ -18,8 +18,10 @@ use Rattle.task.specs.declared.StepOutcome.{StepOutcome}
 use Rattle.lists.specs.Circles.{after}
 use Rattle.graph.specs.Conditions.{Good}
 use Rattle.ring.specs.Ring.{headOn, tailOn}
-use Rattle.choice.specs.Least.{load}
-use Rattle.choice.proofs.Least.{least-worker}
+use Rattle.choice.specs.Form.{Form}
+use Rattle.choice.proofs.Form.{Chooses, target-is}
+use Rattle.plans.specs.Forms.{own}
+use Rattle.plans.proofs.Forms.{own-chooses}
 use Rattle.memory.specs.Family.{Places}
 use Rattle.memory.specs.Field as list
 use Rattle.memory.specs.Updates.{written}
@@ -28,10 +30,10 @@ use Rattle.rules.specs.Words.{acceptedFits}
 use Rattle.rules.specs.Updates.{Update, putAccepted}
 use Rattle.rules.specs.Plans.{Plan, accept, withCount, counted, carriedOut}
 use Rattle.rules.specs.Steps.{fetchTask, fetchFrom, fetchRule, startRule, completeSink, completeInner, completeRule, advanced, releaseTo, releaseReady, releaseWaiting, releaseRule, ruleOf, stepPlan, step}
-use Rattle.rules.specs.Moves.{Fetches, Ranged, Completing, sink, inner, Advances, next, last, Releasing, ReleasesPlaced, waiting, placed, Made, Allowed}
+use Rattle.rules.specs.Moves.{Fetches, Ranged, Completing, sink, inner, Advances, next, last, Releasing, ReleasesPlaced, Releases, waiting, placed, Made, Allowed}
 use Rattle.rules.proofs.Plans.{outcome-accepts}
 use Rattle.plans.proofs.Headers.{headed-reaches}
-use Rattle.rules.proofs.Words.{counter-told, counters-told, accepted-told, entries-told, recorded-told}
+use Rattle.rules.proofs.Words.{counter-told, accepted-told, entries-told, recorded-told}
 use Rattle.plans.proofs.Searches.{scan-stops, room-stops}
 
 -- the tests that both kinds of Complete pass, and both of Release
@@ -49,11 +51,11 @@ completing-passes p i m c =
       le-leb _ _ (c .task .inside),
     )
 
-releasing-passes : (p k i : ℕ) (m : Mem) (to : Places) → Releasing i m to
-    → releaseRule p k i m
-    ≡ cond (eqb (degreeIn m (successor m i)) 1) (releaseReady p k i m) (releaseWaiting i m)
+releasing-passes : (f : Form) (p k i : ℕ) (m : Mem) (to : Places) → Releasing i m to
+    → releaseRule f p k i m
+    ≡ cond (eqb (degreeIn m (successor m i)) 1) (releaseReady f p k i m) (releaseWaiting i m)
 unfolding releaseRule
-releasing-passes p k i m to c =
+releasing-passes f p k i m to c =
     rw (
       le-leb (rowIn m i .read) (rowIn m i .write) (omega (arith, c .notEmpty)),
       le-leb _ _ (c .places),
@@ -84,16 +86,18 @@ module _ (p k i : ℕ) (m : Mem) (low : acceptedIn m < 3 * tasks m + edges m) wh
       rw (lt-ltb _ _ (f .pointer), scan-stops p k i m (f .distance) (f .stop), sym (f .fillerIs), sym t, lt-ltb _ _ (f .below))
       (rw (fits, f .outcome, f .updates, e))
 
-  placed-accepts : length (m .counters) ≡ p * p → (o : StepOutcome) (us : List Update) → ReleasesPlaced p k i m o us → releaseRule p k i m ≡ accept o (withCount m us)
+  placed-accepts : (form : Form) → Chooses p form → (o : StepOutcome) (us : List Update) → ReleasesPlaced form p k i m o us
+      → releaseRule form p k i m ≡ accept o (withCount m us)
   unfolding releaseReady releaseTo counted tailOn after
-  placed-accepts c o us f =
+  placed-accepts form sane o us f =
       rw (
-        releasing-passes p k i m (f .to) (f .common),
+        releasing-passes form p k i m (f .to) (f .common),
         eq-eqb _ _ (f .ready),
-        told-pass (counters-told (m .counters) (p * p) c) (f .counters),
-        sym (least-worker p (load p (m .counters)) (omega (arith, f .least .candidate)) .1 (f .target) (f .least)),
-        room-stops p k i (f .target) m (f .distance) (f .stop),
+        told-pass (sane .told) (f .undamaged),
+        sym (target-is sane (f .undamaged) .1 (f .target) (f .least)),
+        room-stops p k i (form .offered (f .target)) m (f .place) (f .stop),
         sym (f .ownerIs),
+        told-pass (sane .toldAt (ringNumber p (f .owner) i)) (rw (f .ringIs) at (f .counter)),
         le-leb _ _ (f .light),
         fits,
         advanced-is (f .common .advances),
@@ -102,8 +106,23 @@ module _ (p k i : ℕ) (m : Mem) (low : acceptedIn m < 3 * tasks m + edges m) wh
         f .ringIs,
       )
 
-  rule-accepts : length (m .counters) ≡ p * p → (s : Step) (o : StepOutcome) (us : List Update) → Made s p k i m o us → ruleOf s p k i m ≡ accept o (withCount m us)
-  unfolding ruleOf startRule completeSink completeInner releaseWaiting counted
+  -- a Release by any sane form
+  pub release-accepts : (form : Form) → Chooses p form → (o : StepOutcome) (us : List Update) → Releases form p k i m o us
+      → releaseRule form p k i m ≡ accept o (withCount m us)
+  unfolding releaseWaiting counted
+  release-accepts form sane o us (waiting f) =
+      rw (
+        releasing-passes form p k i m (f .to) (f .common),
+        ne-eqb _ _ (f .notReady),
+        fits,
+        advanced-is (f .common .advances),
+        f .outcome,
+        f .updates,
+      )
+  release-accepts form sane o us (placed f) = placed-accepts form sane o us f
+
+  rule-accepts : Chooses p (own p m) → (s : Step) (o : StepOutcome) (us : List Update) → Made s p k i m o us → ruleOf s p k i m ≡ accept o (withCount m us)
+  unfolding ruleOf startRule completeSink completeInner counted
   rule-accepts c Fetch o us f = fetch-accepts o us f
   rule-accepts c Start o us f = rw (fits, f .outcome, f .updates)
   rule-accepts c Complete o us (sink f) =
@@ -119,16 +138,7 @@ module _ (p k i : ℕ) (m : Mem) (low : acceptedIn m < 3 * tasks m + edges m) wh
         f .outcome,
         f .updates,
       )
-  rule-accepts c Release o us (waiting f) =
-      rw (
-        releasing-passes p k i m (f .to) (f .common),
-        ne-eqb _ _ (f .notReady),
-        fits,
-        advanced-is (f .common .advances),
-        f .outcome,
-        f .updates,
-      )
-  rule-accepts c Release o us (placed f) = placed-accepts c o us f
+  rule-accepts c Release o us f = release-accepts (own p m) c o us f
 
 module _ (limits : Limits) (p k i : ℕ) (s : Step) (m : Mem) where
   -- a step that is allowed is accepted, with that outcome and those updates
@@ -140,7 +150,7 @@ module _ (limits : Limits) (p k i : ℕ) (s : Step) (m : Mem) where
       q : stepPlan limits p k i s m ≡ accept o (withCount m us)
       q =
           headed-reaches limits p k i s m (ruleOf s p k i m) (r .fits) (r .worker) (r .phase)
-          ∙ rule-accepts p k i m (r .low) (r .fits .lengths .list list.counters) s o us (r .made)
+          ∙ rule-accepts p k i m (r .low) (own-chooses p m (r .fits .limits .oneWorker) (r .fits .lengths .list list.counters)) s o us (r .made)
 
   -- whatever it answers
   pub allowed-accepted : (o : StepOutcome) (us : List Update) → Allowed limits p k i s m o us → Acceptance (stepSays (step limits p k i s m .answer))

@@ -5,7 +5,6 @@ use mathlib.Core.Bool.{true, cond}
 use mathlib.Core.Logic.{_⊎_, inl, inr}
 use mathlib.Core.List.{List}
 use native.Mathlib.Omega.{arith}
-use lib.ListN.{length}
 use lib.Dec.{leb, eqb}
 use borrow.Author.Tests.{ltb-true, leb-true, eqb-true, eqb-false}
 use Rattle.lists.proofs.Told.{Told, told-true, told-false, same-told, and-true, told-yes, told-no}
@@ -19,28 +18,29 @@ use Rattle.task.specs.declared.Step.the-variants.{Fetch, Start, Complete, Relea
 use Rattle.task.specs.declared.StepOutcome.{StepOutcome}
 use Rattle.task.specs.declared.StepAnswer.{StepAnswer}
 use Rattle.task.specs.declared.StepAnswer.the-variants.{Refused, Accepted}
-use Rattle.lists.specs.Lists.{allOf}
-use Rattle.lists.specs.Circles.{after, around}
+use Rattle.lists.specs.Circles.{after}
 use Rattle.ring.specs.Ring.{Empty, Full, headOn, tailOn}
-use Rattle.choice.specs.Least.{load, least}
-use Rattle.choice.proofs.Least.{least-worker}
+use Rattle.choice.specs.Form.{Form}
+use Rattle.choice.proofs.Form.{Chooses, target-is}
+use Rattle.plans.specs.Forms.{targetBy, own}
+use Rattle.plans.proofs.Forms.{own-chooses}
 use Rattle.choice.specs.Search.{Found, unsound, none, at}
 use Rattle.memory.specs.Family.{Places}
 use Rattle.memory.specs.Field as list
-use Rattle.rules.specs.Memory.{Mem, tasks, edges, ringNumber, headWord, counterIn, degreeIn, succCount, firstSucc, pastSucc, rowIn, held, pointerIn, entriesIn, acceptedIn, oldest, successor}
+use Rattle.rules.specs.Memory.{Mem, tasks, edges, ringNumber, endsIn, headWord, counterIn, degreeIn, succCount, firstSucc, pastSucc, rowIn, held, pointerIn, entriesIn, acceptedIn, oldest, successor}
 use Rattle.rules.specs.Sizes.{Fits}
 use Rattle.rules.specs.Words.{phaseFits, rangeFits, placesFit, acceptedFits}
 use Rattle.rules.specs.Updates.{Update}
 use Rattle.rules.specs.Plans.{Plan, refuse, accept, suited, withCount, counted, carriedOut}
 use Rattle.rules.specs.Steps.{scan, fetchTask, fetchFrom, fetchRule, startRule, completeSink, completeInner, completeRule, advanced, findRoom, releaseTo, releaseReady, releaseWaiting, releaseRule, ruleOf, stepPlan, step}
-use Rattle.rules.specs.Tables.{BadAccepted, BadCounter, scannedEnds, offeredEnds, HasSuccessors, Ready}
+use Rattle.rules.specs.Tables.{BadAccepted, scannedEnds, HasSuccessors, Ready}
 use Rattle.rules.specs.Moves.{Fetches, Ranged, Completing, Completes, sink, inner, Advances, next, last, Releasing, Releases, waiting, placed, Made, Allowed, AcceptedStep}
 use Rattle.rules.proofs.Plans.{outcome-accepts}
 use Rattle.rules.proofs.Untouched.{refused-step}
 use Rattle.plans.proofs.Headers.{fits-are}
 use Rattle.plans.proofs.Accepted.{IfAccepted, if-refused, if-required, if-cond}
-use Rattle.rules.proofs.Words.{counter-told, counters-told, accepted-told, entries-told, recorded-told}
-use Rattle.plans.proofs.Searches.{Looked, scan-looked, room-looked}
+use Rattle.rules.proofs.Words.{counter-told, accepted-told, entries-told, recorded-told}
+use Rattle.plans.proofs.Searches.{Looked, Sought, scan-looked, room-looked}
 
 -- updates that add 1 to an accepted word in its range, and the others
 record Counted (m : Mem) (M : StepOutcome → List Update → Type 0) (o : StepOutcome) (us : List Update) : Type 0 where
@@ -122,68 +122,53 @@ module _ (m : Mem) where
     abbrev to : Places
     to = advanced (succCount m (oldest m i)) (rowIn m i)
 
-    module _ (some : 0 < p) (e : length (m .counters) ≡ p * p) where
+    -- a Release by form f
+    module _ (f : Form) (sane : Chooses p f) where
       -- "target j"
       abbrev j : ℕ
-      j = least (allOf p) (load p (m .counters))
+      j = targetBy f
 
-      if-placed : (f : Found) → Releasing i m to → Ready m i → ¬ (BadCounter (p * p) (m .counters))
-          → Looked p k (Full k) (offeredEnds p i m j) j f
-          → IfAccepted (Counted m (Releases p k i m)) (releaseTo p k i m f)
+      if-placed : (g : Found) → Releasing i m to → Ready m i → ¬ (f .Damaged)
+          → Sought k (Full k) (λ o. endsIn m (ringNumber p o i)) (f .offered j) g
+          → IfAccepted (Counted m (Releases f p k i m)) (releaseTo f p k i m g)
       unfolding releaseTo tailOn after
       if-placed unsound c r q l = if-refused _ _
       if-placed none c r q l = if-refused _ _
       if-placed (at o) c r q (d, stop, g) =
+          if-required _ _ _ (λ u.
           if-required _ _ _ (λ w.
           if-counted _ _ (placed (record {
             to = to;
             common = c;
             ready = r;
-            counters = q;
+            undamaged = q;
             target = j;
-            least = least-worker p (load p (m .counters)) some .0;
-            distance = d;
+            least = target-is sane q .0;
+            place = d;
             stop = stop;
             owner = o;
             ownerIs = g;
             ring = ringNumber p o i;
             ringIs = refl;
+            counter = told-yes (sane .toldAt (ringNumber p o i)) u;
             light = leb-true _ _ w;
             outcome = refl;
             updates = refl;
-          })))
+          }))))
 
-      if-released : Releasing i m to → IfAccepted (Counted m (Releases p k i m))
-          (cond (eqb (degreeIn m (successor m i)) 1) (releaseReady p k i m) (releaseWaiting i m))
+      if-released : Releasing i m to → IfAccepted (Counted m (Releases f p k i m))
+          (cond (eqb (degreeIn m (successor m i)) 1) (releaseReady f p k i m) (releaseWaiting i m))
       unfolding releaseReady releaseWaiting
       if-released c =
           if-cond _
           (λ r. if-required _ _ _ (λ q.
-          if-placed (findRoom p k i m (around p j)) c (eqb-true _ _ r) (told-yes (counters-told (m .counters) (p * p) e) q)
-          (room-looked p k i j m)))
+          if-placed (findRoom p k i m (f .offered j)) c (eqb-true _ _ r) (told-yes (sane .told) q)
+          (room-looked p k i (f .offered j) m)))
           (λ n. if-counted _ _ (waiting (record { to = to; common = c; notReady = eqb-false _ _ n; outcome = refl; updates = refl })))
 
-      -- a step's own rule
-      if-ruled : (s : Step) → IfAccepted (Counted m (Made s p k i m)) (ruleOf s p k i m)
-      unfolding ruleOf fetchRule startRule completeRule releaseRule
-      if-ruled Fetch = if-required _ _ _ (λ h. if-fetched (scan p k i m) (ltb-true _ _ h) (scan-looked p k i m))
-      if-ruled Start = if-counted _ _ (record { outcome = refl; updates = refl })
-      if-ruled Complete =
-          if-required _ _ _ (λ a.
-          if-cond _ (λ _. if-refused _ _) (λ b.
-          let n : ¬ (entriesIn m ≡ tasks m) = told-no (recorded-told m) b in
-          let l : ¬ (tasks m < entriesIn m) = told-yes (entries-told m) a in
-          if-required _ _ _ (λ t.
-          if-required _ _ _ (λ w.
-          if-required _ _ _ (λ c.
-          if-required _ _ _ (λ g.
-          if-completed (record {
-            entries = omega (arith, l, n);
-            task = ranged (held m i) (ltb-true _ _ t) g;
-            light = leb-true _ _ w;
-            counter = told-yes (counter-told (counterIn m (ringNumber p i i))) c;
-          })))))))
-      if-ruled Release =
+      if-release : IfAccepted (Counted m (Releases f p k i m)) (releaseRule f p k i m)
+      unfolding releaseRule
+      if-release =
           if-required _ _ _ (λ a.
           let (r, w) = and-true (leb (rowIn m i .read) (rowIn m i .write)) _ a in
           if-cond _ (λ _. if-refused _ _) (λ b.
@@ -205,6 +190,30 @@ module _ (m : Mem) where
             advances = places-advance (succCount m (oldest m i)) (rowIn m i) (ltb-true _ _ c);
           }))))))))
 
+    -- a Release by document 01's form
+    module _ (sane : Chooses p (own p m)) where
+      -- a step's own rule
+      if-ruled : (s : Step) → IfAccepted (Counted m (Made s p k i m)) (ruleOf s p k i m)
+      unfolding ruleOf fetchRule startRule completeRule
+      if-ruled Fetch = if-required _ _ _ (λ h. if-fetched (scan p k i m) (ltb-true _ _ h) (scan-looked p k i m))
+      if-ruled Start = if-counted _ _ (record { outcome = refl; updates = refl })
+      if-ruled Complete =
+          if-required _ _ _ (λ a.
+          if-cond _ (λ _. if-refused _ _) (λ b.
+          let n : ¬ (entriesIn m ≡ tasks m) = told-no (recorded-told m) b in
+          let l : ¬ (tasks m < entriesIn m) = told-yes (entries-told m) a in
+          if-required _ _ _ (λ t.
+          if-required _ _ _ (λ w.
+          if-required _ _ _ (λ c.
+          if-required _ _ _ (λ g.
+          if-completed (record {
+            entries = omega (arith, l, n);
+            task = ranged (held m i) (ltb-true _ _ t) g;
+            light = leb-true _ _ w;
+            counter = told-yes (counter-told (counterIn m (ringNumber p i i))) c;
+          })))))))
+      if-ruled Release = if-release (own p m) sane
+
 -- where a step is accepted, it is allowed, with the updates after that of the accepted word
 record AllFound (limits : Limits) (p k i : ℕ) (s : Step) (m : Mem) (o : StepOutcome) (us : List Update) : Type 0 where
   others : List Update
@@ -222,7 +231,7 @@ if-stepped limits p k i s m =
   where
     go : Told (eqb (rowIn m i .phase) (suits s)) (rowIn m i .phase ≡ suits s) (¬ (rowIn m i .phase ≡ suits s)) → Fits limits p k m → i < p
         → IfAccepted (AllFound limits p k i s m) (suited (nextPhase (rowIn m i .phase) s) (rowIn m i .phase) (ruleOf s p k i m))
-    go (told-true q e) f w = rw q (record { holds = λ o us h. found o us (if-ruled m p k i (omega (arith, f .limits .oneWorker)) (f .lengths .list list.counters) s .holds o us h) })
+    go (told-true q e) f w = rw q (record { holds = λ o us h. found o us (if-ruled m p k i (own-chooses p m (omega (arith, f .limits .oneWorker)) (f .lengths .list list.counters)) s .holds o us h) })
       where
         found : (o : StepOutcome) (us : List Update) → Counted m (Made s p k i m) o us → AllFound limits p k i s m o us
         found o us c =

@@ -4,6 +4,7 @@
 use Prim.Native.Nat.{ℕ, suc, _+_, _-_, _*_, _%_, _≤_, _<_}
 use mathlib.Core.Path.{_≡_}
 use mathlib.Core.List.{List, [], _∷_}
+use lib.ListN.{length, getD}
 use lib.IntN.{pos, _+ℤ_, _-ℤ_}
 use Rattle.task.specs.Types.{nil}
 use Rattle.task.specs.Phases.{suits}
@@ -16,15 +17,17 @@ use Rattle.task.specs.declared.StepOutcome.{StepOutcome}
 use Rattle.task.specs.declared.StepOutcome.the-variants.{Moved, Fetched, Released}
 use Rattle.task.specs.declared.ReleaseOutcome.the-variants.{DegreeLeft, Placed}
 use Rattle.ring.specs.Ring.{slotAt, Empty, Full}
-use Rattle.choice.specs.Least.{load, Least}
+use Rattle.choice.specs.Least.{Least}
+use Rattle.choice.specs.Form.{Form}
 use Rattle.memory.specs.Family.{Places}
 use Rattle.memory.specs.Updates.{written}
+use Rattle.plans.specs.Forms.{own}
 pub use Rattle.plans.specs.Moves.{Ranged}
 use Rattle.rules.specs.Memory.{Mem, tasks, edges, ringNumber, endsIn, headWord, counterIn, weightIn, degreeIn, succCount, bufferAt, rowIn, held, pointerIn, entriesIn, acceptedIn, oldest, successor}
 use Rattle.rules.specs.Sizes.{Fits}
 use Rattle.rules.specs.Updates.{Update, putDegree, putSlot, putEnds, putCounter, putBuffer, putEntry, putEntries, putAccepted, putHand, putPointer, putPlaces}
 use Rattle.rules.specs.Steps.{step}
-use Rattle.rules.specs.Tables.{Beyond2^30, BadCounter, StopsAt, scanned, scannedEnds, offeredEnds, HasSuccessors, Ready}
+use Rattle.rules.specs.Tables.{Beyond2^30, StopsAt, scanned, scannedEnds, offeredEnds, HasSuccessors, Ready}
 
 -- "Fetch by i: scan the rings of owner i from the ring pointer upward, modulo P"
 pub record Fetches (p k i : ℕ) (m : Mem) (o : StepOutcome) (us : List Update) : Type 0 where
@@ -121,20 +124,22 @@ pub record ReleasesWaiting (i : ℕ) (m : Mem) (o : StepOutcome) (us : List Upda
   pub updates : us ≡ putDegree (successor m i) (degreeIn m (successor m i) - 1) ∷ putPlaces i to ∷ []
 
 -- "At zero, target j is the worker with the least sum of its P counters, ..; s is appended to the first ring filled by i that isn't
--- full, owners taken j, j+1, … modulo P."
-pub record ReleasesPlaced (p k i : ℕ) (m : Mem) (o : StepOutcome) (us : List Update) : Type 0 where
+-- full, owners taken j, j+1, … modulo P.": by form f, whose candidates, sums and owners these are
+pub record ReleasesPlaced (f : Form) (p k i : ℕ) (m : Mem) (o : StepOutcome) (us : List Update) : Type 0 where
   pub to : Places
   pub common : Releasing i m to
   pub ready : Ready m i
-  pub counters : ¬ (BadCounter (p * p) (m .counters))
+  pub undamaged : ¬ (f .Damaged)
   pub target : ℕ
-  pub least : Least (λ h. h < p) (load p (m .counters)) target
-  pub distance : ℕ
-  pub stop : StopsAt p k (Full k) (offeredEnds p i m target) distance
+  pub least : Least (f .Candidate) (f .sum) target
+  -- the owner at this place of those offered
+  pub place : ℕ
+  pub stop : StopsAt (length (f .offered target)) k (Full k) (offeredEnds p i m (f .offered target)) place
   pub owner : ℕ
-  pub ownerIs : owner ≡ (target + distance) % p
+  pub ownerIs : owner ≡ getD (f .offered target) place 0
   pub ring : ℕ
   pub ringIs : ring ≡ ringNumber p owner i
+  pub counter : ¬ (f .DamagedAt ring)
   pub light : weightIn m (successor m i) ≤ 65535
   -- ".. or the task with its new owner"
   pub outcome : o ≡ Released (Placed (record { 0 = successor m i }) (record { 0 = owner }))
@@ -147,16 +152,16 @@ pub record ReleasesPlaced (p k i : ℕ) (m : Mem) (o : StepOutcome) (us : List U
       ∷ putCounter ring (counterIn m ring +ℤ pos (weightIn m (successor m i)))
       ∷ []
 
-pub data Releases (p k i : ℕ) (m : Mem) (o : StepOutcome) (us : List Update) : Type 0 where
-  waiting : ReleasesWaiting i m o us → Releases p k i m o us
-  placed : ReleasesPlaced p k i m o us → Releases p k i m o us
+pub data Releases (f : Form) (p k i : ℕ) (m : Mem) (o : StepOutcome) (us : List Update) : Type 0 where
+  waiting : ReleasesWaiting i m o us → Releases f p k i m o us
+  placed : ReleasesPlaced f p k i m o us → Releases f p k i m o us
 
 -- the step's own rule lets it be made, with this outcome and these updates
 abbrev pub Made : Step → ℕ → ℕ → ℕ → Mem → StepOutcome → List Update → Type 0
 Made Fetch p k i m o us = Fetches p k i m o us
 Made Start p k i m o us = Starts i m o us
 Made Complete p k i m o us = Completes p i m o us
-Made Release p k i m o us = Releases p k i m o us
+Made Release p k i m o us = Releases (own p m) p k i m o us
 
 -- when a step is accepted with this outcome and these updates: numbers and lists fit, the worker is there, the phase suits, the accepted
 -- word is in its range, and the step's own rule lets it be made

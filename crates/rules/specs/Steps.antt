@@ -5,8 +5,7 @@ use mathlib.Core.Bool.{cond}
 use mathlib.Core.List.{List, [], _∷_}
 use lib.Dec.{eqb}
 use lib.IntN.{pos, _-ℤ_}
-use Rattle.lists.specs.Lists.{allOf}
-use Rattle.lists.specs.Circles.{after, around}
+use Rattle.lists.specs.Circles.{after}
 use Rattle.task.specs.Types.{nil}
 use Rattle.task.specs.Phases.{leadsTo}
 use Rattle.task.specs.Refusals.{damaged, nothingThere, ringsFull, recordFull}
@@ -18,14 +17,15 @@ use Rattle.task.specs.declared.StepAnswer.{StepAnswer}
 use Rattle.task.specs.declared.StepOutcome.the-variants.{Moved, Fetched, Released}
 use Rattle.task.specs.declared.ReleaseOutcome.the-variants.{DegreeLeft, Placed}
 use Rattle.ring.specs.Ring.{headOn}
-use Rattle.choice.specs.Least.{load, least}
+use Rattle.choice.specs.Form.{Form}
 use Rattle.choice.specs.Search.{Found, unsound, none, at}
 use Rattle.memory.specs.Family.{Places}
 use Rattle.plans.specs.Headed.{headed}
 use Rattle.plans.specs.Laying.{joinRing}
 unfoldable pub use Rattle.plans.specs.Searches.{scan, findRoom}
+use Rattle.plans.specs.Forms.{targetBy, own}
 use Rattle.rules.specs.Memory.{Mem, allEntries, ringNumber, endsIn, headWord, counterIn, weightIn, degreeIn, succCount, bufferAt, rowIn, held, pointerIn, entriesIn, oldest, successor}
-use Rattle.rules.specs.Words.{taskFits, pointerFits, counterFits, countersFit, degreeFits, placesFit, joinFits, cursorFits, rangeFits, weightFits, entriesFit}
+use Rattle.rules.specs.Words.{taskFits, pointerFits, counterFits, degreeFits, placesFit, joinFits, cursorFits, rangeFits, weightFits, entriesFit}
 use Rattle.rules.specs.Updates.{Update, putDegree, putEnds, putCounter, putBuffer, putEntry, putEntries, putHand, putPointer, putPlaces}
 use Rattle.rules.specs.Plans.{Plan, refuse, refuseIf, checked, counted, Result, carriedOut}
 
@@ -102,19 +102,21 @@ advance i m = putPlaces i (advanced (succCount m (oldest m i)) (rowIn m i))
 abbrev pub join : ℕ → ℕ → ℕ → ℕ → ℕ → Mem → List Update
 join p k o i s m = joinRing p k o i s s m
 
--- 11: "Release: degree would be 0 and all P rings filled by this worker are full"; its detail is "the successor"
-unfoldable pub releaseTo : ℕ → ℕ → ℕ → Mem → Found → Plan
-releaseTo p k i m unsound = refuse damaged 0
-releaseTo p k i m none = refuse ringsFull (successor m i)
-releaseTo p k i m (at o) =
-    checked (weightFits m (successor m i))
+-- 11: "Release: degree would be 0 and all P rings filled by this worker are full"; its detail is "the successor". Else the weight joins the counter of
+-- the ring found, which is read here by a form of Release that didn't read it for the target
+unfoldable pub releaseTo : Form → ℕ → ℕ → ℕ → Mem → Found → Plan
+releaseTo f p k i m unsound = refuse damaged 0
+releaseTo f p k i m none = refuse ringsFull (successor m i)
+releaseTo f p k i m (at o) =
+    checked (f .fitsAt (ringNumber p o i))
+    (checked (weightFits m (successor m i))
     (counted m (Released (Placed (record { 0 = successor m i }) (record { 0 = o })))
-    (putDegree (successor m i) 0 ∷ advance i m ∷ join p k o i (successor m i) m))
+    (putDegree (successor m i) 0 ∷ advance i m ∷ join p k o i (successor m i) m)))
 
 -- "At zero, target j is the worker with the least sum of its P counters", all of which are read; "s is appended to the first ring
--- filled by i that isn't full, owners taken j, j+1, … modulo P"
-unfoldable pub releaseReady : ℕ → ℕ → ℕ → Mem → Plan
-releaseReady p k i m = checked (countersFit (m .counters)) (releaseTo p k i m (findRoom p k i m (around p (least (allOf p) (load p (m .counters))))))
+-- filled by i that isn't full, owners taken j, j+1, … modulo P": the candidates, the sums and the owners offered are the form's
+unfoldable pub releaseReady : Form → ℕ → ℕ → ℕ → Mem → Plan
+releaseReady f p k i m = checked (f .fits) (releaseTo f p k i m (findRoom p k i m (f .offered (targetBy f))))
 
 -- above zero, nothing more is read
 unfoldable pub releaseWaiting : ℕ → Mem → Plan
@@ -123,8 +125,8 @@ releaseWaiting i m =
     (putDegree (successor m i) (degreeIn m (successor m i) - 1) ∷ advance i m ∷ [])
 
 -- 10: "Release: buffer empty"; else "the oldest task in i's buffer, its successor s at the cursor. The degree of s falls by one."
-unfoldable pub releaseRule : ℕ → ℕ → ℕ → Mem → Plan
-releaseRule p k i m =
+unfoldable pub releaseRule : Form → ℕ → ℕ → ℕ → Mem → Plan
+releaseRule f p k i m =
     checked (placesFit m (rowIn m i .read) (rowIn m i .write))
     (refuseIf (eqb (rowIn m i .read) (rowIn m i .write)) nothingThere 0
     (checked (taskFits m (oldest m i))
@@ -132,13 +134,13 @@ releaseRule p k i m =
     (checked (cursorFits m (oldest m i) (rowIn m i .cursor))
     (checked (taskFits m (successor m i))
     (checked (degreeFits m (degreeIn m (successor m i)))
-    (cond (eqb (degreeIn m (successor m i)) 1) (releaseReady p k i m) (releaseWaiting i m))))))))
+    (cond (eqb (degreeIn m (successor m i)) 1) (releaseReady f p k i m) (releaseWaiting i m))))))))
 
 unfoldable pub ruleOf : Step → ℕ → ℕ → ℕ → Mem → Plan
 ruleOf Fetch p k i m = fetchRule p k i m
 ruleOf Start p k i m = startRule i m
 ruleOf Complete p k i m = completeRule p i m
-ruleOf Release p k i m = releaseRule p k i m
+ruleOf Release p k i m = releaseRule (own p m) p k i m
 
 -- "In a step: 2, 1, 7, phase word (8), 9; then the step's rule is followed from its first sentence"
 unfoldable pub stepPlan : Limits → ℕ → ℕ → ℕ → Step → Mem → Plan

@@ -5,14 +5,17 @@ use Prim.Native.Nat.{ℕ, _+_, _*_, _≤_, _<_}
 use mathlib.Core.Path.{_≡_}
 use mathlib.Core.Logic.{_⊎_}
 use mathlib.Core.List.{List, [], _∷_}
+use lib.ListN.{length, getD}
 use Rattle.task.specs.Refusals.{damaged, nothingThere, ringsFull, recordFull}
 use Rattle.task.specs.Rows.{Refusal, row, only}
 use Rattle.task.specs.declared.Limits.{Limits}
 use Rattle.task.specs.declared.Step.{Step}
 use Rattle.task.specs.declared.Step.the-variants.{Fetch, Start, Complete, Release}
 use Rattle.ring.specs.Ring.{Sound, Empty, Full}
-use Rattle.choice.specs.Least.{load, Least}
+use Rattle.choice.specs.Least.{Least}
+use Rattle.choice.specs.Form.{Form}
 use Rattle.plans.specs.Tables.{headedRows}
+use Rattle.plans.specs.Forms.{own}
 pub use Rattle.plans.specs.Tables.{BeyondPK, rootCount, beginRows, Beyond2^30, BadCounter, BadPlaces, BadRange, GoesOn, BadEnds, StopsAt, scanned, scannedEnds, offeredEnds}
 use Rattle.rules.specs.Memory.{Mem, tasks, edges, ringNumber, endsIn, headWord, counterIn, weightIn, degreeIn, succCount, rowIn, held, pointerIn, entriesIn, acceptedIn, oldest, successor}
 
@@ -73,8 +76,13 @@ completeRows p i m =
 abbrev pub Ready : Mem → ℕ → Type 0
 Ready m i = _≡_ {A = ℕ} (degreeIn m (successor m i)) 1
 
-abbrev pub releaseRows : ℕ → ℕ → ℕ → Mem → List Refusal
-releaseRows p k i m =
+-- e is the place of the owner, of those offered from target j on, whose ring is "the first ring filled by i that isn't full"
+abbrev pub RoomAt : Form → ℕ → ℕ → ℕ → Mem → ℕ → ℕ → Type 0
+RoomAt f p k i m j e = Least (f .Candidate) (f .sum) j × StopsAt (length (f .offered j)) k (Full k) (offeredEnds p i m (f .offered j)) e
+
+-- of a Release by form f
+abbrev pub releaseRows : Form → ℕ → ℕ → ℕ → Mem → List Refusal
+releaseRows f p k i m =
     -- 8: the buffer places
     row damaged (only 0 (BadPlaces m i))
     -- 10: "Release: buffer empty"
@@ -89,13 +97,15 @@ releaseRows p k i m =
     ∷ row damaged (only 0 (tasks m ≤ successor m i))
     -- 8: "degree to be lowered outside 1..N"
     ∷ row damaged (only 0 ((degreeIn m (successor m i) < 1) ⊎ (tasks m < degreeIn m (successor m i))))
-    -- 8: "counter beyond ±2^30", of all P·P, since the target is sought
-    ∷ row damaged (only 0 (Ready m i × BadCounter (p * p) (m .counters)))
+    -- 8: a word that is read for the target, since one is sought: of document 01's form "counter beyond ±2^30", of all P·P
+    ∷ row damaged (only 0 (Ready m i × f .Damaged))
     -- 8: damaged ends, the rings before it, from the target's on, being full
-    ∷ row damaged (only 0 (Ready m i × ((j : ℕ) × Least (λ h. h < p) (load p (m .counters)) j × BadEnds p k (Full k) (offeredEnds p i m j))))
+    ∷ row damaged (only 0 (Ready m i × ((j : ℕ) × Least (f .Candidate) (f .sum) j × BadEnds (length (f .offered j)) k (Full k) (offeredEnds p i m (f .offered j)))))
     -- 11: "Release: degree would be 0 and all P rings filled by this worker are full", "the successor"; "11 comes after the words
     -- that it reads"
-    ∷ row ringsFull (only (successor m i) (Ready m i × ((o : ℕ) → o < p → Sound k (endsIn m (ringNumber p o i)) × Full k (endsIn m (ringNumber p o i)))))
+    ∷ row ringsFull (only (successor m i) (Ready m i × ((o : ℕ) → f .Candidate o → Sound k (endsIn m (ringNumber p o i)) × Full k (endsIn m (ringNumber p o i)))))
+    -- 8: the counter of the ring really used, where it is read here (of document 01's form never: it was read for the target)
+    ∷ row damaged (only 0 (Ready m i × ((j : ℕ) × (e : ℕ) × RoomAt f p k i m j e × f .DamagedAt (ringNumber p (getD (f .offered j) e 0) i))))
     -- 8: "weight over 65,535", of the successor that is placed
     ∷ row damaged (only 0 (Ready m i × (65535 < weightIn m (successor m i))))
     -- 8: the accepted word, last
@@ -106,7 +116,7 @@ abbrev pub ownRows : Step → ℕ → ℕ → ℕ → Mem → List Refusal
 ownRows Fetch p k i m = fetchRows p k i m
 ownRows Start p k i m = startRows m
 ownRows Complete p k i m = completeRows p i m
-ownRows Release p k i m = releaseRows p k i m
+ownRows Release p k i m = releaseRows (own p m) p k i m
 
 abbrev pub stepRows : Limits → ℕ → ℕ → ℕ → Step → Mem → List Refusal
 stepRows limits p k i s m = headedRows limits p k i s m (ownRows s p k i m)

@@ -33,6 +33,7 @@ use Rattle.rules.specs.Updates.{Update}
 use Rattle.rules.specs.Plans.{Result, resultOf}
 use Rattle.rules.specs.Steps.{step}
 use Rattle.rules.specs.Begin.{begin}
+use Rattle.plans.specs.Forms.{own}
 use Rattle.rules.specs.Moves.{ReleasesPlaced}
 use Rattle.plans.proofs.Headers.{kept, not-beyond}
 use Rattle.rules.proofs.Limits.{beyond-2}
@@ -183,7 +184,7 @@ never-full r limits p k i d = undamaged .next r limits p k i Complete .notFull d
 
 -- "target j is the worker with the least sum of its P counters": in a run that is the least weight waiting and in hand, so a lane with a long tile isn't
 -- taken for an empty one. Of every Release that places its successor.
-pub lightest : (r : Run) (i : ℕ) (o : StepOutcome) (us : List Update) (f : ReleasesPlaced (r .workers) (r .slots) i (memoryOf r) o us)
+pub lightest : (r : Run) (i : ℕ) (o : StepOutcome) (us : List Update) (f : ReleasesPlaced (own (r .workers) (memoryOf r)) (r .workers) (r .slots) i (memoryOf r) o us)
     → Least (λ h. h < r .workers)
     (λ h. pos (sumOf (weightIn (r .lent)) (joined (r .workers) (queueIn (r .workers) (r .slots) (memoryOf r) h) ++ inHandOf (memoryOf r) h)))
     (f .target)

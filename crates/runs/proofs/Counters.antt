@@ -5,6 +5,7 @@ use mathlib.Core.Path.{_≡_, refl, sym, ap, subst, _∙_}
 use mathlib.Core.List.{List}
 use native.Mathlib.Omega.{arith}
 use native.Mathlib.Decide.{ℕ-discrete}
+use lib.IntN.{ℤ}
 use lib.ListN.{getD}
 use lib.IntN.{pos}
 use Rattle.lists.specs.Sums.{sumOf}
@@ -63,7 +64,7 @@ module _ {p i : ℕ} {s s′ : State} {o : StepOutcome} (worker : i < p) (shaped
       (ap (λ (h : Hand ℕ). sumOf (weightOf s) (inHand h)) (passes-goes (f .pass) .hand)) (rw (f .after)) (rw (f .after)) (rw (f .after))
 
   -- the task joins a list, and its weight the counter
-  allocate-changes : {capacity : ℕ} → Allocates p capacity i s s′ o → Changes (nil .0) (weightOf s) p s s′
+  allocate-changes : {C : ℕ → Type 0} {W : ℕ → ℤ} {capacity : ℕ} → Allocates C W p capacity i s s′ o → Changes (nil .0) (weightOf s) p s s′
   allocate-changes f =
       joined-changes (weightOf s) shaped (allocate-acts worker shaped f) (f .owner) i (first-lt (f .room)) worker (f .task) (passes-goes (f .pass) .hand)
       (rw (f .after)) (rw (f .after)) (rw (f .after))

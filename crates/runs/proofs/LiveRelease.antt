@@ -10,7 +10,7 @@ use native.Mathlib.Nat.{add-zero}
 use lib.IntN.{ℤ, pos}
 use lib.ListN.{length, getD, length-append, length-drop, List·getD-eq-default, List·getD-append}
 use lib.Seq.{drop-nil, getD-drop}
-use Rattle.lists.specs.Lists.{tabulate, allOf}
+use Rattle.lists.specs.Lists.{tabulate}
 use Rattle.lists.proofs.Apart.{cons-not-nil}
 use Rattle.lists.proofs.Appends.{head-same}
 use Rattle.lists.proofs.Blocks.{length-tabulate}
@@ -24,8 +24,11 @@ use Rattle.task.specs.declared.Row.{Row}
 use Rattle.task.specs.declared.Step.the-variants.{Release}
 use Rattle.task.specs.declared.StepOutcome.{StepOutcome}
 use Rattle.ring.specs.Ring.{Full}
-use Rattle.choice.specs.Least.{load, least}
-use Rattle.choice.proofs.Least.{least-worker}
+use Rattle.choice.specs.Least.{Least}
+use Rattle.choice.specs.Form.{Form}
+use Rattle.choice.proofs.Form.{Chooses, target-is}
+use Rattle.plans.specs.Forms.{targetBy, own}
+use Rattle.plans.proofs.Forms.{own-chooses}
 use Rattle.memory.specs.Family.{Family, Places}
 use Rattle.memory.specs.Memory as memory
 use Rattle.memory.specs.Field as list
@@ -201,14 +204,67 @@ module _ {limits : Limits} {p k : ℕ} {m : Mem} (h : Honest limits p k m) (i : 
       x-is : x ≡ successor m i
       x-is = due .there ∙ ap (λ (l : List ℕ). getD l (rowIn m i .cursor) 0) successors-are ∙ successor-at m (oldest m i) (rowIn m i .cursor) cursor
 
-  -- no search for room comes to damaged ends
-  pub room-sound : (j : ℕ) → ¬ (BadEnds p k (Full k) (offeredEnds p i m j))
-  room-sound = rings.room-sound (h .fits) (h .words .ends) i worker
+  -- A Release by form f.
+  module _ (f : Form) (chooses : Chooses p f) where
+    -- the owners offered are workers
+    offered-workers : (j : ℕ) → f .Candidate j → (e : ℕ) → e < length (f .offered j) → getD (f .offered j) e 0 < p
+    offered-workers j c e l = chooses .below (getD (f .offered j) e 0) (chooses .offers j c .taken e l .candidate)
 
-  -- where nothing waits, the search stops at its first ring
-  room-first : ((o : ℕ) → o < p → waitingFor p (stateOf p k m) o ≡ []) → (j : ℕ) → StopsAt p k (Full k) (offeredEnds p i m j) 0
-  unfolding stateOf
-  room-first = rings.room-first (h .fits) (h .words .ends) i worker (recordIn m)
+    -- no search for room comes to damaged ends
+    pub room-sound : (j : ℕ) → f .Candidate j → ¬ (BadEnds (length (f .offered j)) k (Full k) (offeredEnds p i m (f .offered j)))
+    room-sound j c = rings.room-sound (h .fits) (h .words .ends) i worker (f .offered j) (offered-workers j c)
+
+    -- where nothing waits, the search stops at its first ring
+    room-first : ((o : ℕ) → o < p → waitingFor p (stateOf p k m) o ≡ []) → (j : ℕ) → f .Candidate j
+        → StopsAt (length (f .offered j)) k (Full k) (offeredEnds p i m (f .offered j)) 0
+    unfolding stateOf
+    room-first nothing j c =
+        let (e, l, _) = chooses .offers j c .every j c in
+        rings.room-first (h .fits) (h .words .ends) i worker (recordIn m) nothing (f .offered j) (offered-workers j c) (omega (arith, l))
+
+    -- so a Release finds what it asks for, where the words that its form reads are good
+    pub release-made : (to : Places) → Releasing i m to → ¬ (f .Damaged) → ((o : ℕ) → f .Candidate o → ¬ (f .DamagedAt (ringNumber p o i)))
+        → ((o : ℕ) → o < p → waitingFor p (stateOf p k m) o ≡ []) → (o : StepOutcome) × (us : List Update) × Releases f p k i m o us
+    release-made to common good used none = go (ℕ-discrete (degreeIn m (successor m i)) 1)
+      where
+        j : ℕ
+        j = targetBy f
+
+        least-j : Least (f .Candidate) (f .sum) j
+        least-j = target-is chooses good .0
+
+        first : f .Candidate (getD (f .offered j) 0 0)
+        first =
+            let stop = room-first none j (least-j .candidate) in
+            chooses .offers j (least-j .candidate) .taken 0 (stop .inside) .candidate
+
+        go : Dec (degreeIn m (successor m i) ≡ 1) → (o : StepOutcome) × (us : List Update) × Releases f p k i m o us
+        go (yes e) = (
+          _,
+          _,
+          placed (record {
+            to = to;
+            common = common;
+            ready = e;
+            undamaged = good;
+            target = j;
+            least = least-j;
+            place = 0;
+            stop = room-first none j (least-j .candidate);
+            owner = getD (f .offered j) 0 0;
+            ownerIs = refl;
+            ring = ringNumber p (getD (f .offered j) 0 0) i;
+            ringIs = refl;
+            counter = used (getD (f .offered j) 0 0) first;
+            light = h .graph .light (successor m i) (common .below);
+            outcome = refl;
+            updates = refl;
+          }),
+        )
+        go (no n) = (_, _, waiting (record { to = to; common = common; notReady = n; outcome = refl; updates = refl }))
+
+  pub chooses-own : Chooses p (own p m)
+  chooses-own = own-chooses p m (h .fits .limits .oneWorker) (h .fits .lengths .list list.counters)
 
   -- the run isn't finished
   module _ (low : acceptedIn m < 3 * tasks m + edges m) where
@@ -218,32 +274,6 @@ module _ {limits : Limits} {p k : ℕ} {m : Mem} (h : Honest limits p k m) (i : 
         → Acceptance (stepSays (step limits p k i Release m .answer))
     release-live x rest hand pending below positive few none =
         let (to, common) = releasing x rest pending below positive few in
-        go to common (ℕ-discrete (degreeIn m (successor m i)) 1)
-      where
-        accepts : (o : StepOutcome) (us : List Update) → Releases p k i m o us → Acceptance (stepSays (step limits p k i Release m .answer))
-        accepts o us r =
-            allowed-accepted limits p k i Release m o us
-            (record { fits = h .fits; worker = worker; phase = row-phase h i worker idle hand; low = low; made = r })
-
-        go : (to : Places) → Releasing i m to → Dec (degreeIn m (successor m i) ≡ 1) → Acceptance (stepSays (step limits p k i Release m .answer))
-        go to common (yes e) =
-            let j = least (allOf p) (load p (m .counters)) in
-            accepts _ _
-            (placed (record {
-              to = to;
-              common = common;
-              ready = e;
-              counters = counters-good;
-              target = j;
-              least = least-worker p (load p (m .counters)) (h .fits .limits .oneWorker) .0;
-              distance = 0;
-              stop = room-first none j;
-              owner = (j + 0) % p;
-              ownerIs = refl;
-              ring = ringNumber p ((j + 0) % p) i;
-              ringIs = refl;
-              light = h .graph .light (successor m i) (common .below);
-              outcome = refl;
-              updates = refl;
-            }))
-        go to common (no n) = accepts _ _ (waiting (record { to = to; common = common; notReady = n; outcome = refl; updates = refl }))
+        let (o, us, r) = release-made (own p m) chooses-own to common counters-good (λ _ _ b. b) none in
+        allowed-accepted limits p k i Release m o us
+        (record { fits = h .fits; worker = worker; phase = row-phase h i worker idle hand; low = low; made = r })

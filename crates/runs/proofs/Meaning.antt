@@ -6,6 +6,7 @@ use mathlib.Core.Bool.{Bool, cond}
 use mathlib.Core.List.{List, [], _∷_, _++_, append-nil, append-assoc}
 use native.Mathlib.Omega.{arith}
 use native.Mathlib.Decide.{ℕ-discrete}
+use lib.IntN.{ℤ}
 use lib.ListN.{length, getD, set, drop, length-append, drop-of-length-le}
 use lib.Seq.{drop-cons, drop-append-le, getD-set-same, getD-set-other}
 use Rattle.lists.specs.Lists.{occ}
@@ -283,5 +284,5 @@ module _ {p i : ℕ} {s s′ : State} (worker : i < p) (shaped : Shaped p s) whe
   pub lower-acts : {o : StepOutcome} (f : Lowers i s s′ o) → Acts (nil .0) p i s s′ (f .next)
   lower-acts f = acts worker shaped (rw (f .after)) (rw (f .after))
 
-  pub allocate-acts : {o : StepOutcome} {capacity : ℕ} (f : Allocates p capacity i s s′ o) → Acts (nil .0) p i s s′ (f .next)
+  pub allocate-acts : {o : StepOutcome} {C : ℕ → Type 0} {W : ℕ → ℤ} {capacity : ℕ} (f : Allocates C W p capacity i s s′ o) → Acts (nil .0) p i s s′ (f .next)
   allocate-acts f = acts worker shaped (rw (f .after)) (rw (f .after))

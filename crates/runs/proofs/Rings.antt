@@ -4,7 +4,7 @@ use mathlib.Core.Path.{_≡_, refl, sym, ap, _∙_}
 use mathlib.Core.List.{List, []}
 use native.Mathlib.Omega.{arith}
 use native.Mathlib.Nat.{mod-lt}
-use lib.ListN.{length}
+use lib.ListN.{length, getD}
 use Rattle.lists.specs.Lists.{occOf}
 use Rattle.lists.proofs.Circles.{mod-reached}
 use Rattle.lists.proofs.Occurrences.{occ-hit}
@@ -43,9 +43,10 @@ module _ {F : Family} {limits : Limits} {p k : ℕ} {m : Mem F} (fits : Fits lim
   pub scan-sound : ¬ (BadEnds p k Empty (scannedEnds p i m))
   scan-sound (e, inside, on, bad) = bad (owned-sound ((pointerIn m i + e) % p) (near (pointerIn m i + e)))
 
-  -- nor does a search for room
-  pub room-sound : (j : ℕ) → ¬ (BadEnds p k (Full k) (offeredEnds p i m j))
-  room-sound j (e, inside, on, bad) = bad (filled-sound ((j + e) % p) (near (j + e)))
+  -- nor does a search for room, along any owners
+  module _ (owners : List ℕ) (workers : (e : ℕ) → e < length owners → getD owners e 0 < p) where
+    pub room-sound : ¬ (BadEnds (length owners) k (Full k) (offeredEnds p i m owners))
+    room-sound (e, inside, on, bad) = bad (filled-sound (getD owners e 0) (workers e inside))
 
   -- the state that the memory is read as, with these entries of its record
   module _ (entries : List (Entry (F .Item))) where
@@ -99,12 +100,13 @@ module _ {F : Family} {limits : Limits} {p k : ℕ} {m : Mem F} (fits : Fits lim
               ∙ ap length (sym (queue-at p k m entries o i owner worker) ∙ waiting-none p state o nothing i worker),
         )
 
-    -- so where nothing waits, the search stops at its first ring
-    pub room-first : ((o : ℕ) → o < p → waitingFor p state o ≡ []) → (j : ℕ) → StopsAt p k (Full k) (offeredEnds p i m j) 0
-    room-first nothing j =
+    -- so where nothing waits, the search stops at its first ring, of any owners
+    pub room-first : ((o : ℕ) → o < p → waitingFor p state o ≡ []) → (owners : List ℕ) → ((e : ℕ) → e < length owners → getD owners e 0 < p)
+        → 0 < length owners → StopsAt (length owners) k (Full k) (offeredEnds p i m owners) 0
+    room-first nothing owners workers some =
         record {
-          inside = fits .limits .oneWorker;
+          inside = some;
           goesOn = λ d l. absurd (omega (arith, l));
-          sound = filled-sound ((j + 0) % p) (near (j + 0));
-          stops = empty-room ((j + 0) % p) (near (j + 0)) (nothing ((j + 0) % p) (near (j + 0)));
+          sound = filled-sound (getD owners 0 0) (workers 0 some);
+          stops = empty-room (getD owners 0 0) (workers 0 some) (nothing (getD owners 0 0) (workers 0 some));
         }

@@ -5,6 +5,7 @@ use mathlib.Core.List.{List, [], _∷_, _++_}
 use native.Mathlib.Omega.{arith}
 use native.Mathlib.Nat.{mod-lt}
 use native.Mathlib.Decide.{ℕ-discrete}
+use lib.IntN.{ℤ}
 use lib.ListN.{length, set, length-set}
 use lib.Seq.{getD-set-same, getD-set-other}
 use Rattle.lists.specs.Decided.{tally}
@@ -190,7 +191,7 @@ module _ (g : Graph) (p i : ℕ) (worker : i < p) (s s′ : State) (sane : Sane 
         tt,
       )
 
-      allocate-steps : (capacity : ℕ) → Allocates p capacity i s s′ o → Steps
+      allocate-steps : {C : ℕ → Type 0} {W : ℕ → ℤ} (capacity : ℕ) → Allocates C W p capacity i s s′ o → Steps
       unfolding meaning
       allocate-steps capacity f = (
         system.place i (f .owner) (f .task)
@@ -242,7 +243,7 @@ module _ (g : Graph) (p i : ℕ) (worker : i < p) (s s′ : State) (sane : Sane 
         released-sane (lower-acts worker (sane .shaped) f) (f .pass) (rw (f .after) (length-set (s .degrees) (f .task) (degreeOf s (f .task) - 1)))
         (rw (f .after) (sane .shaped .queues)) (rw (f .after) (sane .shaped .counters))
 
-    allocate-sane : (capacity : ℕ) → Allocates p capacity i s s′ o → Sane g p s′
+    allocate-sane : {C : ℕ → Type 0} {W : ℕ → ℤ} (capacity : ℕ) → Allocates C W p capacity i s s′ o → Sane g p s′
     allocate-sane capacity f =
         released-sane (allocate-acts worker (sane .shaped) f) (f .pass) (rw (f .after) (length-set (s .degrees) (f .task) (degreeOf s (f .task) - 1)))
         (rw (f .after) (even-with (sane .shaped .queues) (f .owner) i (queueOf s (f .owner) i ++ (f .task ∷ []))))

@@ -17,6 +17,7 @@ use Rattle.task.specs.declared.Step.{Step}
 use Rattle.task.specs.declared.Step.the-variants.{Fetch, Start, Complete, Release}
 use Rattle.graph.proofs.Refusals.{judge-follows}
 use Rattle.machine.specs.Jobs as jobs
+use Rattle.plans.specs.Forms.{own}
 use Rattle.machine.specs.Machine as machine
 use Rattle.machine.proofs.Lists.{memory-on}
 use Rattle.rules.specs.Memory.{Mem, tasks, edges, ringNumber, counterIn, degreeIn, rowIn, held, entriesIn, acceptedIn, successor}
@@ -38,7 +39,7 @@ use Rattle.runs.proofs.Hands.{hand-running, hand-holds}
 use Rattle.runs.proofs.Honest.{Honest, honest-run}
 use Rattle.runs.proofs.Weights.{honest-within}
 use Rattle.runs.proofs.Live.{within-range, row-held, row-pointer, joined-recorded, task-ranged, next-waits, scan-sound}
-use Rattle.runs.proofs.LiveRelease.{counters-good, few-places, places-good, pending-none, releasing, room-sound}
+use Rattle.runs.proofs.LiveRelease.{counters-good, few-places, places-good, pending-none, releasing, room-sound, chooses-own}
 use Rattle.runs.proofs.Demand.{running-task, waiting-task, pending-task, holding-open, low, unfinished-free, held-task}
 use Rattle.runs.proofs.Afterwards.{rests, scan-none}
 
@@ -150,7 +151,7 @@ module _ (r : Run) where
             let (below, positive, few) = pending-task r i x rest worker e in
             releasing h i worker x rest e below positive few
 
-    release-harmless : Harmless (releaseRows p k i now)
+    release-harmless : Harmless (releaseRows (own p now) p k i now)
     release-harmless =
         failing-row (λ d c. places-good h i worker (c .1))
         (ordinary-row (omega arith) (λ some.
@@ -161,10 +162,11 @@ module _ (r : Run) where
         (failing-row (λ d c. omega (arith, c .1, found .below))
         (failing-row (λ d c. released-good found (c .1))
         (failing-row (λ d c. counters-good h i worker (c .1 .1))
-        (failing-row (λ d c. room-sound h i worker (c .1 .1 .0) (c .1 .1 .2))
+        (failing-row (λ d c. room-sound h i worker (own p now) (chooses-own h i worker) (c .1 .1 .0) (c .1 .1 .1 .candidate) (c .1 .1 .2))
         (ordinary-row (omega arith) (λ _.
-        failing-row (λ d c. omega (arith, c .1 .1, h .graph .light (successor now i) (found .below)))
-        (failing-row (λ d c. omega (arith, c .1, open-low (λ f. some 0 (refl, rests r f .buffers i worker)))) harmless-end)))))))))))
+        failing-row (λ d c. c .1 .1 .3)
+        (failing-row (λ d c. omega (arith, c .1 .1, h .graph .light (successor now i) (found .below)))
+        (failing-row (λ d c. omega (arith, c .1, open-low (λ f. some 0 (refl, rests r f .buffers i worker)))) harmless-end))))))))))))
 
     own-harmless : (s : Step) → rowIn now i .phase ≡ suits s → Harmless (ownRows s p k i now)
     own-harmless Fetch e = fetch-harmless

@@ -4,13 +4,14 @@ use mathlib.Core.Path.{_≡_, _∙_}
 use mathlib.Core.List.{List, [], _∷_, _++_}
 use native.Mathlib.Omega.{arith}
 use native.Mathlib.Decide.{decLt}
-use lib.ListN.{length}
+use lib.ListN.{length, getD}
 use Rattle.lists.specs.Squares.{square, withCell}
 use Rattle.lists.proofs.Decided.{stable}
 use Rattle.lists.proofs.Places.{place-end, place-lt}
 use Rattle.task.specs.Entries.{Entry}
 use Rattle.ring.specs.Ring.{capacity, slotAt, Sound, Empty, Full, Rings, ringsOf, queue, takenAt, appendedAt}
 use Rattle.ring.proofs.Queues.{queue-empty, queue-full, queue-most, queue-take, queue-take-other, queue-append, queue-append-other}
+use Rattle.choice.specs.Form.{Offered}
 use Rattle.memory.specs.Family.{Family}
 use Rattle.memory.specs.Field as list
 use Rattle.memory.specs.Memory.{Mem}
@@ -21,7 +22,7 @@ use Rattle.split_lists.specs.Items.{queueOf}
 use Rattle.split_lists.specs.Moves.{First}
 use Rattle.split_lists.specs.Reading.{queueIn, stateFrom}
 use Rattle.split_lists.proofs.Readings.{queue-at}
-use Rattle.split_lists.proofs.Memories.{rings-put, ends-room, stops-first}
+use Rattle.split_lists.proofs.Memories.{rings-put, ends-room, stops-first, stops-offered}
 
 module _ {F : Family} (p k i : ℕ) (m : Mem F) (entries : List (Entry (F .Item))) (worker : i < p) where
   -- "the scan stops at the first ring that isn't empty"
@@ -87,8 +88,9 @@ module _ {F : Family} (p k i : ℕ) (m : Mem F) (entries : List (Entry (F .Item)
           )
 
   -- "If Q_i^j is full", another thread's list "in a round robin fashion"
-  pub first-room : (j distance : ℕ) → StopsAt p k (Full k) (offeredEnds p i m j) distance
-      → First p (λ h. length (queueOf (stateFrom p k m entries) h i) < capacity k) j ((j + distance) % p)
-  first-room =
-      stops-first p k (Full k) (λ h. length (queueOf (stateFrom p k m entries) h i) < capacity k) (λ h. endsIn m (ringNumber p h i))
-      (λ h l sound. (no-room h l sound, has-room h l sound))
+  pub first-room : (Candidate : ℕ → Type 0) → ((h : ℕ) → Candidate h → h < p)
+      → (j : ℕ) (owners : List ℕ) → Offered p Candidate j owners → (e : ℕ) → StopsAt (length owners) k (Full k) (offeredEnds p i m owners) e
+      → First p (λ h. Candidate h × (length (queueOf (stateFrom p k m entries) h i) < capacity k)) j (getD owners e 0)
+  first-room Candidate below =
+      stops-offered p k (Full k) Candidate (λ h. length (queueOf (stateFrom p k m entries) h i) < capacity k) (λ h. endsIn m (ringNumber p h i))
+      (λ h c sound. (no-room h (below h c) sound, has-room h (below h c) sound))

@@ -1,6 +1,6 @@
 -- What the steps have in common: what is read of the memory before and of the one after, and where a search of the rings stops.
 use Prim.Native.Nat.{ℕ, suc, _+_, _-_, _*_, _%_, _≤_, _<_}
-use mathlib.Core.Path.{_≡_, refl, ap, _∙_}
+use mathlib.Core.Path.{_≡_, refl, ap, subst, _∙_}
 use mathlib.Core.Bool.{true, cond}
 use mathlib.Core.List.{List, [], _∷_}
 use native.Mathlib.Omega.{arith}
@@ -21,6 +21,7 @@ use Rattle.lists.proofs.Told.{and-true, cond-same}
 use Rattle.task.specs.Entries.{Entry}
 use Rattle.task.specs.declared.Ends.{Ends}
 use Rattle.ring.specs.Ring.{endWords, Sound, ringsOf, queue}
+use Rattle.choice.specs.Form.{Taken, Offered}
 use Rattle.memory.specs.Family.{Family}
 use Rattle.memory.specs.Field as list
 use Rattle.memory.specs.Memory.{Mem, put}
@@ -170,6 +171,26 @@ stops-first p k Skip Is ends told start distance f =
   where
     below : (d : ℕ) → (start + d) % p < p
     below d = mod-lt (start + d) (omega (arith, f .inside))
+
+-- A search along the owners offered from worker `start` on stops at the algorithm's first candidate.
+pub stops-offered : (p k : ℕ) (Skip : Ends → Type 0) (Candidate Is : ℕ → Type 0) (ends : ℕ → Ends)
+    → ((h : ℕ) → Candidate h → Sound k (ends h) → (Skip (ends h) → ¬ (Is h)) × (¬ (Skip (ends h)) → Is h))
+    → (start : ℕ) (owners : List ℕ) → Offered p Candidate start owners
+    → (e : ℕ) → StopsAt (length owners) k Skip (λ d. ends (getD owners d 0)) e → First p (λ h. Candidate h × Is h) start (getD owners e 0)
+stops-offered p k Skip Candidate Is ends told start owners offers e f =
+    record {
+      distance = at-e .distance;
+      inside = at-e .near;
+      there = at-e .there;
+      is = (at-e .candidate, told (getD owners e 0) (at-e .candidate) (f .sound) .1 (f .stops));
+      before = λ d l is.
+          let (b, h, q) = at-e .nearer d l (is .0) in
+          let (sound, skip) = f .goesOn b h in
+          told ((start + d) % p) (is .0) (subst (λ x. Sound k (ends x)) q sound) .0 (subst (λ x. Skip (ends x)) q skip) (is .1);
+    }
+  where
+    at-e : Taken p Candidate start owners e
+    at-e = offers .taken e (f .inside)
 
 pub first-lt : {p : ℕ} {Is : ℕ → Type 0} {start x : ℕ} → First p Is start x → x < p
 first-lt {p} {Is} {start} f = rw (f .there) (mod-lt (start + f .distance) (omega (arith, f .inside)))

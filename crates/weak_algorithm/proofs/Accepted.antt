@@ -12,7 +12,11 @@ use Rattle.task.specs.declared.Step.the-variants.{Fetch, Start, Complete, Relea
 use Rattle.weak_task.specs.Says.{outcomeSays, stepSays}
 use Rattle.weak_task.specs.declared.WeakOutcome.{WeakOutcome}
 use Rattle.ring.specs.Ring.{capacity}
+use Rattle.memory.specs.Field as list
 use Rattle.memory.specs.Updates.{written}
+use Rattle.plans.specs.Forms.{own}
+use Rattle.plans.proofs.Forms.{own-chooses}
+use Rattle.split_lists.specs.Items.{workload}
 use Rattle.plans.specs.Sizes.{Fits}
 use Rattle.weak_rules.specs.Memory.{Mem, acceptedIn}
 use Rattle.weak_rules.specs.Updates.{Update}
@@ -23,6 +27,7 @@ use Rattle.weak_rules.proofs.Moves.{accepted-step}
 use Rattle.weak_algorithm.specs.Algorithm.{Lines, Does}
 use Rattle.weak_algorithm.specs.Reading.{stateOf}
 use Rattle.weak_algorithm.specs.Promise.{FollowsAlgorithm1}
+use Rattle.weak_algorithm.proofs.Readings.{workload-at}
 use Rattle.weak_algorithm.proofs.Fetched.{fetch-does, start-does}
 use Rattle.weak_algorithm.proofs.Completed.{complete-does}
 use Rattle.weak_algorithm.proofs.Released.{release-does}
@@ -39,7 +44,9 @@ module _ (limits : Limits) (p k i : ℕ) where
   made-lines Fetch m o us a = fetch-does limits p k i m (a .fits) (a .worker) (acceptedIn m + 1) o us (a .phase) (a .made)
   made-lines Start m o us a = start-does limits p k i m (a .fits) (a .worker) (acceptedIn m + 1) o us (a .phase) (a .made)
   made-lines Complete m o us a = complete-does limits p k i m (a .fits) (a .worker) (a .roots) (acceptedIn m + 1) o us (a .phase) (a .made)
-  made-lines Release m o us a = release-does limits p k i m (a .fits) (a .worker) (acceptedIn m + 1) o us (a .phase) (a .made)
+  made-lines Release m o us a =
+      release-does (own p m) (workload p (stateOf p k m .lists)) limits p k i m (own-chooses p m (a .fits .limits .oneWorker) (a .fits .lengths .list list.counters))
+      (workload-at p k m) (a .fits) (a .worker) (acceptedIn m + 1) o us (a .phase) (a .made)
 
   module _ (s : Step) (m : Mem) where
     -- a step that is allowed, with what it answers and writes

@@ -3,7 +3,7 @@ use Prim.Native.Nat.{ℕ, _+_, _<_}
 use mathlib.Core.Path.{_≡_, refl, _∙_}
 use mathlib.Core.List.{List, _∷_}
 use lib.ListN.{length}
-use lib.IntN.{pos, _+ℤ_}
+use lib.IntN.{ℤ, pos, _+ℤ_}
 use Rattle.lists.specs.Circles.{after}
 use Rattle.task.specs.Phases.{suits}
 use Rattle.task.specs.declared.Limits.{Limits}
@@ -11,7 +11,9 @@ use Rattle.task.specs.declared.Step.the-variants.{Release}
 use Rattle.weak_task.specs.Types.{copy}
 use Rattle.weak_task.specs.declared.WeakOutcome.{WeakOutcome}
 use Rattle.ring.specs.Ring.{capacity, Sound, Full, tailOn, appendedAt}
+use Rattle.choice.specs.Form.{Form}
 use Rattle.choice.proofs.Least.{least-same}
+use Rattle.choice.proofs.Form.{Chooses}
 use Rattle.memory.specs.Family.{Places}
 use Rattle.memory.specs.Updates.{updated, written}
 use Rattle.plans.specs.Sizes.{Lengths, Fits}
@@ -26,9 +28,9 @@ use Rattle.split_lists.proofs.Memories.{between, threadFrom, counters-put, firs
 use Rattle.split_lists.proofs.Lists.{has-room, queues-appended, first-room}
 use Rattle.split_lists.proofs.Buffers.{buffer-is, cursor-inside, successor-is, thread-next, thread-last}
 use Rattle.weak_algorithm.specs.State.{noItem, threadOf}
-use Rattle.weak_algorithm.specs.Algorithm.{Passes, first, later, Lines}
+use Rattle.weak_algorithm.specs.Algorithm.{Passes, Releases, first, later}
 use Rattle.weak_algorithm.specs.Reading.{recordIn, stateOf}
-use Rattle.weak_algorithm.proofs.Readings.{workload-at, phase-at, tid-at}
+use Rattle.weak_algorithm.proofs.Readings.{phase-at, tid-at}
 use Rattle.weak_algorithm.proofs.Memories.{states-same, state-after}
 
 module _ (p k i : ℕ) (m : Mem) (worker : i < p) (lengths : Lengths p k m) where
@@ -56,10 +58,12 @@ module _ (p k i : ℕ) (m : Mem) (worker : i < p) (lengths : Lengths p k m) wher
       goes-on to (next h) = thread-next p k i m (recordIn m) noItem worker lengths (f .task) (f .cursor) h
       goes-on to (last h) = thread-last p k i m (recordIn m) noItem worker lengths (f .task) (f .cursor) (f .notEmpty) (f .places) h
 
-module _ (limits : Limits) (p k i : ℕ) (m : Mem) (fits : Fits limits p k m) (worker : i < p) (n : ℕ) where
+-- a Release by a form that chooses among P workers, whose sums the loads W are of its candidates
+module _ (form : Form) (W : ℕ → ℤ) (limits : Limits) (p k i : ℕ) (m : Mem) (chooses : Chooses p form)
+    (same : (h : ℕ) → form .Candidate h → W h ≡ form .sum h) (fits : Fits limits p k m) (worker : i < p) (n : ℕ) where
   -- line 18: "if tid_{T_s} = NIL"
-  first-does : (o : WeakOutcome) (us : List Update) → rowIn m i .phase ≡ suits Release → moves.ReleasesFirst p k i m o us
-      → Lines p (capacity k) i Release (stateOf p k m) (stateOf p k (written (putAccepted n ∷ us) m)) o
+  first-does : (o : WeakOutcome) (us : List Update) → rowIn m i .phase ≡ suits Release → moves.ReleasesFirst form p k i m o us
+      → Releases (form .Candidate) W p (capacity k) i (stateOf p k m) (stateOf p k (written (putAccepted n ∷ us) m)) o
   unfolding written updated stateOf appendedAt tailOn after
   first-does o us phase f =
       rw (f .updates, f .ringIs)
@@ -70,7 +74,7 @@ module _ (limits : Limits) (p k i : ℕ) (m : Mem) (fits : Fits limits p k m) (w
         pass = passes p k i m worker (fits .lengths) (f .to) phase (f .common);
         unfixed = tid-at p k m (successor m i) ∙ f .first;
         target = f .target;
-        least = least-same (workload-at p k m) (f .least);
+        least = least-same same (f .least);
         owner = f .owner;
         room = room;
         after =
@@ -85,8 +89,11 @@ module _ (limits : Limits) (p k i : ℕ) (m : Mem) (fits : Fits limits p k m) (w
         outcome = f .outcome;
       }))
     where
-      room : First p (λ h. length (queueOf (stateOf p k m .lists) h i) < capacity k) (f .target) (f .owner)
-      room = rw (f .ownerIs) (first-room p k i m (recordIn m) worker (f .target) (f .distance) (f .stop))
+      room : First p (λ h. form .Candidate h × (length (queueOf (stateOf p k m .lists) h i) < capacity k)) (f .target) (f .owner)
+      room =
+          rw (f .ownerIs)
+          (first-room p k i m (recordIn m) worker (form .Candidate) (chooses .below) (f .target) (form .offered (f .target))
+          (chooses .offers (f .target) (f .least .candidate)) (f .place) (f .stop))
 
       sound : Sound k (endsIn m (ringNumber p (f .owner) i))
       sound = rw (f .ownerIs) (f .stop .sound)
@@ -96,7 +103,7 @@ module _ (limits : Limits) (p k i : ℕ) (m : Mem) (fits : Fits limits p k m) (w
 
   -- line 23: "else"
   later-does : (o : WeakOutcome) (us : List Update) → rowIn m i .phase ≡ suits Release → moves.ReleasesLater p k i m o us
-      → Lines p (capacity k) i Release (stateOf p k m) (stateOf p k (written (putAccepted n ∷ us) m)) o
+      → Releases (form .Candidate) W p (capacity k) i (stateOf p k m) (stateOf p k (written (putAccepted n ∷ us) m)) o
   unfolding written updated stateOf appendedAt tailOn after
   later-does o us phase f =
       rw (f .updates, f .ringIs)
@@ -126,7 +133,7 @@ module _ (limits : Limits) (p k i : ℕ) (m : Mem) (fits : Fits limits p k m) (w
       free = rw (f .ringIs) at (f .room)
 
   -- an accepted Release is Algorithm 1's; the phase is the one that suits it
-  pub release-does : (o : WeakOutcome) (us : List Update) → rowIn m i .phase ≡ suits Release → moves.Releases p k i m o us
-      → Lines p (capacity k) i Release (stateOf p k m) (stateOf p k (written (putAccepted n ∷ us) m)) o
+  pub release-does : (o : WeakOutcome) (us : List Update) → rowIn m i .phase ≡ suits Release → moves.Releases form p k i m o us
+      → Releases (form .Candidate) W p (capacity k) i (stateOf p k m) (stateOf p k (written (putAccepted n ∷ us) m)) o
   release-does o us phase (moves.first f) = first-does o us phase f
   release-does o us phase (moves.later f) = later-does o us phase f

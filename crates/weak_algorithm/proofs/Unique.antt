@@ -3,6 +3,7 @@
 use Prim.Native.Nat.{ℕ, _≤_}
 use mathlib.Core.Path.{_≡_, sym, _∙_}
 use native.Mathlib.Omega.{arith}
+use lib.IntN.{ℤ}
 use Rattle.task.specs.Types.{nil}
 use Rattle.task.specs.declared.Step.{Step}
 use Rattle.task.specs.declared.Step.the-variants.{Fetch, Start, Complete, Release}
@@ -27,13 +28,13 @@ completes-one (completes f) (copies g) = absurd (g .some (f .zero))
 completes-one (completes f) (completes g) = (cc, cc)
 
 -- no thread's number is NIL, so a task that has a thread isn't without one
-fixed-once : {p capacity i : ℕ} {s a b : State} {o q : WeakOutcome} → p ≤ nil .0 → AllocatesFirst p capacity i s a o → AllocatesLater p capacity i s b q → ⊥
+fixed-once : {C : ℕ → Type 0} {W : ℕ → ℤ} {p capacity i : ℕ} {s a b : State} {o q : WeakOutcome} → p ≤ nil .0 → AllocatesFirst C W p capacity i s a o → AllocatesLater p capacity i s b q → ⊥
 fixed-once few f g =
     let (task, oldest, next) = passes-one (f .pass) (g .pass) in
     let same = sym (g .fixed) ∙ (rw task at (f .unfixed)) in
     omega (arith, few, g .worker, same)
 
-releases-one : {p capacity i : ℕ} {s a b : State} {o q : WeakOutcome} → p ≤ nil .0 → Releases p capacity i s a o → Releases p capacity i s b q
+releases-one : {C : ℕ → Type 0} {W : ℕ → ℤ} {p capacity i : ℕ} {s a b : State} {o q : WeakOutcome} → p ≤ nil .0 → Releases C W p capacity i s a o → Releases C W p capacity i s b q
     → (a ≡ b) × (o ≡ q)
 releases-one few (first f) (first g) =
     let (task, oldest, next) = passes-one (f .pass) (g .pass) in

@@ -43,7 +43,7 @@ first-copy =
             target = 0;
             least = least-worker 2 (workload 2 (unfixed .lists)) (omega arith) .0;
             owner = 0;
-            room = record { distance = 0; inside = omega arith; there = refl; is = omega arith; before = λ d l h. omega (arith, l) };
+            room = record { distance = 0; inside = omega arith; there = refl; is = (omega arith, omega arith); before = λ d l h. omega (arith, l) };
             after = refl;
             outcome = refl;
           });

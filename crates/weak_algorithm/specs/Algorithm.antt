@@ -8,6 +8,7 @@
 use Prim.Native.Nat.{ℕ, _-_, _≤_, _<_}
 use mathlib.Core.Path.{_≡_}
 use mathlib.Core.List.{List, [], _∷_, _++_}
+use lib.IntN.{ℤ}
 use lib.ListN.{length, getD, set}
 use Rattle.task.specs.Types.{nil}
 use Rattle.task.specs.declared.Step.{Step}
@@ -95,8 +96,8 @@ pub record Passes (i : ℕ) (s : State) (T oldest : ℕ) (r : Thread) : Type 0 w
   pub successor : T ≡ getD (successorsOf (s .lists) oldest) (threadOf s i .cursor) 0
   pub thread : r ≡ passed (length (successorsOf (s .lists) oldest)) rest (threadOf s i)
 
--- line 18: "if tid_{T_s} = NIL"
-pub record AllocatesFirst (p capacity i : ℕ) (s s′ : State) (o : WeakOutcome) : Type 0 where
+-- line 18: "if tid_{T_s} = NIL". Who may be chosen (`Candidate`) and the loads W that the choice goes by are those of the form of Release
+pub record AllocatesFirst (Candidate : ℕ → Type 0) (W : ℕ → ℤ) (p capacity i : ℕ) (s s′ : State) (o : WeakOutcome) : Type 0 where
   pub task : ℕ
   pub oldest : ℕ
   pub next : Thread
@@ -104,10 +105,10 @@ pub record AllocatesFirst (p capacity i : ℕ) (s s′ : State) (o : WeakOutcome
   pub unfixed : tidOf s task ≡ nil .0
   -- line 19: "j = arg min (W_t)"; "both take the least counter over 1..P, here it is workers 0..P−1", "the lowest number on equal sums"
   pub target : ℕ
-  pub least : Least (λ h. h < p) (workload p (s .lists)) target
+  pub least : Least Candidate W target
   -- line 20: "append T_s^i to LL_j": "picks its ring as in document 01", "the first ring filled by i that isn't full, owners taken j, j+1, … modulo P"
   pub owner : ℕ
-  pub room : First p (λ h. length (queueOf (s .lists) h i) < capacity) target owner
+  pub room : First p (λ h. Candidate h × (length (queueOf (s .lists) h i) < capacity)) target owner
   -- line 17: "create a task-copy T_s^i of T_s"; line 21: "let tid_{T_s} = j", of the list really used; line 22: "W_j = W_j + w_{T_s}"
   pub after : s′
       ≡ stateOf
@@ -132,16 +133,16 @@ pub record AllocatesLater (p capacity i : ℕ) (s s′ : State) (o : WeakOutcome
   pub outcome : o ≡ Placed (taskCopy (copy task oldest)) (record { 0 = owner })
 
 -- one pass of lines 16 to 26
-pub data Releases (p capacity i : ℕ) (s s′ : State) (o : WeakOutcome) : Type 0 where
-  first : AllocatesFirst p capacity i s s′ o → Releases p capacity i s s′ o
-  later : AllocatesLater p capacity i s s′ o → Releases p capacity i s s′ o
+pub data Releases (Candidate : ℕ → Type 0) (W : ℕ → ℤ) (p capacity i : ℕ) (s s′ : State) (o : WeakOutcome) : Type 0 where
+  first : AllocatesFirst Candidate W p capacity i s s′ o → Releases Candidate W p capacity i s s′ o
+  later : AllocatesLater p capacity i s s′ o → Releases Candidate W p capacity i s s′ o
 
--- the lines of each step
+-- the lines of each step: a Release's candidates are all P threads, its loads their workloads
 abbrev pub Lines : ℕ → ℕ → ℕ → Step → State → State → WeakOutcome → Type 0
 Lines p capacity i Fetch s s′ o = Fetches p i s s′ o
 Lines p capacity i Start s s′ o = Starts i s s′ o
 Lines p capacity i Complete s s′ o = Completes i s s′ o
-Lines p capacity i Release s s′ o = Releases p capacity i s s′ o
+Lines p capacity i Release s s′ o = Releases (λ h. h < p) (workload p (s .lists)) p capacity i s s′ o
 
 -- Algorithm 1's step of Thread i from s to s′, with lists that hold `capacity` copies
 pub record Does (p capacity i : ℕ) (step : Step) (s s′ : State) (o : WeakOutcome) : Type 0 where

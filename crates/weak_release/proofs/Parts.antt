@@ -23,6 +23,7 @@ use Rattle.lists.proofs.Told.{Told, told-true, told-false}
 use Rattle.lists.proofs.Apart.{true-and-false}
 use Rattle.choice.specs.Search.{Found, unsound}
 use Rattle.memory.specs.Updates.{updated, written}
+use Rattle.plans.specs.Forms.{own}
 use Rattle.weak_rules.specs.Memory.{Mem, ringNumber, weightIn, successor}
 use Rattle.weak_rules.specs.Words.{counterFits, countersFit, weightFits, fixedFits}
 use Rattle.weak_rules.specs.Plans.{Plan, refuse, refuseIf, checked}
@@ -196,11 +197,11 @@ module _ (p k i e : ℕ) (row : WeakRow) (next : Successor) (o : ℕ) (w : List 
         (f ∙ passes _ _ (light-is m s g) ∙ count-accepted (length w) e _ (s .tasks, s .edges) _ _ a (sym hc ∙ v)))
 
 -- The first copy looks for its owner: the rule goes on with what the search finds.
-first-room : (p k i : ℕ) (m : Mem) → releaseFirst p k i m ≡ releaseTo p k i m (roomFrom p k i (m .ends) (m .counters))
+first-room : (p k i : ℕ) (m : Mem) → releaseFirst (own p m) p k i m ≡ releaseTo (own p m) p k i m (roomFrom p k i (m .ends) (m .counters))
 unfolding releaseFirst findRoom roomFrom releaseTo
 first-room p k i m = go (countersFit (m .counters)) _
   where
-    go : (b : Bool) (f : Found) → checked b (releaseTo p k i m f) ≡ releaseTo p k i m (cond b f unsound)
+    go : (b : Bool) (f : Found) → checked b (releaseTo (own p m) p k i m f) ≡ releaseTo (own p m) p k i m (cond b f unsound)
     go true f = refl
     go false f = refl
 
@@ -215,7 +216,7 @@ module _ (p k i e : ℕ) (row : WeakRow) (next : Successor) (w : List ℕ) (x : 
   first-refused n d v limits m s g f =
       refused-result limits p k i Release _ n d
       (f ∙ first-room p k i _
-      ∙ room-refused p k i (next .task .0) (x .ends) (x .counters) r told (releaseTo p k i (withWords m x (m .rows))) refl (rw (s .task) refl) n d v)
+      ∙ room-refused p k i (next .task .0) (x .ends) (x .counters) r told (releaseTo (own p (withWords m x (m .rows))) p k i (withWords m x (m .rows))) refl (rw (s .task) refl) n d v)
 
   pub first-placed : (o : WorkerId) (both : Ends) → r ≡ owner.At o both → (x′ : Words) (y : WeakStepped) → JoinsFirst p k i e row next (o .0) w x x′ y
       → PlacesFirst p k i e row next w x x′ y
@@ -223,7 +224,7 @@ module _ (p k i e : ℕ) (row : WeakRow) (next : Successor) (w : List ℕ) (x : 
   first-placed o both v x′ y j limits m s g f =
       j limits m s g
       (f ∙ first-room p k i _
-      ∙ ap (releaseTo p k i (withWords m x (m .rows))) (room-at p k i (next .task .0) (x .ends) (x .counters) r told o both v))
+      ∙ ap (releaseTo (own p (withWords m x (m .rows))) p k i (withWords m x (m .rows))) (room-at p k i (next .task .0) (x .ends) (x .counters) r told o both v))
 
 -- The worker that the task is fixed to.
 module _ (p k i e : ℕ) (row : WeakRow) (next : Successor) (w : List ℕ) (x : Words) where
@@ -234,7 +235,7 @@ module _ (p k i e : ℕ) (row : WeakRow) (next : Successor) (w : List ℕ) (x : 
   by-word : (m : Mem) → Stands i (length w) e row next m
       → releaseCopy p k i (withWords m x (m .rows))
       ≡ checked (fixedFits p word)
-      (cond (eqb word (unfixed .0)) (releaseFirst p k i (withWords m x (m .rows))) (releaseLater p k i (withWords m x (m .rows)) word))
+      (cond (eqb word (unfixed .0)) (releaseFirst (own p (withWords m x (m .rows))) p k i (withWords m x (m .rows))) (releaseLater p k i (withWords m x (m .rows)) word))
   by-word m s = rw (s .task) refl
 
   choose : (b c : Bool) (first later : Plan) → checked (b || c) (cond b first later) ≡ cond b first (checked c later)
@@ -243,7 +244,7 @@ module _ (p k i e : ℕ) (row : WeakRow) (next : Successor) (w : List ℕ) (x : 
 
   chosen : (m : Mem) → Stands i (length w) e row next m
       → releaseCopy p k i (withWords m x (m .rows))
-      ≡ cond (eqb word (unfixed .0)) (releaseFirst p k i (withWords m x (m .rows)))
+      ≡ cond (eqb word (unfixed .0)) (releaseFirst (own p (withWords m x (m .rows))) p k i (withWords m x (m .rows)))
       (checked (ltb word p) (releaseLater p k i (withWords m x (m .rows)) word))
   chosen m s = by-word m s ∙ choose (eqb word (unfixed .0)) (ltb word p) _ _
 

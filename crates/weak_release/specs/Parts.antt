@@ -15,6 +15,7 @@ use Rattle.choice.specs.Search.{at}
 use Rattle.memory.specs.Field as list
 use Rattle.memory.specs.Memory.{put}
 use Rattle.memory.specs.Shape.{fixedLength}
+use Rattle.plans.specs.Forms.{own}
 use Rattle.weak_rules.specs.Memory.{weakShape, weak, Mem, tasks, edges, rowIn, succCount, oldest, successor, fixedIn}
 use Rattle.weak_rules.specs.Words.{fixedFits}
 use Rattle.weak_rules.specs.Plans.{Plan, checked, resultOf}
@@ -89,19 +90,19 @@ PlacesLater p k i n e row next o rings ends run rings′ ends′ run′ r =
 unfoldable pub JoinsFirst : (p k i e : ℕ) → WeakRow → Successor → ℕ → List ℕ → Words → Words → WeakStepped → Type 0
 JoinsFirst p k i e row next o weights x x′ r =
     (limits : Limits) (m : Mem) → Stands i (length weights) e row next m → m .weights ≡ weights
-    → Finishes limits p k i (λ m. releaseTo p k i m (at o)) m x x′ r
+    → Finishes limits p k i (λ m. releaseTo (own p m) p k i m (at o)) m x x′ r
 
 -- the first copy looks for its owner
 unfoldable pub PlacesFirst : (p k i e : ℕ) → WeakRow → Successor → List ℕ → Words → Words → WeakStepped → Type 0
 PlacesFirst p k i e row next weights x x′ r =
     (limits : Limits) (m : Mem) → Stands i (length weights) e row next m → m .weights ≡ weights
-    → Finishes limits p k i (releaseFirst p k i) m x x′ r
+    → Finishes limits p k i (λ m. releaseFirst (own p m) p k i m) m x x′ r
 
 -- where the rule goes on once the successor is known
 abbrev pub releaseCopy : ℕ → ℕ → ℕ → Mem → Plan
 releaseCopy p k i m =
     checked (fixedFits p (fixedIn m (successor m i)))
-    (cond (eqb (fixedIn m (successor m i)) (unfixed .0)) (releaseFirst p k i m) (releaseLater p k i m (fixedIn m (successor m i))))
+    (cond (eqb (fixedIn m (successor m i)) (unfixed .0)) (releaseFirst (own p m) p k i m) (releaseLater p k i m (fixedIn m (successor m i))))
 
 -- the worker that the task is fixed to decides
 unfoldable pub PlacesCopy : (p k i e : ℕ) → WeakRow → Successor → List ℕ → Words → Words → WeakStepped → Type 0

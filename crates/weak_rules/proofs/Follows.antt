@@ -14,6 +14,8 @@ use Rattle.weak_rules.specs.Memory.{Mem}
 use Rattle.weak_rules.specs.Steps.{ruleOf, stepPlan, step}
 use Rattle.weak_rules.specs.Tables.{ownRows, stepRows}
 use Rattle.weak_rules.proofs.Plans.{PlanFollows, answer-planned}
+use Rattle.plans.specs.Forms.{own}
+use Rattle.plans.proofs.Forms.{own-chooses}
 use Rattle.weak_rules.proofs.Complete.{start-follows, complete-follows}
 use Rattle.weak_rules.proofs.Fetch.{fetch-follows}
 use Rattle.weak_rules.proofs.Release.{release-follows}
@@ -29,7 +31,7 @@ unfolding ruleOf
 rule-follows limits p k i Fetch m f h = fetch-follows p k i m
 rule-follows limits p k i Start m f h = start-follows i m
 rule-follows limits p k i Complete m f h = complete-follows p i m
-rule-follows limits p k i Release m f h = release-follows p k i m (omega (arith, f .limits .oneWorker)) (few-workers f) (f .lengths .list list.counters)
+rule-follows limits p k i Release m f h = release-follows (own p m) p k i m (own-chooses p m (omega (arith, f .limits .oneWorker)) (f .lengths .list list.counters)) (few-workers f)
 
 pub step-follows : (limits : Limits) (p k i : ℕ) (s : Step) (m : Mem) → Follows (stepRows limits p k i s m) (stepSays (step limits p k i s m .answer))
 unfolding step stepPlan

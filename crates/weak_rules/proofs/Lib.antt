@@ -20,3 +20,4 @@ pub mod TakenBack
 pub mod Moved
 pub mod Kept
 pub mod Limits
+pub mod FormExamples

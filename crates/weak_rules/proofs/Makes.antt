@@ -20,8 +20,10 @@ use Rattle.lists.specs.Circles.{after}
 use Rattle.graph.specs.Conditions.{Good}
 use Rattle.ring.specs.Ring.{headOn, tailOn}
 use Rattle.ring.proofs.Ends.{sound-told, full-told}
-use Rattle.choice.specs.Least.{load}
-use Rattle.choice.proofs.Least.{least-worker}
+use Rattle.choice.specs.Form.{Form}
+use Rattle.choice.proofs.Form.{Chooses, target-is}
+use Rattle.plans.specs.Forms.{own}
+use Rattle.plans.proofs.Forms.{own-chooses}
 use Rattle.memory.specs.Family.{Places}
 use Rattle.memory.specs.Field as list
 use Rattle.memory.specs.Updates.{written}
@@ -31,9 +33,9 @@ use Rattle.weak_rules.specs.Words.{rootsFit, acceptedFits}
 use Rattle.weak_rules.specs.Updates.{Update, putAccepted}
 use Rattle.weak_rules.specs.Plans.{Plan, accept, withCount, counted, carriedOut}
 use Rattle.weak_rules.specs.Steps.{fetchCopy, fetchFrom, fetchRule, startRule, completeCopy, completeSink, completeInner, completeLast, completeRule, advanced, releaseTo, releaseFirst, releaseLater, releaseRule, ruleOf, stepPlan, step}
-use Rattle.weak_rules.specs.Moves.{Fetches, Ranged, Completing, CompletingLast, CompletesSink, CompletesInner, copies, sink, inner, Advances, next, last, Releasing, ReleasesFirst, ReleasesLater, first, later, Made, Allowed}
+use Rattle.weak_rules.specs.Moves.{Fetches, Ranged, Completing, CompletingLast, CompletesSink, CompletesInner, copies, sink, inner, Advances, next, last, Releasing, ReleasesFirst, ReleasesLater, Releases, first, later, Made, Allowed}
 use Rattle.weak_rules.proofs.Plans.{outcome-accepts}
-use Rattle.weak_rules.proofs.Words.{counter-told, counters-told, copy-told, fixed-told, roots-told, accepted-told, entries-told, recorded-told}
+use Rattle.weak_rules.proofs.Words.{counter-told, copy-told, fixed-told, roots-told, accepted-told, entries-told, recorded-told}
 use Rattle.plans.proofs.Searches.{scan-stops, room-stops}
 
 -- the tests that every Complete passes, those that a last copy's passes, and those that every Release passes
@@ -63,11 +65,11 @@ last-passes p i m r c =
       le-leb _ _ (c .task .inside),
     )
 
-releasing-passes : (p k i : ℕ) (m : Mem) (to : Places) → ¬ (¬ (fixedIn m (successor m i) ≡ unfixed .0) × (p ≤ fixedIn m (successor m i))) → Releasing i m to
-    → releaseRule p k i m
-    ≡ cond (eqb (fixedIn m (successor m i)) (unfixed .0)) (releaseFirst p k i m) (releaseLater p k i m (fixedIn m (successor m i)))
+releasing-passes : (f : Form) (p k i : ℕ) (m : Mem) (to : Places) → ¬ (¬ (fixedIn m (successor m i) ≡ unfixed .0) × (p ≤ fixedIn m (successor m i))) → Releasing i m to
+    → releaseRule f p k i m
+    ≡ cond (eqb (fixedIn m (successor m i)) (unfixed .0)) (releaseFirst f p k i m) (releaseLater p k i m (fixedIn m (successor m i)))
 unfolding releaseRule
-releasing-passes p k i m to f c =
+releasing-passes f p k i m to t c =
     rw (
       le-leb (rowIn m i .read) (rowIn m i .write) (omega (arith, c .notEmpty)),
       le-leb _ _ (c .places),
@@ -77,7 +79,7 @@ releasing-passes p k i m to f c =
       le-leb _ _ (c .task .inside),
       lt-ltb _ _ (c .cursor),
       lt-ltb _ _ (c .below),
-      told-pass (fixed-told p (fixedIn m (successor m i))) f,
+      told-pass (fixed-told p (fixedIn m (successor m i))) t,
     )
 
 advanced-is : {count : ℕ} {r : WeakRow} {to : Places} → Advances count r to → advanced count r ≡ to
@@ -128,16 +130,18 @@ module _ (p k i : ℕ) (m : Mem) (roots : rootsWord m ≤ tasks m) (low : accept
         f .updates,
       )
 
-  first-accepts : length (m .counters) ≡ p * p → (o : WeakOutcome) (us : List Update) → ReleasesFirst p k i m o us → releaseRule p k i m ≡ accept o (withCount m us)
+  first-accepts : (form : Form) → Chooses p form → (o : WeakOutcome) (us : List Update) → ReleasesFirst form p k i m o us
+      → releaseRule form p k i m ≡ accept o (withCount m us)
   unfolding releaseFirst releaseTo counted tailOn after
-  first-accepts c o us f =
-      releasing-passes p k i m (f .to) (λ n. n .0 (f .first)) (f .common)
+  first-accepts form chooses o us f =
+      releasing-passes form p k i m (f .to) (λ n. n .0 (f .first)) (f .common)
       ∙ rw (
         eq-eqb _ _ (f .first),
-        told-pass (counters-told (m .counters) (p * p) c) (f .counters),
-        sym (least-worker p (load p (m .counters)) (omega (arith, f .least .candidate)) .1 (f .target) (f .least)),
-        room-stops p k i (f .target) m (f .distance) (f .stop),
+        told-pass (chooses .told) (f .undamaged),
+        sym (target-is chooses (f .undamaged) .1 (f .target) (f .least)),
+        room-stops p k i (form .offered (f .target)) m (f .place) (f .stop),
         sym (f .ownerIs),
+        told-pass (chooses .toldAt (ringNumber p (f .owner) i)) (rw (f .ringIs) at (f .counter)),
         le-leb _ _ (f .light),
         roots-fit,
         accepted-fits,
@@ -147,10 +151,10 @@ module _ (p k i : ℕ) (m : Mem) (roots : rootsWord m ≤ tasks m) (low : accept
         f .ringIs,
       )
 
-  later-accepts : (o : WeakOutcome) (us : List Update) → ReleasesLater p k i m o us → releaseRule p k i m ≡ accept o (withCount m us)
+  later-accepts : (form : Form) (o : WeakOutcome) (us : List Update) → ReleasesLater p k i m o us → releaseRule form p k i m ≡ accept o (withCount m us)
   unfolding releaseLater counted tailOn after
-  later-accepts o us f =
-      releasing-passes p k i m (f .to) (λ n. omega (arith, n .1, f .fixed, f .worker)) (f .common)
+  later-accepts form o us f =
+      releasing-passes form p k i m (f .to) (λ n. omega (arith, n .1, f .fixed, f .worker)) (f .common)
       ∙ rw (
         f .fixed,
         ne-eqb _ _ (f .later),
@@ -164,7 +168,13 @@ module _ (p k i : ℕ) (m : Mem) (roots : rootsWord m ≤ tasks m) (low : accept
         f .updates,
       )
 
-  rule-accepts : length (m .counters) ≡ p * p → (s : Step) (o : WeakOutcome) (us : List Update) → Made s p k i m o us → ruleOf s p k i m ≡ accept o (withCount m us)
+  -- a Release by any form that chooses among P workers
+  pub release-accepts : (form : Form) → Chooses p form → (o : WeakOutcome) (us : List Update) → Releases form p k i m o us
+      → releaseRule form p k i m ≡ accept o (withCount m us)
+  release-accepts form chooses o us (first f) = first-accepts form chooses o us f
+  release-accepts form chooses o us (later f) = later-accepts form o us f
+
+  rule-accepts : Chooses p (own p m) → (s : Step) (o : WeakOutcome) (us : List Update) → Made s p k i m o us → ruleOf s p k i m ≡ accept o (withCount m us)
   unfolding ruleOf startRule completeCopy counted
   rule-accepts c Fetch o us f = fetch-accepts o us f
   rule-accepts c Start o us f = rw (roots-fit, accepted-fits, f .outcome, f .updates)
@@ -172,8 +182,7 @@ module _ (p k i : ℕ) (m : Mem) (roots : rootsWord m ≤ tasks m) (low : accept
       rw (completing-passes p i m roots-fit (f .common), ne-eqb _ _ (f .notLast), roots-fit, accepted-fits, f .outcome, f .updates)
   rule-accepts c Complete o us (sink f) = sink-accepts o us f
   rule-accepts c Complete o us (inner f) = inner-accepts o us f
-  rule-accepts c Release o us (first f) = first-accepts c o us f
-  rule-accepts c Release o us (later f) = later-accepts o us f
+  rule-accepts c Release o us f = release-accepts (own p m) c o us f
 
 module _ (limits : Limits) (p k i : ℕ) (s : Step) (m : Mem) where
   -- a step that is allowed is accepted, with that outcome and those updates
@@ -185,7 +194,7 @@ module _ (limits : Limits) (p k i : ℕ) (s : Step) (m : Mem) where
       q : stepPlan limits p k i s m ≡ accept o (withCount m us)
       q =
           headed-reaches limits p k i s m (ruleOf s p k i m) (r .fits) (r .worker) (r .phase)
-          ∙ rule-accepts p k i m (r .roots) (r .low) (r .fits .lengths .list list.counters) s o us (r .made)
+          ∙ rule-accepts p k i m (r .roots) (r .low) (own-chooses p m (r .fits .limits .oneWorker) (r .fits .lengths .list list.counters)) s o us (r .made)
 
   -- whatever it answers
   pub allowed-accepted : (o : WeakOutcome) (us : List Update) → Allowed limits p k i s m o us → Acceptance (stepSays (step limits p k i s m .answer))

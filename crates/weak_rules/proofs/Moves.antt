@@ -6,7 +6,6 @@ use mathlib.Core.Logic.{_⊎_, inl, inr}
 use mathlib.Core.List.{List}
 use native.Mathlib.Omega.{arith}
 use native.Mathlib.Decide.{decLt}
-use lib.ListN.{length}
 use lib.Dec.{leb, eqb}
 use borrow.Author.Tests.{ltb-true, leb-true, eqb-true, eqb-false}
 use Rattle.lists.proofs.Decided.{stable}
@@ -22,29 +21,30 @@ use Rattle.weak_task.specs.declared.WeakRow.{WeakRow}
 use Rattle.weak_task.specs.declared.WeakOutcome.{WeakOutcome}
 use Rattle.weak_task.specs.declared.WeakAnswer.{WeakAnswer}
 use Rattle.weak_task.specs.declared.WeakAnswer.the-variants.{Refused, Accepted}
-use Rattle.lists.specs.Lists.{allOf}
-use Rattle.lists.specs.Circles.{after, around}
+use Rattle.lists.specs.Circles.{after}
 use Rattle.ring.specs.Ring.{Empty, Full, headOn, tailOn}
 use Rattle.ring.proofs.Ends.{sound-told, full-told}
-use Rattle.choice.specs.Least.{load, least}
-use Rattle.choice.proofs.Least.{least-worker}
+use Rattle.choice.specs.Form.{Form}
+use Rattle.choice.proofs.Form.{Chooses, target-is}
+use Rattle.plans.specs.Forms.{targetBy, own}
+use Rattle.plans.proofs.Forms.{own-chooses}
 use Rattle.choice.specs.Search.{Found, unsound, none, at}
 use Rattle.memory.specs.Family.{Places}
 use Rattle.memory.specs.Field as list
 use Rattle.plans.specs.Sizes.{Fits}
 use Rattle.plans.proofs.Headers.{fits-are}
 use Rattle.plans.proofs.Accepted.{IfAccepted, if-refused, if-required, if-cond}
-use Rattle.plans.proofs.Searches.{Looked, scan-looked, room-looked}
+use Rattle.plans.proofs.Searches.{Looked, Sought, scan-looked, room-looked}
 use Rattle.weak_rules.specs.Memory.{Mem, tasks, edges, ringNumber, endsIn, headItem, counterIn, degreeIn, fixedIn, rootsWord, succCount, firstSucc, pastSucc, rowIn, held, pointerIn, entriesIn, acceptedIn, oldest, successor}
 use Rattle.weak_rules.specs.Words.{phaseFits, rangeFits, placesFit, rootsFit, acceptedFits, fixedFits}
 use Rattle.weak_rules.specs.Updates.{Update}
 use Rattle.weak_rules.specs.Plans.{Plan, refuse, accept, suited, withCount, counted, carriedOut}
 use Rattle.weak_rules.specs.Steps.{scan, fetchCopy, fetchFrom, fetchRule, startRule, completeCopy, completeSink, completeInner, completeLast, completeRule, advanced, findRoom, releaseTo, releaseFirst, releaseLater, releaseRule, ruleOf, stepPlan, step}
-use Rattle.weak_rules.specs.Tables.{BadRoots, BadCounter, scannedEnds, offeredEnds, LastCopy, FirstCopy}
+use Rattle.weak_rules.specs.Tables.{BadRoots, scannedEnds, LastCopy, FirstCopy}
 use Rattle.weak_rules.specs.Moves.{Fetches, Ranged, Completing, CompletingLast, Completes, copies, sink, inner, Advances, next, last, Releasing, Releases, first, later, Made, Allowed, AcceptedStep}
 use Rattle.weak_rules.proofs.Plans.{outcome-accepts}
 use Rattle.weak_rules.proofs.Untouched.{refused-step}
-use Rattle.weak_rules.proofs.Words.{counter-told, counters-told, copy-told, fixed-told, roots-told, accepted-told, entries-told, recorded-told}
+use Rattle.weak_rules.proofs.Words.{counter-told, copy-told, fixed-told, roots-told, accepted-told, entries-told, recorded-told}
 
 -- updates that add 1 to an accepted word in its range, R being in its own, and the others
 record Counted (m : Mem) (M : WeakOutcome → List Update → Type 0) (o : WeakOutcome) (us : List Update) : Type 0 where
@@ -155,8 +155,8 @@ module _ (m : Mem) where
     abbrev to : Places
     to = advanced (succCount m (oldest m i)) (rowIn m i)
 
-    if-later : Releasing i m to → ¬ (FirstCopy m i) → fixedIn m (successor m i) < p
-        → IfAccepted (Counted m (Releases p k i m)) (releaseLater p k i m (fixedIn m (successor m i)))
+    if-later : {f : Form} → Releasing i m to → ¬ (FirstCopy m i) → fixedIn m (successor m i) < p
+        → IfAccepted (Counted m (Releases f p k i m)) (releaseLater p k i m (fixedIn m (successor m i)))
     unfolding releaseLater tailOn after
     if-later c n w =
         if-required _ _ _ (λ s.
@@ -176,55 +176,81 @@ module _ (m : Mem) where
           updates = refl;
         }))))
 
-    module _ (some : 0 < p) (e : length (m .counters) ≡ p * p) where
+    -- a Release by form f
+    module _ (f : Form) (chooses : Chooses p f) where
       -- "target j"
       abbrev j : ℕ
-      j = least (allOf p) (load p (m .counters))
+      j = targetBy f
 
-      if-first : (f : Found) → Releasing i m to → FirstCopy m i → ¬ (BadCounter (p * p) (m .counters))
-          → Looked p k (Full k) (offeredEnds p i m j) j f
-          → IfAccepted (Counted m (Releases p k i m)) (releaseTo p k i m f)
+      if-first : (g : Found) → Releasing i m to → FirstCopy m i → ¬ (f .Damaged)
+          → Sought k (Full k) (λ o. endsIn m (ringNumber p o i)) (f .offered j) g
+          → IfAccepted (Counted m (Releases f p k i m)) (releaseTo f p k i m g)
       unfolding releaseTo tailOn after
       if-first unsound c r q l = if-refused _ _
       if-first none c r q l = if-refused _ _
       if-first (at o) c r q (d, stop, g) =
+          if-required _ _ _ (λ u.
           if-required _ _ _ (λ w.
           if-counted _ _ (first (record {
             to = to;
             common = c;
             first = r;
-            counters = q;
+            undamaged = q;
             target = j;
-            least = least-worker p (load p (m .counters)) some .0;
-            distance = d;
+            least = target-is chooses q .0;
+            place = d;
             stop = stop;
             owner = o;
             ownerIs = g;
             ring = ringNumber p o i;
             ringIs = refl;
+            counter = told-yes (chooses .toldAt (ringNumber p o i)) u;
             light = leb-true _ _ w;
             outcome = refl;
             updates = refl;
-          })))
+          }))))
 
       below : ¬ (FirstCopy m i) → fixedFits p (fixedIn m (successor m i)) ≡ true → fixedIn m (successor m i) < p
-      below n f = stable (decLt (fixedIn m (successor m i)) p) (λ h. told-yes (fixed-told p (fixedIn m (successor m i))) f (n, omega arith))
+      below n t = stable (decLt (fixedIn m (successor m i)) p) (λ h. told-yes (fixed-told p (fixedIn m (successor m i))) t (n, omega arith))
 
-      if-released : Releasing i m to → fixedFits p (fixedIn m (successor m i)) ≡ true → IfAccepted (Counted m (Releases p k i m))
-          (cond (eqb (fixedIn m (successor m i)) (unfixed .0)) (releaseFirst p k i m) (releaseLater p k i m (fixedIn m (successor m i))))
+      if-released : Releasing i m to → fixedFits p (fixedIn m (successor m i)) ≡ true → IfAccepted (Counted m (Releases f p k i m))
+          (cond (eqb (fixedIn m (successor m i)) (unfixed .0)) (releaseFirst f p k i m) (releaseLater p k i m (fixedIn m (successor m i))))
       unfolding releaseFirst
-      if-released c f =
+      if-released c t =
           if-cond _
           (λ r. if-required _ _ _ (λ q.
-          if-first (findRoom p k i m (around p j)) c (eqb-true _ _ r) (told-yes (counters-told (m .counters) (p * p) e) q)
-          (room-looked p k i j m)))
+          if-first (findRoom p k i m (f .offered j)) c (eqb-true _ _ r) (told-yes (chooses .told) q)
+          (room-looked p k i (f .offered j) m)))
           (λ n.
           let l : ¬ (FirstCopy m i) = eqb-false _ _ n in
-          if-later c l (below l f))
+          if-later c l (below l t))
 
+      if-release : IfAccepted (Counted m (Releases f p k i m)) (releaseRule f p k i m)
+      unfolding releaseRule
+      if-release =
+          if-required _ _ _ (λ a.
+          let (r, w) = and-true (leb (rowIn m i .read) (rowIn m i .write)) _ a in
+          if-cond _ (λ _. if-refused _ _) (λ b.
+          let n : ¬ (rowIn m i .read ≡ rowIn m i .write) = eqb-false _ _ b in
+          if-required _ _ _ (λ t.
+          if-required _ _ _ (λ g.
+          if-required _ _ _ (λ c.
+          if-required _ _ _ (λ s.
+          if-required _ _ _ (λ v.
+          if-released (record {
+            notEmpty = omega (arith, leb-true (rowIn m i .read) (rowIn m i .write) r, n);
+            places = leb-true _ _ w;
+            task = ranged (oldest m i) (ltb-true _ _ t) g;
+            cursor = ltb-true _ _ c;
+            below = ltb-true _ _ s;
+            advances = places-advance (succCount m (oldest m i)) (rowIn m i) (ltb-true _ _ c);
+          }) v)))))))
+
+    -- a Release by document 01's form
+    module _ (chooses : Chooses p (own p m)) where
       -- a step's own rule
       if-ruled : (s : Step) → IfAccepted (Counted m (Made s p k i m)) (ruleOf s p k i m)
-      unfolding ruleOf fetchRule startRule completeRule releaseRule
+      unfolding ruleOf fetchRule startRule completeRule
       if-ruled Fetch = if-required _ _ _ (λ h. if-fetched (scan p k i m) (ltb-true _ _ h) (scan-looked p k i m))
       if-ruled Start = if-counted _ _ (record { outcome = refl; updates = refl })
       if-ruled Complete =
@@ -242,24 +268,7 @@ module _ (m : Mem) where
             positive = leb-true _ _ d1;
             few = leb-true _ _ d2;
           }))))))
-      if-ruled Release =
-          if-required _ _ _ (λ a.
-          let (r, w) = and-true (leb (rowIn m i .read) (rowIn m i .write)) _ a in
-          if-cond _ (λ _. if-refused _ _) (λ b.
-          let n : ¬ (rowIn m i .read ≡ rowIn m i .write) = eqb-false _ _ b in
-          if-required _ _ _ (λ t.
-          if-required _ _ _ (λ g.
-          if-required _ _ _ (λ c.
-          if-required _ _ _ (λ s.
-          if-required _ _ _ (λ f.
-          if-released (record {
-            notEmpty = omega (arith, leb-true (rowIn m i .read) (rowIn m i .write) r, n);
-            places = leb-true _ _ w;
-            task = ranged (oldest m i) (ltb-true _ _ t) g;
-            cursor = ltb-true _ _ c;
-            below = ltb-true _ _ s;
-            advances = places-advance (succCount m (oldest m i)) (rowIn m i) (ltb-true _ _ c);
-          }) f)))))))
+      if-ruled Release = if-release (own p m) chooses
 
 -- where a step is accepted, it is allowed, with the updates after that of the accepted word
 record AllFound (limits : Limits) (p k i : ℕ) (s : Step) (m : Mem) (o : WeakOutcome) (us : List Update) : Type 0 where
@@ -278,7 +287,7 @@ if-stepped limits p k i s m =
   where
     go : Told (eqb (rowIn m i .phase) (suits s)) (rowIn m i .phase ≡ suits s) (¬ (rowIn m i .phase ≡ suits s)) → Fits limits p k m → i < p
         → IfAccepted (AllFound limits p k i s m) (suited (nextPhase (rowIn m i .phase) s) (rowIn m i .phase) (ruleOf s p k i m))
-    go (told-true q e) f w = rw q (record { holds = λ o us h. found o us (if-ruled m p k i (omega (arith, f .limits .oneWorker)) (f .lengths .list list.counters) s .holds o us h) })
+    go (told-true q e) f w = rw q (record { holds = λ o us h. found o us (if-ruled m p k i (own-chooses p m (omega (arith, f .limits .oneWorker)) (f .lengths .list list.counters)) s .holds o us h) })
       where
         found : (o : WeakOutcome) (us : List Update) → Counted m (Made s p k i m) o us → AllFound limits p k i s m o us
         found o us c =

@@ -4,6 +4,7 @@
 use Prim.Native.Nat.{ℕ, suc, _+_, _-_, _*_, _%_, _≤_, _<_}
 use mathlib.Core.Path.{_≡_}
 use mathlib.Core.List.{List, [], _∷_}
+use lib.ListN.{length, getD}
 use lib.IntN.{pos, _+ℤ_, _-ℤ_}
 use Rattle.task.specs.Types.{nil}
 use Rattle.task.specs.Phases.{suits}
@@ -16,7 +17,9 @@ use Rattle.weak_task.specs.declared.WeakRow.{WeakRow}
 use Rattle.weak_task.specs.declared.WeakOutcome.{WeakOutcome}
 use Rattle.weak_task.specs.declared.WeakOutcome.the-variants.{Moved, Fetched, Placed}
 use Rattle.ring.specs.Ring.{slotAt, Sound, Empty, Full}
-use Rattle.choice.specs.Least.{load, Least}
+use Rattle.choice.specs.Least.{Least}
+use Rattle.choice.specs.Form.{Form}
+use Rattle.plans.specs.Forms.{own}
 use Rattle.memory.specs.Family.{Places}
 use Rattle.memory.specs.Updates.{written}
 use Rattle.plans.specs.Sizes.{Fits}
@@ -24,7 +27,7 @@ pub use Rattle.plans.specs.Moves.{Ranged}
 use Rattle.weak_rules.specs.Memory.{Mem, tasks, edges, ringNumber, endsIn, headItem, counterIn, weightIn, degreeIn, fixedIn, rootsWord, succCount, bufferAt, rowIn, held, pointerIn, entriesIn, acceptedIn, oldest, successor}
 use Rattle.weak_rules.specs.Updates.{Update, putDegree, putFixed, putSlot, putEnds, putCounter, putBuffer, putEntry, putEntries, putAccepted, putHand, putPointer, putPlaces}
 use Rattle.weak_rules.specs.Steps.{step}
-use Rattle.weak_rules.specs.Tables.{Beyond2^30, BadCounter, BadCopy, StopsAt, scanned, scannedEnds, offeredEnds, LastCopy, FirstCopy}
+use Rattle.weak_rules.specs.Tables.{Beyond2^30, BadCopy, StopsAt, scanned, scannedEnds, offeredEnds, LastCopy, FirstCopy}
 
 -- "Fetch by i: scan the rings of owner i from the ring pointer upward, modulo P"
 pub record Fetches (p k i : ℕ) (m : Mem) (o : WeakOutcome) (us : List Update) : Type 0 where
@@ -131,20 +134,22 @@ pub record Releasing (i : ℕ) (m : Mem) (to : Places) : Type 0 where
   pub below : successor m i < tasks m
   pub advances : Advances (succCount m (oldest m i)) (rowIn m i) to
 
--- "The first copy of a task picks its ring as in document 01 and fixes the task's worker", the owner of the ring really used
-pub record ReleasesFirst (p k i : ℕ) (m : Mem) (o : WeakOutcome) (us : List Update) : Type 0 where
+-- "The first copy of a task picks its ring as in document 01 and fixes the task's worker", the owner of the ring really used; by form f
+pub record ReleasesFirst (f : Form) (p k i : ℕ) (m : Mem) (o : WeakOutcome) (us : List Update) : Type 0 where
   pub to : Places
   pub common : Releasing i m to
   pub first : FirstCopy m i
-  pub counters : ¬ (BadCounter (p * p) (m .counters))
+  pub undamaged : ¬ (f .Damaged)
   pub target : ℕ
-  pub least : Least (λ h. h < p) (load p (m .counters)) target
-  pub distance : ℕ
-  pub stop : StopsAt p k (Full k) (offeredEnds p i m target) distance
+  pub least : Least (f .Candidate) (f .sum) target
+  -- the owner at this place of those offered
+  pub place : ℕ
+  pub stop : StopsAt (length (f .offered target)) k (Full k) (offeredEnds p i m (f .offered target)) place
   pub owner : ℕ
-  pub ownerIs : owner ≡ (target + distance) % p
+  pub ownerIs : owner ≡ getD (f .offered target) place 0
   pub ring : ℕ
   pub ringIs : ring ≡ ringNumber p owner i
+  pub counter : ¬ (f .DamagedAt ring)
   pub light : weightIn m (successor m i) ≤ 65535
   -- "Release always makes one copy and answers it with its owner"
   pub outcome : o ≡ Placed (taskCopy (copy (successor m i) (oldest m i))) (record { 0 = owner })
@@ -176,16 +181,16 @@ pub record ReleasesLater (p k i : ℕ) (m : Mem) (o : WeakOutcome) (us : List Up
       ∷ putEnds ring (record { head = endsIn m ring .head; tail = (endsIn m ring .tail + 1) % k; count = endsIn m ring .count + 1 })
       ∷ []
 
-pub data Releases (p k i : ℕ) (m : Mem) (o : WeakOutcome) (us : List Update) : Type 0 where
-  first : ReleasesFirst p k i m o us → Releases p k i m o us
-  later : ReleasesLater p k i m o us → Releases p k i m o us
+pub data Releases (f : Form) (p k i : ℕ) (m : Mem) (o : WeakOutcome) (us : List Update) : Type 0 where
+  first : ReleasesFirst f p k i m o us → Releases f p k i m o us
+  later : ReleasesLater p k i m o us → Releases f p k i m o us
 
 -- the step's own rule lets it be made, with this outcome and these updates
 abbrev pub Made : Step → ℕ → ℕ → ℕ → Mem → WeakOutcome → List Update → Type 0
 Made Fetch p k i m o us = Fetches p k i m o us
 Made Start p k i m o us = Starts i m o us
 Made Complete p k i m o us = Completes p i m o us
-Made Release p k i m o us = Releases p k i m o us
+Made Release p k i m o us = Releases (own p m) p k i m o us
 
 -- when a step is accepted with this outcome and these updates: numbers and lists fit, the worker is there, the phase suits, R and the accepted word
 -- are in their ranges, and the step's own rule lets it be made

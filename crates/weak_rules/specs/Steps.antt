@@ -6,8 +6,7 @@ use mathlib.Core.Bool.{cond}
 use mathlib.Core.List.{List, [], _∷_}
 use lib.Dec.{eqb}
 use lib.IntN.{pos, _-ℤ_}
-use Rattle.lists.specs.Lists.{allOf}
-use Rattle.lists.specs.Circles.{after, around}
+use Rattle.lists.specs.Circles.{after}
 use Rattle.task.specs.Types.{nil}
 use Rattle.task.specs.Phases.{leadsTo}
 use Rattle.task.specs.Refusals.{damaged, nothingThere, ringsFull, recordFull}
@@ -19,14 +18,15 @@ use Rattle.weak_task.specs.declared.WeakRow.{WeakRow}
 use Rattle.weak_task.specs.declared.WeakAnswer.{WeakAnswer}
 use Rattle.weak_task.specs.declared.WeakOutcome.the-variants.{Moved, Fetched, Placed}
 use Rattle.ring.specs.Ring.{full, headOn}
-use Rattle.choice.specs.Least.{load, least}
+use Rattle.choice.specs.Form.{Form}
+use Rattle.plans.specs.Forms.{targetBy, own}
 use Rattle.choice.specs.Search.{Found, unsound, none, at}
 use Rattle.memory.specs.Family.{Places}
 use Rattle.plans.specs.Headed.{headed}
 use Rattle.plans.specs.Laying.{append, joinRing}
 unfoldable pub use Rattle.plans.specs.Searches.{scan, findRoom}
 use Rattle.weak_rules.specs.Memory.{Mem, allEntries, ringNumber, endsIn, headItem, counterIn, weightIn, degreeIn, fixedIn, succCount, bufferAt, rowIn, held, pointerIn, entriesIn, oldest, successor, madeCopy}
-use Rattle.weak_rules.specs.Words.{endsFit, taskFits, copyFits, pointerFits, counterFits, countersFit, degreeFits, fixedFits, placesFit, joinFits, cursorFits, rangeFits, weightFits, rootsFit, entriesFit}
+use Rattle.weak_rules.specs.Words.{endsFit, taskFits, copyFits, pointerFits, counterFits, degreeFits, fixedFits, placesFit, joinFits, cursorFits, rangeFits, weightFits, rootsFit, entriesFit}
 use Rattle.weak_rules.specs.Updates.{Update, putDegree, putFixed, putEnds, putCounter, putBuffer, putEntry, putEntries, putHand, putPointer, putPlaces}
 use Rattle.weak_rules.specs.Plans.{Plan, refuse, refuseIf, checked, counted, Result, carriedOut}
 
@@ -117,18 +117,19 @@ advance i m = putPlaces i (advanced (succCount m (oldest m i)) (rowIn m i))
 
 -- 11: all P rings filled by this worker are full; its detail is "the successor". Else the copy joins the ring found, "Weight joins with the first copy",
 -- and the owner of the ring really used is "the task's worker"
-unfoldable pub releaseTo : ℕ → ℕ → ℕ → Mem → Found → Plan
-releaseTo p k i m unsound = refuse damaged 0
-releaseTo p k i m none = refuse ringsFull (successor m i)
-releaseTo p k i m (at o) =
-    checked (weightFits m (successor m i))
+unfoldable pub releaseTo : Form → ℕ → ℕ → ℕ → Mem → Found → Plan
+releaseTo f p k i m unsound = refuse damaged 0
+releaseTo f p k i m none = refuse ringsFull (successor m i)
+releaseTo f p k i m (at o) =
+    checked (f .fitsAt (ringNumber p o i))
+    (checked (weightFits m (successor m i))
     (counted m (Placed (taskCopy (madeCopy m i)) (record { 0 = o }))
-    (putFixed (successor m i) o ∷ advance i m ∷ joinRing p k o i (madeCopy m i) (successor m i) m))
+    (putFixed (successor m i) o ∷ advance i m ∷ joinRing p k o i (madeCopy m i) (successor m i) m)))
 
 -- "The first copy of a task picks its ring as in document 01": "target j is the worker with the least sum of its P counters", all of which are
--- read; "appended to the first ring filled by i that isn't full, owners taken j, j+1, … modulo P"
-unfoldable pub releaseFirst : ℕ → ℕ → ℕ → Mem → Plan
-releaseFirst p k i m = checked (countersFit (m .counters)) (releaseTo p k i m (findRoom p k i m (around p (least (allOf p) (load p (m .counters))))))
+-- read; "appended to the first ring filled by i that isn't full, owners taken j, j+1, … modulo P": candidates, sums and owners are the form's
+unfoldable pub releaseFirst : Form → ℕ → ℕ → ℕ → Mem → Plan
+releaseFirst f p k i m = checked (f .fits) (releaseTo f p k i m (findRoom p k i m (f .offered (targetBy f))))
 
 -- "later copies go only to that worker's ring, and 11 is given exactly if that ring is full"
 unfoldable pub releaseLater : ℕ → ℕ → ℕ → Mem → ℕ → Plan
@@ -139,8 +140,8 @@ releaseLater p k i m o =
 
 -- 10: "Release: buffer empty"; else "the oldest task in i's buffer, its successor s at the cursor", and the worker that s is fixed to. The degree isn't
 -- read: "A copy's Complete alone lowers the degree"
-unfoldable pub releaseRule : ℕ → ℕ → ℕ → Mem → Plan
-releaseRule p k i m =
+unfoldable pub releaseRule : Form → ℕ → ℕ → ℕ → Mem → Plan
+releaseRule f p k i m =
     checked (placesFit m (rowIn m i .read) (rowIn m i .write))
     (refuseIf (eqb (rowIn m i .read) (rowIn m i .write)) nothingThere 0
     (checked (taskFits m (oldest m i))
@@ -148,13 +149,13 @@ releaseRule p k i m =
     (checked (cursorFits m (oldest m i) (rowIn m i .cursor))
     (checked (taskFits m (successor m i))
     (checked (fixedFits p (fixedIn m (successor m i)))
-    (cond (eqb (fixedIn m (successor m i)) (unfixed .0)) (releaseFirst p k i m) (releaseLater p k i m (fixedIn m (successor m i))))))))))
+    (cond (eqb (fixedIn m (successor m i)) (unfixed .0)) (releaseFirst f p k i m) (releaseLater p k i m (fixedIn m (successor m i))))))))))
 
 unfoldable pub ruleOf : Step → ℕ → ℕ → ℕ → Mem → Plan
 ruleOf Fetch p k i m = fetchRule p k i m
 ruleOf Start p k i m = startRule i m
 ruleOf Complete p k i m = completeRule p i m
-ruleOf Release p k i m = releaseRule p k i m
+ruleOf Release p k i m = releaseRule (own p m) p k i m
 
 -- "In a step: 2, 1, 7, phase word (8), 9; then the step's rule is followed from its first sentence"
 unfoldable pub stepPlan : Limits → ℕ → ℕ → ℕ → Step → Mem → Plan

@@ -45,6 +45,7 @@ use Rattle.weak_rules.specs.Updates.{Update}
 use Rattle.weak_rules.specs.Plans.{Result, resultOf}
 use Rattle.weak_rules.specs.Steps.{step}
 use Rattle.weak_rules.specs.Begin.{begin}
+use Rattle.plans.specs.Forms.{own}
 use Rattle.weak_rules.specs.Moves.{ReleasesFirst}
 use Rattle.weak_rules.proofs.Limits.{beyond-2}
 use Rattle.weak_rules.proofs.Moves.{accepted-step}
@@ -200,7 +201,7 @@ never-full r limits p k i d = undamaged .next r limits p k i Complete .notFull d
 
 -- "target j is the worker with the least sum of its P counters": in a run that is the least weight of the tasks fixed to it and not complete. Of
 -- every Release that makes a task's first copy.
-pub lightest : (r : Run) (i : ℕ) (o : WeakOutcome) (us : List Update) (f : ReleasesFirst (r .workers) (r .slots) i (memoryOf r) o us)
+pub lightest : (r : Run) (i : ℕ) (o : WeakOutcome) (us : List Update) (f : ReleasesFirst (own (r .workers) (memoryOf r)) (r .workers) (r .slots) i (memoryOf r) o us)
     → Least (λ h. h < r .workers) (λ h. pos (sumOf (weightIn (r .lent)) (openOf (memoryOf r) h))) (f .target)
 unfolding load
 lightest r i o us f = least-same (λ h l. sym (counters-add-up .words r h l)) (f .least)

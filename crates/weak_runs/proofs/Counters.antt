@@ -325,7 +325,7 @@ module _ {g : Graph} {p i : ℕ} {s : State} (sane : Sane g p s) (fixed : Fixed 
       done = getD-set-same (s .lists .degrees) T less 0 there ∙ f .zero
 
   -- a first copy: the task's weight joins the counter of the worker that it is fixed to
-  first-changes : {capacity : ℕ} {s′ : State} {o : WeakOutcome} → Sound g → p ≤ nil .0 → AllocatesFirst p capacity i s s′ o → Changes g p s s′
+  first-changes : {C : ℕ → Type 0} {W : ℕ → ℤ} {capacity : ℕ} {s′ : State} {o : WeakOutcome} → Sound g → p ≤ nil .0 → AllocatesFirst C W p capacity i s s′ o → Changes g p s s′
   unfolding openWeight fixedWeight doneWeight
   first-changes sound few f =
       rw (f .after) (record {

@@ -3,6 +3,7 @@ use Prim.Native.Nat.{ℕ, _+_, _%_, _<_}
 use mathlib.Core.Path.{_≡_, refl, sym, ap, _∙_}
 use mathlib.Core.Bool.{Bool, true, false, cond}
 use mathlib.Core.List.{List}
+use lib.IntN.{ℤ}
 use lib.Dec.{eqb}
 use Rattle.lists.proofs.Apart.{unequal}
 use Rattle.task.specs.declared.Limits.{Limits}
@@ -64,7 +65,7 @@ module _ {p i : ℕ} {s s′ : State} {o : WeakOutcome} (worker : i < p) (shaped
       (lettingGo (buffered (successorsOf (s .lists) (threadOf s i .held .task)) (threadOf s i .held .task) (threadOf s i .buffer)) (threadOf s i))
   task-acts f = acts worker shaped (rw (f .after)) (rw (f .after))
 
-  first-acts : {capacity : ℕ} (f : AllocatesFirst p capacity i s s′ o) → Acts noItem p i (s .lists) (s′ .lists) (f .next)
+  first-acts : {C : ℕ → Type 0} {W : ℕ → ℤ} {capacity : ℕ} (f : AllocatesFirst C W p capacity i s s′ o) → Acts noItem p i (s .lists) (s′ .lists) (f .next)
   first-acts f = acts worker shaped (rw (f .after)) (rw (f .after))
 
   later-acts : {capacity : ℕ} (f : AllocatesLater p capacity i s s′ o) → Acts noItem p i (s .lists) (s′ .lists) (f .next)

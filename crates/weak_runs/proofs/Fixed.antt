@@ -7,6 +7,7 @@ use mathlib.Core.Logic.{_⊎_, inr}
 use mathlib.Core.List.{List, [], _∷_, _++_, map}
 use native.Mathlib.Omega.{arith}
 use native.Mathlib.Decide.{ℕ-discrete, decLt}
+use lib.IntN.{ℤ}
 use lib.Dec.{eqb, leb}
 use lib.ListN.{length, getD, set, List·getD-eq-default}
 use lib.Seq.{getD-set-same, getD-set-other}
@@ -199,7 +200,7 @@ module _ {g : Graph} {p i : ℕ} {s : State} (sane : Sane g p s) (fixed : Fixed 
     range-now t h =
         place-each (λ t x. (x ≡ nil .0) ⊎ (x < p)) (s .tids) T owner 0 (omega (arith, unfixed-task, sane .tids)) (inr below) t (fixed .range t h)
 
-  first-fixed : {capacity : ℕ} {s′ : State} {o : WeakOutcome} → p ≤ nil .0 → AllocatesFirst p capacity i s s′ o → Fixed g p s′
+  first-fixed : {C : ℕ → Type 0} {W : ℕ → ℤ} {capacity : ℕ} {s′ : State} {o : WeakOutcome} → p ≤ nil .0 → AllocatesFirst C W p capacity i s s′ o → Fixed g p s′
   first-fixed few f =
       rw (f .after) (record {
         range = range-now few (f .task) (f .owner) (f .unfixed) below;

@@ -6,7 +6,7 @@ use mathlib.Core.Logic.{_⊎_, inl, inr}
 use mathlib.Core.List.{List, [], _∷_, map}
 use native.Mathlib.Omega.{arith}
 use native.Mathlib.Decide.{ℕ-discrete, decLt}
-use lib.ListN.{length, length-append, length-drop, length-map}
+use lib.ListN.{length, getD, length-append, length-drop, length-map}
 use lib.Seq.{drop-nil}
 use Rattle.lists.specs.Lists.{allOf}
 use Rattle.lists.proofs.Apart.{cons-not-nil}
@@ -23,8 +23,11 @@ use Rattle.weak_task.specs.Says.{stepSays}
 use Rattle.weak_task.specs.declared.WeakRow.{WeakRow}
 use Rattle.weak_task.specs.declared.WeakOutcome.{WeakOutcome}
 use Rattle.ring.specs.Ring.{Full}
-use Rattle.choice.specs.Least.{load, least}
-use Rattle.choice.proofs.Least.{least-worker}
+use Rattle.choice.specs.Least.{Least}
+use Rattle.choice.specs.Form.{Form}
+use Rattle.choice.proofs.Form.{Chooses, target-is}
+use Rattle.plans.specs.Forms.{targetBy, own}
+use Rattle.plans.proofs.Forms.{own-chooses}
 use Rattle.memory.specs.Family.{Places}
 use Rattle.memory.specs.Field as list
 use Rattle.weak_rules.specs.Memory.{Mem, tasks, edges, graphIn, ringNumber, endsIn, counterIn, fixedIn, rowIn, succCount, rootsWord, entriesIn, oldest, successor}
@@ -170,9 +173,17 @@ module _ {limits : Limits} {p k : ℕ} {m : Mem} (h : Honest limits p k m) (w : 
           (rw (successor-at m (oldest m i) (rowIn m i .cursor) cursor) at
           (at-occ ℕ-discrete 0 (successorsIn m (oldest m i)) (rowIn m i .cursor) (omega (arith, cursor, count))))
 
-  -- no search for room comes to damaged ends
-  pub room-sound : (j : ℕ) → ¬ (BadEnds p k (Full k) (offeredEnds p i m j))
-  room-sound = rings.room-sound (h .fits) (h .words .ends) i worker
+  -- A Release by form f: the owners offered are workers
+  module _ (f : Form) (chooses : Chooses p f) where
+    offered-workers : (j : ℕ) → f .Candidate j → (e : ℕ) → e < length (f .offered j) → getD (f .offered j) e 0 < p
+    offered-workers j c e l = chooses .below (getD (f .offered j) e 0) (chooses .offers j c .taken e l .candidate)
+
+    -- no search for room comes to damaged ends
+    pub room-sound : (j : ℕ) → f .Candidate j → ¬ (BadEnds (length (f .offered j)) k (Full k) (offeredEnds p i m (f .offered j)))
+    room-sound j c = rings.room-sound (h .fits) (h .words .ends) i worker (f .offered j) (offered-workers j c)
+
+  pub chooses-own : Chooses p (own p m)
+  chooses-own = own-chooses p m (h .fits .limits .oneWorker) (h .fits .lengths .list list.counters)
 
   -- a task is fixed to none of the workers, or to one of the P
   pub fixed-range : (t : ℕ) → t < tasks m → (fixedIn m t ≡ nil .0) ⊎ (fixedIn m t < p)
@@ -185,47 +196,54 @@ module _ {limits : Limits} {p k : ℕ} {m : Mem} (h : Honest limits p k m) (w : 
     unfolding stateOf
     room-at o owner = rings.empty-room (h .fits) (h .words .ends) i worker (recordIn m) o owner (none o owner)
 
-    room-first : (j : ℕ) → StopsAt p k (Full k) (offeredEnds p i m j) 0
-    unfolding stateOf
-    room-first = rings.room-first (h .fits) (h .words .ends) i worker (recordIn m) none
+    -- a Release by form f finds what it asks for, where the words that it reads are good
+    module _ (f : Form) (chooses : Chooses p f) where
+      room-first : (j : ℕ) → f .Candidate j → StopsAt (length (f .offered j)) k (Full k) (offeredEnds p i m (f .offered j)) 0
+      unfolding stateOf
+      room-first j c =
+          let (e, l, _) = chooses .offers j c .every j c in
+          rings.room-first (h .fits) (h .words .ends) i worker (recordIn m) none (f .offered j) (offered-workers f chooses j c) (omega (arith, l))
 
-    -- and the run isn't finished
-    pub release-live : entriesIn m < edges m + rootsWord m → (c : Copy) (rest : List Copy) → handOf (threadOf (stateOf p k m) i) ≡ idle
-        → pendingIn (stateOf p k m) i ≡ c ∷ rest → Acceptance (stepSays (step limits p k i Release m .answer))
-    release-live free c rest hand pending =
-        let (to, common) = releasing (pending-some c rest pending) in
-        go to common (fixed-range (successor m i) (common .below))
-      where
-        accepts : (o : WeakOutcome) (us : List Update) → Releases p k i m o us → Acceptance (stepSays (step limits p k i Release m .answer))
-        accepts o us r =
-            allowed-accepted limits p k i Release m o us
-            (record { fits = h .fits; worker = worker; phase = row-phase h i worker idle hand; roots = few-roots h; low = low h free; made = r })
+      pub release-made : (to : Places) → Releasing i m to → ¬ (f .Damaged) → ((o : ℕ) → f .Candidate o → ¬ (f .DamagedAt (ringNumber p o i)))
+          → (o : WeakOutcome) × (us : List Update) × Releases f p k i m o us
+      release-made to common good used = go (fixed-range (successor m i) (common .below))
+        where
+          j : ℕ
+          j = targetBy f
 
-        go : (to : Places) → Releasing i m to → (FirstCopy m i) ⊎ (fixedIn m (successor m i) < p)
-            → Acceptance (stepSays (step limits p k i Release m .answer))
-        go to common (inl e) =
-            let j = least (allOf p) (load p (m .counters)) in
-            accepts _ _
-            (first (record {
+          least-j : Least (f .Candidate) (f .sum) j
+          least-j = target-is chooses good .0
+
+          front : f .Candidate (getD (f .offered j) 0 0)
+          front = chooses .offers j (least-j .candidate) .taken 0 (room-first j (least-j .candidate) .inside) .candidate
+
+          go : (FirstCopy m i) ⊎ (fixedIn m (successor m i) < p) → (o : WeakOutcome) × (us : List Update) × Releases f p k i m o us
+          go (inl e) = (
+            _,
+            _,
+            first (record {
               to = to;
               common = common;
               first = e;
-              counters = counters-good w;
+              undamaged = good;
               target = j;
-              least = least-worker p (load p (m .counters)) (h .fits .limits .oneWorker) .0;
-              distance = 0;
-              stop = room-first j;
-              owner = (j + 0) % p;
+              least = least-j;
+              place = 0;
+              stop = room-first j (least-j .candidate);
+              owner = getD (f .offered j) 0 0;
               ownerIs = refl;
-              ring = ringNumber p ((j + 0) % p) i;
+              ring = ringNumber p (getD (f .offered j) 0 0) i;
               ringIs = refl;
+              counter = used (getD (f .offered j) 0 0) front;
               light = h .graph .light (successor m i) (common .below);
               outcome = refl;
               updates = refl;
-            }))
-        go to common (inr l) =
-            accepts _ _
-            (later (record {
+            }),
+          )
+          go (inr l) = (
+            _,
+            _,
+            later (record {
               to = to;
               common = common;
               owner = fixedIn m (successor m i);
@@ -238,7 +256,17 @@ module _ {limits : Limits} {p k : ℕ} {m : Mem} (h : Honest limits p k m) (w : 
               room = room-at (fixedIn m (successor m i)) l;
               outcome = refl;
               updates = refl;
-            }))
+            }),
+          )
+
+    -- and the run isn't finished
+    pub release-live : entriesIn m < edges m + rootsWord m → (c : Copy) (rest : List Copy) → handOf (threadOf (stateOf p k m) i) ≡ idle
+        → pendingIn (stateOf p k m) i ≡ c ∷ rest → Acceptance (stepSays (step limits p k i Release m .answer))
+    release-live free c rest hand pending =
+        let (to, common) = releasing (pending-some c rest pending) in
+        let (o, us, r) = release-made (own p m) chooses-own to common (counters-good w) (λ _ _ b. b) in
+        allowed-accepted limits p k i Release m o us
+        (record { fits = h .fits; worker = worker; phase = row-phase h i worker idle hand; roots = few-roots h; low = low h free; made = r })
 
 -- "and in an unfinished one some worker has a step that would be accepted next"
 pub some-step : {limits : Limits} {p k : ℕ} {m : Mem} → Honest limits p k m → Ranges p m → entriesIn m < edges m + rootsWord m

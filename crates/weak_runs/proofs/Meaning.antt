@@ -5,6 +5,7 @@ use mathlib.Core.Path.{_≡_, refl, sym, ap, _∙_}
 use mathlib.Core.Bool.{Bool, cond}
 use mathlib.Core.List.{List, [], _∷_, _++_, map, append-nil, append-assoc}
 use native.Mathlib.Omega.{arith}
+use lib.IntN.{ℤ}
 use lib.ListN.{length, getD, drop, length-append, length-map, drop-of-length-le}
 use lib.Seq.{drop-append-le}
 use Rattle.lists.proofs.Told.{Told, told-true, told-false, same-told}
@@ -146,7 +147,7 @@ module _ {p i : ℕ} {s s′ : State} (worker : i < p) (shaped : Shaped p (s .li
   pub start-acts : Starts i s s′ o → Acts noItem p i (s .lists) (s′ .lists) (executing (threadOf s i))
   start-acts f = acts worker shaped (rw (f .after)) (rw (f .after))
 
-  pub first-acts : {capacity : ℕ} (f : AllocatesFirst p capacity i s s′ o) → Acts noItem p i (s .lists) (s′ .lists) (f .next)
+  pub first-acts : {C : ℕ → Type 0} {W : ℕ → ℤ} {capacity : ℕ} (f : AllocatesFirst C W p capacity i s s′ o) → Acts noItem p i (s .lists) (s′ .lists) (f .next)
   first-acts f = acts worker shaped (rw (f .after)) (rw (f .after))
 
   pub later-acts : {capacity : ℕ} (f : AllocatesLater p capacity i s s′ o) → Acts noItem p i (s .lists) (s′ .lists) (f .next)

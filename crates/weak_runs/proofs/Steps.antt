@@ -5,6 +5,7 @@ use mathlib.Core.List.{List, [], _∷_, _++_, map, append-nil}
 use native.Mathlib.Omega.{arith}
 use native.Mathlib.Nat.{mod-lt}
 use native.Mathlib.Decide.{ℕ-discrete}
+use lib.IntN.{ℤ}
 use lib.ListN.{length, getD, set, length-set}
 use lib.Seq.{getD-set-same, getD-set-other}
 use Rattle.lists.specs.Decided.{tally}
@@ -369,11 +370,11 @@ module _ (g : Graph) (sound : Sound g) (once : NoneTwice g) (p i : ℕ) (worker 
             (λ u h. rw (d, same) (sane .left u h))
 
       module _ {o : WeakOutcome} {capacity : ℕ} where
-        first-weak : AllocatesFirst p capacity i s s′ o → Weak g p after
+        first-weak : {C : ℕ → Type 0} {W : ℕ → ℤ} → AllocatesFirst C W p capacity i s s′ o → Weak g p after
         first-weak f =
             released-weak (first-acts worker (sane .shaped) f) (f .pass) (f .owner) (first-lt (f .room)) (rw (f .after)) (rw (f .after))
 
-        first-sane : AllocatesFirst p capacity i s s′ o → Sane g p s′
+        first-sane : {C : ℕ → Type 0} {W : ℕ → ℤ} → AllocatesFirst C W p capacity i s s′ o → Sane g p s′
         first-sane f =
             released-sane (first-acts worker (sane .shaped) f) (f .pass) (f .owner) (first-lt (f .room)) (rw (f .after)) (rw (f .after)) (rw (f .after))
             (rw (f .after) (length-set (s .tids) (f .task) (f .owner))) (rw (f .after) (even-with (sane .shaped .counters) (f .owner) i _))

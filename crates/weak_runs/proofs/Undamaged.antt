@@ -27,6 +27,7 @@ use Rattle.ring.specs.Ring.{Sound}
 use Rattle.memory.specs.Family.{Places}
 use Rattle.weak_rules.specs.Memory.{Mem, tasks, edges, ringNumber, endsIn, counterIn, degreeIn, fixedIn, rowIn, held, rootsWord, entriesIn, successor}
 use Rattle.weak_rules.specs.Steps.{step}
+use Rattle.plans.specs.Forms.{own}
 use Rattle.weak_rules.specs.Tables.{BadRange, FirstCopy, LaterCopy, countRows, fetchRows, completeRows, releaseRows, ownRows, stepRows}
 use Rattle.weak_rules.specs.Moves.{Ranged, Releasing}
 use Rattle.weak_rules.proofs.Begin.{begin-follows}
@@ -42,7 +43,7 @@ use Rattle.weak_runs.proofs.Calls.{graph-reached, tasks-reached, edges-
 use Rattle.weak_runs.proofs.Live.{Ranges, within-range, few-roots, low, ends-sound, task-ranged}
 use Rattle.weak_runs.proofs.Live.{row-pointer, next-good, scan-sound, held-copy, held-good, held-degree, entry-free, few-places, open-room}
 use Rattle.weak_runs.proofs.Full.{rest-phase, rest-buffer, rest-scan}
-use Rattle.weak_runs.proofs.LiveRelease.{counters-good, places-good, releasing, room-sound, fixed-range}
+use Rattle.weak_runs.proofs.LiveRelease.{counters-good, places-good, releasing, room-sound, chooses-own, fixed-range}
 
 harmless-says : {rows : List Refusal} {said : Said} → Follows rows said → Harmless rows → NoDamage said
 harmless-says f s =
@@ -113,7 +114,7 @@ module _ {limits : Limits} {p k : ℕ} {m : Mem} (h : Honest limits p k m) (w : 
     later-sound : ¬ ((o : ℕ) × LaterCopy p m i o × ¬ (Sound k (endsIn m (ringNumber p o i))))
     later-sound (o, l, bad) = bad (ends-sound h o (l .1) i worker)
 
-    release-harmless : Harmless (releaseRows p k i m)
+    release-harmless : Harmless (releaseRows (own p m) p k i m)
     release-harmless =
         failing-row (λ d c. places-good h w i worker (c .1))
         (ordinary-row (omega arith) (λ some.
@@ -124,11 +125,12 @@ module _ {limits : Limits} {p k : ℕ} {m : Mem} (h : Honest limits p k m) (w : 
         (failing-row (λ d c. omega (arith, c .1, found .below))
         (failing-row (λ d c. fixed-good (found .below) (c .1))
         (failing-row (λ d c. counters-good w (c .1 .1))
-        (failing-row (λ d c. room-sound h w i worker (c .1 .1 .0) (c .1 .1 .2))
+        (failing-row (λ d c. room-sound h w i worker (own p m) (chooses-own h w i worker) (c .1 .1 .0) (c .1 .1 .1 .candidate) (c .1 .1 .2))
         (failing-row (λ d c. later-sound (c .1))
         (ordinary-row (omega arith) (λ _.
-        failing-row (λ d c. omega (arith, c .1 .1, h .graph .light (successor m i) (found .below)))
-        (count-harmless (λ f. some 0 (refl, rest-buffer h f i worker w))))))))))))))
+        failing-row (λ d c. c .1 .1 .3)
+        (failing-row (λ d c. omega (arith, c .1 .1, h .graph .light (successor m i) (found .below)))
+        (count-harmless (λ f. some 0 (refl, rest-buffer h f i worker w)))))))))))))))
       where
         finds : ¬ (rowIn m i .read ≡ rowIn m i .write) → (to : Places) × Releasing i m to
         finds n = releasing h w i worker (omega (arith, n, h .words .places i worker))

@@ -5,6 +5,7 @@ use mathlib.Core.Path.{_≡_, refl, sym, ap, _∙_}
 use mathlib.Core.List.{List, [], _∷_, _++_}
 use native.Mathlib.Omega.{arith}
 use native.Mathlib.Decide.{ℕ-discrete}
+use lib.IntN.{ℤ}
 use lib.ListN.{length, getD, set, length-append}
 use lib.Seq.{getD-set-same, getD-set-other}
 use Rattle.lists.specs.Lists.{occ, occOf}
@@ -177,7 +178,7 @@ module _ {g : Graph} {p i : ℕ} {s : State} (sane : Sane g p s) (unmade : Unmad
         });
       })
 
-  first-unmade : {capacity : ℕ} {s′ : State} {o : WeakOutcome} → AllocatesFirst p capacity i s s′ o → Unmade g p s′
+  first-unmade : {C : ℕ → Type 0} {W : ℕ → ℤ} {capacity : ℕ} {s′ : State} {o : WeakOutcome} → AllocatesFirst C W p capacity i s s′ o → Unmade g p s′
   first-unmade f =
       rw (f .after) (record {
         before = λ t h n. go t h (ℕ-discrete t (f .task)) (n .waiting (f .owner) i new below worker) (record {
