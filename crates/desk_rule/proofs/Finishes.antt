@@ -20,7 +20,6 @@ use Rattle.task.specs.declared.Step.the-variants.{Fetch, Start, Complete, Relea
 use Rattle.task.specs.declared.StepOutcome.{StepOutcome}
 use Rattle.task.specs.declared.StepAnswer.{StepAnswer}
 use Rattle.task.specs.declared.StepAnswer.the-variants.{Refused, Accepted}
-use Rattle.machine.specs.Jobs as jobs
 use Rattle.machine.specs.Machine as machine
 use Rattle.machine.proofs.Lists.{memory-on}
 use Rattle.layout.specs.Marks.{Each}
@@ -33,7 +32,7 @@ use Rattle.rules.proofs.Untouched.{refused-step}
 use Rattle.rules.proofs.Moves.{accepted-step}
 use Rattle.rules.proofs.Moved.{counts}
 use Rattle.rules.proofs.Words.{all-steps-are}
-use Rattle.runs.specs.Calls.{Call, leaves, plain, memoryAfter, begunMemory, Run, eventsOf}
+use Rattle.runs.specs.Calls.{Call, plain, memoryAfter, begunMemory, Run, eventsOf}
 use Rattle.runs.specs.Demand.{acceptedCompletes, Finished, nextSays}
 use Rattle.runs.proofs.Calls.{tasks-reached, preds-reached}
 use Rattle.runs.proofs.Demand.{demand-3, finished-full, finished-count}
@@ -79,7 +78,7 @@ turned i (s ∷ ss) m = go (answerOf i s m) refl (turned i ss m)
 
 -- what the calls of a turn leave
 turn-calls : (i : ℕ) (ss : List Step) (m : Mem) → memoryAfter (turnCalls i ss m) m ≡ turn engine 2 4 i ss m
-unfolding turnCalls turn machine.memoryAfter jobs.leaves
+unfolding turnCalls turn machine.memoryAfter
 turn-calls i [] m = refl
 turn-calls i (s ∷ ss) m = go (answerOf i s m) refl (turn-calls i ss (left i s m))
   where

@@ -4,7 +4,7 @@ use Prim.Native.Nat.{ℕ}
 use mathlib.Core.Path.{_≡_}
 use mathlib.Core.List.{[]}
 use lib.ListN.{take}
-use Rattle.runs.specs.Calls.{plainCalls, Run, memoryOf, eventsOf}
+use Rattle.runs.specs.Calls.{plain, Run, memoryOf, eventsOf}
 use Rattle.runs.specs.Demand.{Finished, OneRun, OneGraph, Exchanges}
 use Rattle.runs.specs.Hosted.{Hosting, eventsSeen, Hosted}
 use Rattle.runs.specs.HostedFair.{HostedFair}
@@ -17,7 +17,7 @@ use Rattle.hosts.proofs.Made.{Linked}
 use Rattle.hosts.proofs.Made as made
 use Rattle.hosts.proofs.Exported.{exported-step, exported-begin, exported-lookup}
 
-pub linked : Linked plainCalls stepHeard Contract
+pub linked : Linked plain stepHeard Contract
 linked =
     record {
       step = λ limits p k i s r m m′ contract. exported-step m limits p k i s r m′ contract;
@@ -27,11 +27,11 @@ linked =
     }
 
 abbrev pub hostingOf : Exporting → Hosting
-hostingOf = made.hostingOf plainCalls stepHeard Contract linked
+hostingOf = made.hostingOf plain stepHeard Contract linked
 
 -- the run of this begin and the first n calls (all of them, from their number on)
 abbrev pub runMade : Exporting → ℕ → Run
-runMade = made.runMade plainCalls stepHeard Contract linked
+runMade = made.runMade plain stepHeard Contract linked
 
 pub record ExportsRun (e : Exporting) : Type 0 where
   -- the run's words are those that the calls left, and its events the calls with their replies
@@ -48,8 +48,8 @@ pub record ExportsRun (e : Exporting) : Type 0 where
 pub exports-run : (e : Exporting) → ExportsRun e
 exports-run e =
     record {
-      words = made.words-made plainCalls stepHeard Contract linked e;
-      events = made.events-made plainCalls stepHeard Contract linked e;
+      words = made.words-made plain stepHeard Contract linked e;
+      events = made.events-made plain stepHeard Contract linked e;
       hosted = hosted (hostingOf e);
       fair = hosted-fair (hostingOf e);
       one = λ n. demand-3 .one (runMade e n);

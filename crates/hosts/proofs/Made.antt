@@ -10,7 +10,9 @@ use Rattle.task.specs.Refusals.{Said, accepted}
 use Rattle.task.specs.declared.Limits.{Limits}
 use Rattle.task.specs.declared.Side.{Side}
 use Rattle.task.specs.declared.Step.{Step}
-use Rattle.machine.specs.Jobs.{Call, stepCall, beginCall, lookupCall, Engine, machineOf, Run, memoryOf, eventsOf}
+use Rattle.machine.specs.Machine.{Machine}
+use Rattle.machine.specs.Runs.{Run, memoryOf, eventsOf}
+use Rattle.machine.specs.Jobs.{Call, stepCall, beginCall, lookupCall}
 use Rattle.machine.specs.Seen.{Seen, seenAs, callsMade, lastLeft, Link, Chained, eventsSeen}
 use Rattle.machine.specs.Hosted.{Hosting, begin-accepts}
 use Rattle.machine.proofs.Hosted.{hosted}
@@ -20,35 +22,35 @@ use Rattle.hosts.specs.Made.{Export, stepMade, beginMade, lookupMade, re
 use Rattle.hosts.proofs.Heard.{heard-zero}
 
 -- each contract is a link
-pub record Linked {M R : Type 0} (on : Engine M) (stepHeard : R → Said) (Contract : M → Export R → M → Type 0) : Type 0 where
+pub record Linked {M R : Type 0} (on : Machine M Call) (stepHeard : R → Said) (Contract : M → Export R → M → Type 0) : Type 0 where
   pub step : (limits : Limits) (p k i : ℕ) (s : Step) (r : R) (m m′ : M) → Contract m (stepMade limits p k i s r) m′
-      → Link (machineOf on) m (seenAs (stepCall limits p k i s) (stepHeard r) m′)
+      → Link on m (seenAs (stepCall limits p k i s) (stepHeard r) m′)
   pub begin : (limits : Limits) (p k : ℕ) (r : Reply) (m m′ : M) → Contract m (beginMade limits p k r) m′
-      → Link (machineOf on) m (seenAs (beginCall limits p k) (heard r) m′)
+      → Link on m (seenAs (beginCall limits p k) (heard r) m′)
   pub lookup : (side : Side) (t : ℕ) (r : Reply) (m m′ : M) → Contract m (lookupMade side t r) m′
-      → Link (machineOf on) m (seenAs (lookupCall side t) (heard r) m′)
+      → Link on m (seenAs (lookupCall side t) (heard r) m′)
   pub reading : (m m′ : M) → Contract m readingMade m′ → m′ ≡ m
 
-module _ {M R : Type 0} (on : Engine M) (stepHeard : R → Said) (Contract : M → Export R → M → Type 0) (linked : Linked on stepHeard Contract) where
+module _ {M R : Type 0} (on : Machine M Call) (stepHeard : R → Said) (Contract : M → Export R → M → Type 0) (linked : Linked on stepHeard Contract) where
   -- one call more, in front of a chain
-  chained-more : (c : Export R) (m m′ : M) (later : List (Seen M Call)) → Contract m c m′ → Chained (machineOf on) m′ later
-      → Chained (machineOf on) m (heardOf stepHeard c m′ later)
+  chained-more : (c : Export R) (m m′ : M) (later : List (Seen M Call)) → Contract m c m′ → Chained on m′ later
+      → Chained on m (heardOf stepHeard c m′ later)
   chained-more (stepMade limits p k i s r) m m′ later contract rest = (linked .step limits p k i s r m m′ contract, rest)
   chained-more (beginMade limits p k r) m m′ later contract rest = (linked .begin limits p k r m m′ contract, rest)
   chained-more (lookupMade side t r) m m′ later contract rest = (linked .lookup side t r m m′ contract, rest)
   chained-more readingMade m m′ later contract rest = rw (linked .reading m m′ contract) at rest
 
-  pub exports-chained : (made : List (Made M R)) (m : M) → Exports Contract m made → Chained (machineOf on) m (heardAll stepHeard made)
+  pub exports-chained : (made : List (Made M R)) (m : M) → Exports Contract m made → Chained on m (heardAll stepHeard made)
   unfolding heardAll
   exports-chained [] m e = tt
   exports-chained (c ∷ rest) m e = chained-more (c .export) m (c .left) (heardAll stepHeard rest) (e .0) (exports-chained rest (c .left) (e .1))
 
   -- begin answered 0 is the accepted begin that a run starts at
   pub accepted-start : (limits : Limits) (p k : ℕ) (r : Reply) (m m′ : M) → Contract m (beginMade limits p k r) m′ → _≡_ {A = ℕ} (r .number) 0
-      → Link (machineOf on) m (seenAs (beginCall limits p k) accepted m′)
+      → Link on m (seenAs (beginCall limits p k) accepted m′)
   accepted-start limits p k r m m′ contract e = rw (heard-zero r e) at (linked .begin limits p k r m m′ contract)
 
-  abbrev pub hostingOf : Exporting Contract → Hosting on
+  abbrev pub hostingOf : Exporting Contract → Hosting on beginCall
   hostingOf e =
       record {
         limits = e .limits;
@@ -83,14 +85,14 @@ module _ {M R : Type 0} (on : Engine M) (stepHeard : R → Said) (Contract : M �
       }
 
   -- the run of this begin and the first n calls (all of them, from their number on)
-  abbrev pub runMade : Exporting Contract → ℕ → Run on
+  abbrev pub runMade : Exporting Contract → ℕ → Run on beginCall
   runMade e n =
       record {
         limits = e .limits;
         workers = e .workers;
         slots = e .slots;
         lent = e .lent;
-        accepts = begin-accepts on (e .limits) (e .workers) (e .slots) (e .lent) (e .begun) (hostingOf e .begins);
+        accepts = begin-accepts on beginCall (e .limits) (e .workers) (e .slots) (e .lent) (e .begun) (hostingOf e .begins);
         calls = callsMade (heardAll stepHeard (take n (e .made)));
       }
 
@@ -114,10 +116,10 @@ module _ {M R : Type 0} (on : Engine M) (stepHeard : R → Said) (Contract : M �
     all-heard : (n : ℕ) → take (length (heardFirst n)) (heardFirst n) ≡ heardFirst n
     all-heard n = take-all (length (heardFirst n)) (heardFirst n) (omega arith)
 
-    pub words-made : (n : ℕ) → memoryOf on (runMade e n) ≡ wordsMade (e .begun) (take n (e .made))
+    pub words-made : (n : ℕ) → memoryOf on beginCall (runMade e n) ≡ wordsMade (e .begun) (take n (e .made))
     words-made n =
-        rw (all-heard n) at (hosted on (hostingOf (firstMade e n)) .words (length (heardFirst n)))
+        rw (all-heard n) at (hosted on beginCall (hostingOf (firstMade e n)) .words (length (heardFirst n)))
         ∙ last-heard (take n (e .made)) (e .begun) (firstMade e n .exports)
 
-    pub events-made : (n : ℕ) → eventsOf on (runMade e n) ≡ eventsSeen (machineOf on) (heardAll stepHeard (take n (e .made))) []
-    events-made n = rw (all-heard n) at (hosted on (hostingOf (firstMade e n)) .events (length (heardFirst n)))
+    pub events-made : (n : ℕ) → eventsOf on beginCall (runMade e n) ≡ eventsSeen on (heardAll stepHeard (take n (e .made))) []
+    events-made n = rw (all-heard n) at (hosted on beginCall (hostingOf (firstMade e n)) .events (length (heardFirst n)))

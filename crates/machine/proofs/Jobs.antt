@@ -58,14 +58,13 @@ module _ {M : Type 0} (on : Engine M) where
     step-began i s = refl
 
     pub begin-began : on .beginSays limits p k m ≡ accepted → began (machineOf on) (eventOf (machineOf on) (beginCall limits p k) m) ≡ true
-    unfolding began says
+    unfolding began
     begin-began e = ap acceptedSaid e
 
 module _ {M : Type 0} {on : Engine M} {Fit : ℕ → ℕ → M → Type 0} (laws : Laws on Fit) where
   module _ (p k : ℕ) (m : M) (fit : Fit p k m) where
     -- every step call is an accepted step with begin's P and K, or leaves the memory
     step-did : (limits : Limits) (p′ k′ i : ℕ) (s : Step) → Did on p k m (stepCall limits p′ k′ i s)
-    unfolding says leaves
     step-did limits p′ k′ i s = go (on .stepSays limits p′ k′ i s m) refl
       where
         go : (said : Said) → on .stepSays limits p′ k′ i s m ≡ said → Did on p k m (stepCall limits p′ k′ i s)
@@ -76,7 +75,6 @@ module _ {M : Type 0} {on : Engine M} {Fit : ℕ → ℕ → M → Type 0} (laws
             rw (ep, ek) (steps limits i s (rw (sym ep, sym ek) a))
 
     begin-did : (limits : Limits) (p′ k′ : ℕ) → Did on p k m (beginCall limits p′ k′)
-    unfolding says leaves
     begin-did limits p′ k′ = go (on .beginSays limits p′ k′ m) refl
       where
         go : (said : Said) → on .beginSays limits p′ k′ m ≡ said → Did on p k m (beginCall limits p′ k′)
@@ -87,13 +85,11 @@ module _ {M : Type 0} {on : Engine M} {Fit : ℕ → ℕ → M → Type 0} (laws
             rw (ep, ek) (starts limits (rw (sym ep, sym ek) (laws .beginPlain limits p′ k′ m a)))
 
     pub did : (c : Call) → Did on p k m c
-    unfolding leaves
     did (stepCall limits p′ k′ i s) = step-did limits p′ k′ i s
     did (beginCall limits p′ k′) = begin-did limits p′ k′
     did (lookupCall side t) = stays _ (looks side t _) refl
 
     pub fit-kept : (c : Call) → Fit p k (leaves on c m)
-    unfolding leaves
     fit-kept c = go c (did c)
       where
         go : (c : Call) → Did on p k m c → Fit p k (leaves on c m)
@@ -113,7 +109,7 @@ module _ {M : Type 0} {on : Engine M} {Fit : ℕ → ℕ → M → Type 0} (laws
     -- then every call keeps it
     each : (c : Call) (m : M) (past : List (Event Call)) → Fit p k m × I m past
         → Fit p k (leaves on c m) × I (leaves on c m) (recalled (machineOf on) (eventOf (machineOf on) c m) past)
-    unfolding recalled leaves
+    unfolding recalled
     each c m past (l, h) = (fit-kept p k m l c, go c (did p k m l c))
       where
         go : (c : Call) → Did on p k m c → I (leaves on c m) (recalled (machineOf on) (eventOf (machineOf on) c m) past)
@@ -132,7 +128,6 @@ module _ {M : Type 0} {on : Engine M} {Fit : ℕ → ℕ → M → Type 0} (laws
       (stepped : (limits : Limits) (m : M) (i : ℕ) (s : Step) → f (on .stepLeaves limits p k i s m) ≡ f m)
       (begun : (limits : Limits) (m : M) → on .beginSays limits p k m ≡ accepted → f (on .beginLeaves limits p k m) ≡ f m) where
     call-unwritten : (m : M) (c : Call) → Did on p k m c → f (leaves on c m) ≡ f m
-    unfolding leaves
     call-unwritten m c (stays _ q e) = ap f e
     call-unwritten m _ (steps limits i s a) = stepped limits m i s
     call-unwritten m _ (starts limits e) = begun limits m e
@@ -160,7 +155,6 @@ module _ {M : Type 0} {on : Engine M} {Fit : ℕ → ℕ → M → Type 0} (laws
   onward (lookupCall side t) e = unequal cc
 
   stays-still : (c : Call) (m : M) → acceptedSaid (says on c m) ≡ false → leaves on c m ≡ m
-  unfolding says leaves
   stays-still (stepCall limits p k i s) m = go (on .stepSays limits p k i s m) refl
     where
       go : (said : Said) → on .stepSays limits p k i s m ≡ said → acceptedSaid said ≡ false → on .stepLeaves limits p k i s m ≡ m
@@ -174,7 +168,6 @@ module _ {M : Type 0} {on : Engine M} {Fit : ℕ → ℕ → M → Type 0} (laws
   stays-still (lookupCall side t) m = λ _. refl
 
   looks-still : (c : Call) (m : M) → kindOf c ≡ lookup → leaves on c m ≡ m
-  unfolding leaves
   looks-still (stepCall limits p k i s) m e = unequal cc
   looks-still (beginCall limits p k) m e = unequal cc
   looks-still (lookupCall side t) m e = refl

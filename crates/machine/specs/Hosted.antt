@@ -1,14 +1,15 @@
--- What a host sees of a family's calls from an accepted begin on, one after the other on the lent lists, is a run.
+-- What a host sees of a machine's calls from an accepted begin on, one after the other on the lent lists, is a run.
 use Prim.Native.Nat.{ℕ}
 use mathlib.Core.Path.{_≡_, sym}
 use mathlib.Core.List.{List, []}
 use lib.ListN.{take}
 use Rattle.task.specs.Refusals.{accepted}
 use Rattle.task.specs.declared.Limits.{Limits}
+use Rattle.machine.specs.Machine.{Machine}
 use Rattle.machine.specs.Seen.{Seen, seenAs, callsMade, lastLeft, Link, Chained, eventsSeen}
-use Rattle.machine.specs.Jobs.{Call, beginCall, Engine, says, machineOf, Run, memoryOf, eventsOf}
+use Rattle.machine.specs.Runs.{Run, memoryOf, eventsOf}
 
-module _ {M : Type 0} (on : Engine M) where
+module _ {M C : Type 0} (on : Machine M C) (beginBy : Limits → (p k : ℕ) → C) where
   -- what a host sees from an accepted begin on
   pub record Hosting : Type 0 where
     -- begin's own
@@ -18,17 +19,16 @@ module _ {M : Type 0} (on : Engine M) where
     -- the words before begin, and after it
     pub lent : M
     pub begun : M
-    pub begins : Link (machineOf on) lent (seenAs (beginCall limits workers slots) accepted begun)
-    pub seen : List (Seen M Call)
-    pub chained : Chained (machineOf on) begun seen
+    pub begins : Link on lent (seenAs (beginBy limits workers slots) accepted begun)
+    pub seen : List (Seen M C)
+    pub chained : Chained on begun seen
 
-  pub begin-accepts : (limits : Limits) (p k : ℕ) (m b : M) → Link (machineOf on) m (seenAs (beginCall limits p k) accepted b)
-      → on .beginSays limits p k m ≡ accepted
-  unfolding says
+  pub begin-accepts : (limits : Limits) (p k : ℕ) (m b : M) → Link on m (seenAs (beginBy limits p k) accepted b)
+      → on .says (beginBy limits p k) m ≡ accepted
   begin-accepts limits p k m b l = sym (l .answered)
 
   -- the run of this begin and the first n calls (all of them, from their number on), and the words that the host saw then
-  abbrev pub runAfter : Hosting → ℕ → Run on
+  abbrev pub runAfter : Hosting → ℕ → Run on beginBy
   runAfter h n =
       record {
         limits = h .limits;
@@ -45,5 +45,5 @@ module _ {M : Type 0} (on : Engine M) where
   -- PROMISE: an accepted begin and the calls after it, as a host sees them, are a run, and so they were after each of the calls: what is promised of
   -- every run is true of the words and answers seen, on the way and in the end
   pub record Hosted (h : Hosting) : Type 0 where
-    pub words : (n : ℕ) → memoryOf on (runAfter h n) ≡ wordsAfter h n
-    pub events : (n : ℕ) → eventsOf on (runAfter h n) ≡ eventsSeen (machineOf on) (take n (h .seen)) []
+    pub words : (n : ℕ) → memoryOf on beginBy (runAfter h n) ≡ wordsAfter h n
+    pub events : (n : ℕ) → eventsOf on beginBy (runAfter h n) ≡ eventsSeen on (take n (h .seen)) []

@@ -1,17 +1,18 @@
--- Begin, the four steps and the lookup of a family of jobs, as calls, and its runs: "A run starts at an accepted begin .. A list of calls follows: Fetch,
+-- Begin, the four steps and the lookup of a family of jobs, as calls: "A run starts at an accepted begin .. A list of calls follows: Fetch,
 -- Start, Complete and Release with any worker, P and K, accepted or refused, and refused begins. Each finds the words that the last one left; a
 -- lookup in between writes nothing." Each call has limits of its own, as the engine's or the preview's.
 use Prim.Native.Nat.{ℕ}
-use mathlib.Core.Path.{_≡_}
 use mathlib.Core.Bool.{Bool, true, false, cond}
-use mathlib.Core.List.{List, [], _++_}
+use mathlib.Core.List.{List}
 use lib.Dec.{eqb}
-use Rattle.task.specs.Refusals.{Said, accepted}
+use Rattle.task.specs.Refusals.{Said}
 use Rattle.task.specs.declared.Limits.{Limits}
 use Rattle.task.specs.declared.Side.{Side}
 use Rattle.task.specs.declared.Step.{Step}
 use Rattle.task.specs.declared.Step.the-variants.{Fetch, Start, Complete, Release}
-use Rattle.machine.specs.Machine.{Kind, beginning, forward, lookup, Machine, Event, memoryAfter, eventsAfter, acceptedOf}
+use Rattle.machine.specs.Machine.{Kind, beginning, forward, lookup, Machine, Event, acceptedOf}
+use Rattle.machine.specs.Runs as runs
+use Rattle.machine.specs.Runs.{View}
 
 pub data Call : Type 0 where
   stepCall : Limits → (p k worker : ℕ) → Step → Call
@@ -74,12 +75,12 @@ pub record Engine (M : Type 0) : Type 0 where
   pub lookupSays : Side → ℕ → M → Said
 
 module _ {M : Type 0} (on : Engine M) where
-  unfoldable pub says : Call → M → Said
+  abbrev pub says : Call → M → Said
   says (stepCall limits p k i s) m = on .stepSays limits p k i s m
   says (beginCall limits p k) m = on .beginSays limits p k m
   says (lookupCall side t) m = on .lookupSays side t m
 
-  unfoldable pub leaves : Call → M → M
+  abbrev pub leaves : Call → M → M
   leaves (stepCall limits p k i s) m = on .stepLeaves limits p k i s m
   leaves (beginCall limits p k) m = on .beginLeaves limits p k m
   leaves (lookupCall side t) m = m
@@ -88,30 +89,21 @@ module _ {M : Type 0} (on : Engine M) where
   abbrev pub machineOf : Machine M Call
   machineOf = record { says = says; leaves = leaves; kind = kindOf }
 
-  -- "For every list of calls from an accepted begin on": an accepted begin on any memory, with any P and K, and the calls after it
-  pub record Run : Type 0 where
-    -- begin's own; the calls after it have theirs
-    pub limits : Limits
-    pub workers : ℕ
-    pub slots : ℕ
-    -- the memory before begin
-    pub lent : M
-    pub accepts : on .beginSays limits workers slots lent ≡ accepted
-    pub calls : List Call
+  -- its runs (`Runs.antt`)
+  abbrev pub Run : Type 0
+  Run = runs.Run machineOf beginCall
 
-  -- the memory that begin left
   abbrev pub begunOf : Run → M
-  begunOf r = on .beginLeaves (r .limits) (r .workers) (r .slots) (r .lent)
+  begunOf = runs.begunOf machineOf beginCall
 
-  -- the memory after the run's calls
   abbrev pub memoryOf : Run → M
-  memoryOf r = memoryAfter machineOf (r .calls) (begunOf r)
+  memoryOf = runs.memoryOf machineOf beginCall
 
-  -- the calls of the run that then goes on, with their answers, the latest first: those since the last accepted begin
   abbrev pub eventsOf : Run → List (Event Call)
-  eventsOf r = eventsAfter machineOf (r .calls) (begunOf r) []
+  eventsOf = runs.eventsOf machineOf beginCall
 
-  -- the run with further calls
+  abbrev pub viewOf : Run → View M Call
+  viewOf = runs.viewOf machineOf beginCall
+
   abbrev pub longer : Run → List Call → Run
-  longer r further =
-      record { limits = r .limits; workers = r .workers; slots = r .slots; lent = r .lent; accepts = r .accepts; calls = r .calls ++ further }
+  longer = runs.longer machineOf beginCall

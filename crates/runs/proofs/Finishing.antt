@@ -8,14 +8,13 @@ use native.Mathlib.Decide.{decLe}
 use Rattle.task.specs.Rows.{Acceptance}
 use Rattle.task.specs.declared.Limits.{Limits}
 use Rattle.task.specs.declared.Step.{Step}
-use Rattle.machine.specs.Jobs as jobs
 use Rattle.machine.specs.Machine as machine
 use Rattle.machine.proofs.Lists.{memory-on}
 use Rattle.machine.proofs.Finishing.{longer-none, longer-longer, to-the-end}
 use Rattle.rules.specs.Memory.{tasks, edges, acceptedIn}
 use Rattle.rules.proofs.Moves.{accepted-step}
 use Rattle.rules.proofs.Moved.{counts}
-use Rattle.runs.specs.Calls.{Call, stepCall, leaves, plainCalls, plain, begunMemory, Run, KeptBy, memoryOf, eventsOf, longer}
+use Rattle.runs.specs.Calls.{Call, stepCall, plainCalls, plain, begunMemory, Run, KeptBy, memoryOf, eventsOf, longer}
 use Rattle.runs.specs.Demand.{acceptedCompletes, acceptedSteps, Finished, nextSays, CanFinish}
 use Rattle.runs.proofs.Calls.{tasks-reached, edges-reached}
 use Rattle.runs.proofs.Events.{accepted-word}
@@ -35,7 +34,7 @@ module _ (limits : Limits) (r : Run) where
 
     -- the run with one more accepted step counts one more
     one-more : acceptedSteps (eventsOf (longer r (c ∷ []))) ≡ suc (acceptedSteps (eventsOf r))
-    unfolding machine.memoryAfter jobs.leaves
+    unfolding machine.memoryAfter
     one-more =
         sym (accepted-word (longer r (c ∷ [])))
         ∙ ap acceptedIn (memory-on plain (r .calls) (c ∷ []) (begunMemory (r .limits) (r .workers) (r .slots) (r .lent)))

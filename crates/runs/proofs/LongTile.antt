@@ -22,7 +22,6 @@ use Rattle.graph.specs.Successors.{succsBelow, succStart, succStarts, succWords
 use Rattle.ring.specs.Ring.{capacity, slotAt, endsAt, storeEnds, sound, empty, full, headOn, tailOn, queued, queue}
 use Rattle.choice.specs.Least.{load, leastFrom, least}
 use Rattle.choice.specs.Search.{search}
-use Rattle.machine.specs.Jobs as jobs
 use Rattle.machine.specs.Machine as machine
 use Rattle.rules.specs.Memory.{Mem, allSteps, allEntries}
 use Rattle.rules.specs.Sizes.{numbersFit, othersFit, lengthsFit}
@@ -34,7 +33,7 @@ use Rattle.rules.specs.Steps.{scan, fetchTask, fetchFrom, fetchRule, startRule,
 use Rattle.rules.specs.Begin.{cleared, rootsLaid, begun, rootsAnswer, beginAnswer, begin}
 use Rattle.rules.proofs.Examples.{lent, beginSays}
 use Rattle.algorithm1.specs.Reading.{queueIn}
-use Rattle.runs.specs.Calls.{Call, stepCall, says, leaves, Run, memoryOf}
+use Rattle.runs.specs.Calls.{Call, stepCall, Run, memoryOf}
 use Rattle.runs.specs.Counters.{inHandOf}
 
 -- weights 60, 1, 1, edge 1→2
@@ -70,7 +69,7 @@ pub record LongTile : Type 0 where
   pub carriedNoMore : sums (memoryOf (tileRun begins (released ++ (by 0 Start ∷ by 0 Complete ∷ [])))) 0 ≡ pos 0
 
 pub long-tile : LongTile
-unfolding ℕ-discrete decLe decLt firstBelow occOf placeOf joined tabulate allOf sumTo after around capped nextPhase part sizesFit firstBad firstTwice firstOnCycle tablesAnswer checkAnswer below? among? light? good? bad? endsFit? twice? twiceIn? find-twice edge? thru? path? leads? onCycle? succsBelow succStart succStarts succWords degreeList roots capacity slotAt endsAt storeEnds sound empty full headOn tailOn queued queue sumToZ load leastFrom least search allSteps allEntries numbersFit allFit othersFit lengthsFit countersFit storeWords updated written counted carriedOut scan fetchTask fetchFrom fetchRule startRule completeSink completeInner completeRule advanced findRoom releaseTo releaseReady releaseWaiting releaseRule ruleOf stepPlan step cleared rootsLaid begun rootsAnswer beginAnswer begin jobs.says jobs.leaves machine.began machine.memoryAfter inHandOf
+unfolding ℕ-discrete decLe decLt firstBelow occOf placeOf joined tabulate allOf sumTo after around capped nextPhase part sizesFit firstBad firstTwice firstOnCycle tablesAnswer checkAnswer below? among? light? good? bad? endsFit? twice? twiceIn? find-twice edge? thru? path? leads? onCycle? succsBelow succStart succStarts succWords degreeList roots capacity slotAt endsAt storeEnds sound empty full headOn tailOn queued queue sumToZ load leastFrom least search allSteps allEntries numbersFit allFit othersFit lengthsFit countersFit storeWords updated written counted carriedOut scan fetchTask fetchFrom fetchRule startRule completeSink completeInner completeRule advanced findRoom releaseTo releaseReady releaseWaiting releaseRule ruleOf stepPlan step cleared rootsLaid begun rootsAnswer beginAnswer begin machine.began machine.memoryAfter inHandOf
 long-tile =
     record {
       begins = refl;

@@ -23,7 +23,6 @@ use Rattle.choice.specs.Least.{load, leastFrom, least}
 use Rattle.choice.specs.Search.{search}
 use Rattle.exchange.specs.Exchange.{Chain}
 use Rattle.exchange.specs.Pairs.{differently, pairsDiffering, eachOnce}
-use Rattle.machine.specs.Jobs as jobs
 use Rattle.machine.specs.Machine as machine
 use Rattle.machine.specs.Standing.{standing}
 use Rattle.rules.specs.Memory.{Mem, graphIn, allSteps, allEntries}
@@ -107,7 +106,7 @@ record Pair : Type 0 where
   differing : pairsDiffering 4 (0 ∷ 3 ∷ 2 ∷ 1 ∷ []) (0 ∷ 1 ∷ 2 ∷ 3 ∷ []) ≡ 3
 
 pair : Pair
-unfolding ℕ-discrete decLe decLt firstBelow occOf placeOf joined tabulate allOf sumTo after around capped nextPhase part sizesFit firstBad firstTwice firstOnCycle tablesAnswer checkAnswer below? among? light? good? bad? endsFit? twice? twiceIn? find-twice edge? thru? path? leads? onCycle? succsBelow succStart succStarts succWords degreeList roots capacity slotAt endsAt storeEnds sound empty full headOn tailOn sumToZ load leastFrom least search allSteps allEntries numbersFit allFit othersFit lengthsFit countersFit storeWords updated written counted carriedOut scan fetchTask fetchFrom fetchRule startRule completeSink completeInner completeRule advanced findRoom releaseTo releaseReady releaseWaiting releaseRule ruleOf stepPlan step cleared rootsLaid begun rootsAnswer beginAnswer begin jobs.says jobs.leaves machine.began machine.memoryAfter machine.recalled machine.eventsAfter acceptedOf orderOf answersIn differently pairsDiffering
+unfolding ℕ-discrete decLe decLt firstBelow occOf placeOf joined tabulate allOf sumTo after around capped nextPhase part sizesFit firstBad firstTwice firstOnCycle tablesAnswer checkAnswer below? among? light? good? bad? endsFit? twice? twiceIn? find-twice edge? thru? path? leads? onCycle? succsBelow succStart succStarts succWords degreeList roots capacity slotAt endsAt storeEnds sound empty full headOn tailOn sumToZ load leastFrom least search allSteps allEntries numbersFit allFit othersFit lengthsFit countersFit storeWords updated written counted carriedOut scan fetchTask fetchFrom fetchRule startRule completeSink completeInner completeRule advanced findRoom releaseTo releaseReady releaseWaiting releaseRule ruleOf stepPlan step cleared rootsLaid begun rootsAnswer beginAnswer begin machine.began machine.memoryAfter machine.recalled machine.eventsAfter acceptedOf orderOf answersIn differently pairsDiffering
 pair =
     record {
       finished = (record { completes = omega arith }, record { completes = omega arith });
@@ -171,14 +170,14 @@ pub record Mixed : Type 0 where
   pub counted : memoryOf mixed .run ≡ 4 ∷ 15 ∷ []
 
 pub mixed-run : Mixed
-unfolding ℕ-discrete decLe decLt firstBelow occOf placeOf joined tabulate allOf sumTo after around capped nextPhase part sizesFit firstBad firstTwice firstOnCycle tablesAnswer checkAnswer below? among? light? good? bad? endsFit? twice? twiceIn? find-twice edge? thru? path? leads? onCycle? succsBelow succStart succStarts succWords degreeList roots capacity slotAt endsAt storeEnds sound empty full headOn tailOn sumToZ load leastFrom least search allSteps allEntries numbersFit allFit othersFit lengthsFit countersFit storeWords updated written counted carriedOut scan fetchTask fetchFrom fetchRule startRule completeSink completeInner completeRule advanced findRoom releaseTo releaseReady releaseWaiting releaseRule ruleOf stepPlan step cleared rootsLaid begun rootsAnswer beginAnswer begin jobs.says jobs.leaves machine.began machine.memoryAfter machine.recalled machine.eventsAfter acceptedOf orderOf answersIn
+unfolding ℕ-discrete decLe decLt firstBelow occOf placeOf joined tabulate allOf sumTo after around capped nextPhase part sizesFit firstBad firstTwice firstOnCycle tablesAnswer checkAnswer below? among? light? good? bad? endsFit? twice? twiceIn? find-twice edge? thru? path? leads? onCycle? succsBelow succStart succStarts succWords degreeList roots capacity slotAt endsAt storeEnds sound empty full headOn tailOn sumToZ load leastFrom least search allSteps allEntries numbersFit allFit othersFit lengthsFit countersFit storeWords updated written counted carriedOut scan fetchTask fetchFrom fetchRule startRule completeSink completeInner completeRule advanced findRoom releaseTo releaseReady releaseWaiting releaseRule ruleOf stepPlan step cleared rootsLaid begun rootsAnswer beginAnswer begin machine.began machine.memoryAfter machine.recalled machine.eventsAfter acceptedOf orderOf answersIn
 mixed-run = record { finished = record { completes = omega arith }; begunAgain = refl; answers = refl; order = refl; recorded = refl; counted = refl }
 
 -- What stands of its calls are the 15 accepted steps since the second begin.
 pub mixed-stands : answersIn (standing plain (eventsOf mixed))
     ≡ accepted ∷ accepted ∷ taskFetched 1 ∷ accepted ∷ accepted ∷ taskFetched 2 ∷ accepted ∷ accepted ∷ taskFetched 3
     ∷ taskPlaced 3 2 ∷ taskPlaced 2 1 ∷ taskPlaced 1 0 ∷ accepted ∷ accepted ∷ taskFetched 0 ∷ []
-unfolding ℕ-discrete decLe decLt firstBelow occOf placeOf joined tabulate allOf sumTo after around capped nextPhase part sizesFit firstBad firstTwice firstOnCycle tablesAnswer checkAnswer below? among? light? good? bad? endsFit? twice? twiceIn? find-twice edge? thru? path? leads? onCycle? succsBelow succStart succStarts succWords degreeList roots capacity slotAt endsAt storeEnds sound empty full headOn tailOn sumToZ load leastFrom least search allSteps allEntries numbersFit allFit othersFit lengthsFit countersFit storeWords updated written counted carriedOut scan fetchTask fetchFrom fetchRule startRule completeSink completeInner completeRule advanced findRoom releaseTo releaseReady releaseWaiting releaseRule ruleOf stepPlan step cleared rootsLaid begun rootsAnswer beginAnswer begin jobs.says jobs.leaves machine.began machine.memoryAfter machine.recalled machine.eventsAfter acceptedOf orderOf answersIn standing
+unfolding ℕ-discrete decLe decLt firstBelow occOf placeOf joined tabulate allOf sumTo after around capped nextPhase part sizesFit firstBad firstTwice firstOnCycle tablesAnswer checkAnswer below? among? light? good? bad? endsFit? twice? twiceIn? find-twice edge? thru? path? leads? onCycle? succsBelow succStart succStarts succWords degreeList roots capacity slotAt endsAt storeEnds sound empty full headOn tailOn sumToZ load leastFrom least search allSteps allEntries numbersFit allFit othersFit lengthsFit countersFit storeWords updated written counted carriedOut scan fetchTask fetchFrom fetchRule startRule completeSink completeInner completeRule advanced findRoom releaseTo releaseReady releaseWaiting releaseRule ruleOf stepPlan step cleared rootsLaid begun rootsAnswer beginAnswer begin machine.began machine.memoryAfter machine.recalled machine.eventsAfter acceptedOf orderOf answersIn standing
 mixed-stands = refl
 
 -- A run begun by the engine with P 5, which the preview doesn't take: with begin's own P and K the preview's calls are refused with 2, and the engine's
@@ -218,5 +217,5 @@ pub record BeyondRun : Type 0 where
   pub counted : memoryOf beyond .run ≡ 4 ∷ 15 ∷ []
 
 pub beyond-run : BeyondRun
-unfolding ℕ-discrete decLe decLt firstBelow occOf placeOf joined tabulate allOf sumTo after around capped nextPhase part sizesFit firstBad firstTwice firstOnCycle tablesAnswer checkAnswer below? among? light? good? bad? endsFit? twice? twiceIn? find-twice edge? thru? path? leads? onCycle? succsBelow succStart succStarts succWords degreeList roots capacity slotAt endsAt storeEnds sound empty full headOn tailOn sumToZ load leastFrom least search allSteps allEntries numbersFit allFit othersFit lengthsFit countersFit storeWords updated written counted carriedOut scan fetchTask fetchFrom fetchRule startRule completeSink completeInner completeRule advanced findRoom releaseTo releaseReady releaseWaiting releaseRule ruleOf stepPlan step cleared rootsLaid begun rootsAnswer beginAnswer begin jobs.says jobs.leaves machine.began machine.memoryAfter machine.recalled machine.eventsAfter acceptedOf orderOf answersIn
+unfolding ℕ-discrete decLe decLt firstBelow occOf placeOf joined tabulate allOf sumTo after around capped nextPhase part sizesFit firstBad firstTwice firstOnCycle tablesAnswer checkAnswer below? among? light? good? bad? endsFit? twice? twiceIn? find-twice edge? thru? path? leads? onCycle? succsBelow succStart succStarts succWords degreeList roots capacity slotAt endsAt storeEnds sound empty full headOn tailOn sumToZ load leastFrom least search allSteps allEntries numbersFit allFit othersFit lengthsFit countersFit storeWords updated written counted carriedOut scan fetchTask fetchFrom fetchRule startRule completeSink completeInner completeRule advanced findRoom releaseTo releaseReady releaseWaiting releaseRule ruleOf stepPlan step cleared rootsLaid begun rootsAnswer beginAnswer begin machine.began machine.memoryAfter machine.recalled machine.eventsAfter acceptedOf orderOf answersIn
 beyond-run = record { finished = record { completes = omega arith }; answers = refl; order = refl; recorded = refl; counted = refl }

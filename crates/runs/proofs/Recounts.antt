@@ -28,7 +28,6 @@ use Rattle.task.specs.declared.StepOutcome.{StepOutcome}
 use Rattle.ring.specs.Ring.{capacity}
 use Rattle.memory.specs.Field as list
 use Rattle.memory.specs.Updates.{storeWords, updated, written}
-use Rattle.machine.specs.Jobs as jobs
 use Rattle.rules.specs.Memory.{Mem, tasks, rowIn, held, entriesIn, acceptedIn}
 use Rattle.rules.specs.Updates.{Update}
 use Rattle.rules.specs.Plans.{withCount}
@@ -45,7 +44,7 @@ use Rattle.algorithm1.specs.Algorithm.{Lines, lowers, allocates}
 use Rattle.algorithm1.specs.Reading.{recordIn, stateOf, threadIn}
 use Rattle.algorithm1.proofs.Readings.{thread-at}
 use Rattle.algorithm1.proofs.Accepted.{step-does}
-use Rattle.runs.specs.Calls.{workerOf, Call, stepCall, lookupCall, isStep, isFetch, isCompletion, isComplete, fetchBy, Event, eventOf, acceptedSaid, says, begunMemory, Run, memoryOf, eventsOf}
+use Rattle.runs.specs.Calls.{workerOf, Call, stepCall, lookupCall, isStep, isFetch, isCompletion, isComplete, fetchBy, Event, eventOf, acceptedSaid, begunMemory, Run, memoryOf, eventsOf}
 use Rattle.runs.specs.Demand.{acceptedOf, acceptedSteps, acceptedCompletes}
 use Rattle.runs.specs.RunWords.{lastFetched, entryBy, entriesOf}
 use Rattle.runs.proofs.Calls.{Still, refuses, looks, throughout}
@@ -195,7 +194,7 @@ module _ (limits : Limits) (p k i : ℕ) (m : Mem) where
     other-fetched s j n = rw (ne-eqb i j (λ e. n (sym e)), cond-either (isFetch s) false) refl
 
     own-hand : (s : Step) → AcceptedStep limits p k i s m → ¬ (_≡_ {A = ℕ} (rowIn (after s) i .phase) 0) → held (after s) i ≡ lastFetched i (seen s ∷ past)
-    unfolding lastFetched jobs.says
+    unfolding lastFetched
     own-hand Fetch r n =
         let f : Fetches p k i m (r .outcome) (r .updates) = r .allowed .made in
         rw (r .answered, f .outcome, eq-eqb i i refl, r .left)
@@ -207,7 +206,7 @@ module _ (limits : Limits) (p k i : ℕ) (m : Mem) where
     own-hand Release r n = absurd (n (phase-after limits p k i Release m (step-accepts limits p k i Release m r)))
 
     step-recounts : (s : Step) → AcceptedStep limits p k i s m → Recounts p (after s) (seen s ∷ past)
-    unfolding acceptedOf entriesOf entryBy jobs.says
+    unfolding acceptedOf entriesOf entryBy
     step-recounts s r = record { steps = steps; entries = entries; executed = executed; unused = unused; workers = workers; hand = hand }
       where
         a : Acceptance (stepSays (step limits p k i s m .answer))

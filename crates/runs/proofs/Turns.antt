@@ -41,7 +41,7 @@ pub record Counts {M : Type 0} (on : Engine M) (fetches : ℕ → List Call → 
   pub first : (owner : ℕ) (c : Call) (cs : List Call) (m : M) → began (machineOf on) (eventOf (machineOf on) c m) ≡ false
       → fetches owner (c ∷ cs) m ≡ oneMore (cond (fetchBy owner c) (acceptedSaid (says on c m)) false) (fetches owner cs (leaves on c m))
 
-pub fetches-count : {M : Type 0} (on : Engine M) → Counts on (machine.fetches on)
+pub fetches-count : {M : Type 0} (on : Engine M) → Counts on (machine.fetches (machineOf on))
 unfolding machine.fetches
 fetches-count on = record { none = λ owner m. refl; ended = λ owner c cs m e. rw e refl; first = λ owner c cs m e. rw e refl }
 
@@ -141,12 +141,11 @@ module _ {M A : Type 0} (on : Engine M) (lists : M → ℕ → ℕ → List A) (
           turn = turns .own limits owner m a
 
           fetch-owned : owned owner this m ≡ true
-          unfolding says
           fetch-owned = rw (eq-eqb owner owner refl, said-accepted _ a) refl
 
           fetches-it : (added : List A) (n : ℕ) → 0 < n → Own (lists m owner) (lists next owner) filler (turn .item) t (behind ++ added)
               → Took n (this ∷ cs) m
-          unfolding memoryAfter begins says leaves
+          unfolding memoryAfter begins
           fetches-it added n h own =
               record {
                 earlier = [];
@@ -162,7 +161,6 @@ module _ {M A : Type 0} (on : Engine M) (lists : M → ℕ → ℕ → List A) (
               }
 
           enough-own : Enough cs (leaves on this m) → Enough (this ∷ cs) m
-          unfolding leaves
           enough-own rest added n near enough =
               go (taken-near p _ _ _ filler (turn .list) (turn .item) t (behind ++ added) (turn .takes) n near)
             where
@@ -180,7 +178,6 @@ module _ {M A : Type 0} (on : Engine M) (lists : M → ℕ → ℕ → List A) (
         -- any step
         enough-step : (limits : Limits) (i : ℕ) (s : Step) (cs : List Call) (m : M) → Acceptance (on .stepSays limits p k i s m)
             → Enough cs (leaves on (stepCall limits p k i s) m) → Enough (stepCall limits p k i s ∷ cs) m
-        unfolding leaves
         enough-step limits i s cs m a = go s a (ℕ-discrete owner i)
           where
             spares : (s : Step) → cond (isFetch s) (eqb i owner) false ≡ false → Spared owner m (on .stepLeaves limits p k i s m)

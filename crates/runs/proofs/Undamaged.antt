@@ -16,7 +16,6 @@ use Rattle.memory.specs.Family.{Places}
 use Rattle.task.specs.declared.Step.{Step}
 use Rattle.task.specs.declared.Step.the-variants.{Fetch, Start, Complete, Release}
 use Rattle.graph.proofs.Refusals.{judge-follows}
-use Rattle.machine.specs.Jobs as jobs
 use Rattle.plans.specs.Forms.{own}
 use Rattle.machine.specs.Machine as machine
 use Rattle.machine.proofs.Lists.{memory-on}
@@ -198,7 +197,6 @@ module _ (r : Run) where
 
   -- any call: begin's rows and a lookup's have other numbers
   call-undamaged : (c : Call) → NoDamage (says c now)
-  unfolding jobs.says
   call-undamaged (stepCall limits p k i s) = next-undamaged limits p k i s
   call-undamaged (beginCall limits p k) =
       harmless-says (begin-follows limits p k now)

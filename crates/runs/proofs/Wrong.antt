@@ -38,7 +38,6 @@ use Rattle.choice.specs.Search.{search}
 use Rattle.exchange.specs.Exchange.{Chain, none, more}
 use Rattle.exchange.specs.Pairs.{eachOnce, TaskExchanges}
 use Rattle.exchange.proofs.Theorem.{exchange-tasks}
-use Rattle.machine.specs.Jobs as jobs
 use Rattle.machine.specs.Machine.{Machine}
 use Rattle.machine.specs.Machine as machine
 use Rattle.machine.proofs.Lists.{Alike, alike-memory, alike-events}
@@ -139,13 +138,13 @@ pub record Keeps (g : Program) : Type 0 where
 
 -- The rules keep it, by demand 3: what is refuted below is its own claim, of other programs.
 same-answer : (c : calls.Call) (m : Mem) → answerBy rules c m ≡ says c m
-unfolding answerBy jobs.says
+unfolding answerBy
 same-answer (stepCall limits p k i s) m = refl
 same-answer (beginCall limits p k) m = refl
 same-answer (lookupCall side t) m = refl
 
 same-left : (c : calls.Call) (m : Mem) → leftBy rules c m ≡ leaves c m
-unfolding leftBy jobs.leaves
+unfolding leftBy
 same-left (stepCall limits p k i s) m = refl
 same-left (beginCall limits p k) m = refl
 same-left (lookupCall side t) m = refl

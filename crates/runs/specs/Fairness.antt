@@ -8,16 +8,16 @@ use Rattle.task.specs.Refusals.{taskFetched}
 use Rattle.machine.specs.Fetches as jobs
 use Rattle.rules.specs.Memory.{Mem}
 use Rattle.algorithm1.specs.Reading.{queueIn}
-use Rattle.runs.specs.Calls.{Call, plainCalls, Run, memoryOf}
+use Rattle.runs.specs.Calls.{Call, plain, Run, memoryOf}
 
 -- how many of the calls are accepted Fetches by worker i, as long as the run lasts: an accepted begin ends it
 abbrev pub fetches : ℕ → List Call → Mem → ℕ
-fetches = jobs.fetches plainCalls
+fetches = jobs.fetches plain
 
 -- Of the calls cs from memory m on, one of the first `bound` accepted Fetches by the owner answers t and takes it from the owner's ring that the filler fills. It is the t
 -- that has `behind` behind it (no task stands twice in a run's rings).
 abbrev pub TakenWithin : (workers slots owner filler t : ℕ) (behind : List ℕ) (bound : ℕ) → List Call → Mem → Type 0
-TakenWithin = jobs.TakenWithin plainCalls queueIn taskFetched
+TakenWithin = jobs.TakenWithin plain queueIn taskFetched
 
 -- PROMISE: of every run, owner and filler, whatever stands in the ring, and every further list of calls
 pub record FairFetching : Type 0 where

@@ -7,7 +7,7 @@ use lib.IntN.{pos}
 use lib.ListN.{getD, take}
 use Rattle.lists.specs.Sums.{sumOf, sumToZ}
 use Rattle.weak_rules.specs.Memory.{Mem, weightIn}
-use Rattle.weak_runs.specs.Calls.{weakCalls, Run, memoryOf, eventsOf}
+use Rattle.weak_runs.specs.Calls.{weak, Run, memoryOf, eventsOf}
 use Rattle.weak_runs.specs.Counters.{openOf}
 use Rattle.weak_runs.specs.Demand.{Finished, OneRun, OneGraph, Exchanges}
 use Rattle.weak_runs.specs.Hosted.{Hosting, eventsSeen, Hosted}
@@ -24,7 +24,7 @@ use Rattle.weak_hosts.specs.Heard.{stepHeard}
 use Rattle.weak_hosts.specs.Exports.{Contract, Exporting}
 use Rattle.weak_hosts.proofs.Exported.{exported-step, exported-begin, exported-lookup}
 
-pub linked : Linked weakCalls stepHeard Contract
+pub linked : Linked weak stepHeard Contract
 linked =
     record {
       step = λ limits p k i s r m m′ contract. exported-step m limits p k i s r m′ contract;
@@ -34,11 +34,11 @@ linked =
     }
 
 abbrev pub hostingOf : Exporting → Hosting
-hostingOf = made.hostingOf weakCalls stepHeard Contract linked
+hostingOf = made.hostingOf weak stepHeard Contract linked
 
 -- the run of this begin and the first n calls (all of them, from their number on)
 abbrev pub runMade : Exporting → ℕ → Run
-runMade = made.runMade weakCalls stepHeard Contract linked
+runMade = made.runMade weak stepHeard Contract linked
 
 -- the words that the first n calls left
 abbrev pub leftBy : Exporting → ℕ → Mem
@@ -63,7 +63,7 @@ pub record ExportsRun (e : Exporting) : Type 0 where
 
 module _ (e : Exporting) where
   words-left : (n : ℕ) → memoryOf (runMade e n) ≡ leftBy e n
-  words-left = made.words-made weakCalls stepHeard Contract linked e
+  words-left = made.words-made weak stepHeard Contract linked e
 
   counters-left : (n i : ℕ) → i < e .workers
       → sumToZ (e .workers) (λ j. getD (leftBy e n .counters) (i * e .workers + j) (pos 0)) ≡ pos (sumOf (weightIn (e .lent)) (openOf (leftBy e n) i))
@@ -73,7 +73,7 @@ module _ (e : Exporting) where
   exports-run =
       record {
         words = words-left;
-        events = made.events-made weakCalls stepHeard Contract linked e;
+        events = made.events-made weak stepHeard Contract linked e;
         hosted = hosted (hostingOf e);
         fair = hosted-fair (hostingOf e);
         counters = counters-left;

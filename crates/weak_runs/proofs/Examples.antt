@@ -26,7 +26,6 @@ use Rattle.choice.specs.Least.{load, leastFrom, least}
 use Rattle.choice.specs.Search.{search}
 use Rattle.exchange.specs.Exchange.{Chain, ahead, differ}
 use Rattle.copies.specs.Copies.{sameCopy, isCopy, Before}
-use Rattle.machine.specs.Jobs as jobs
 use Rattle.machine.specs.Machine as machine
 use Rattle.memory.specs.Shape.{allFit}
 use Rattle.memory.specs.Updates.{storeWords, updated, written}
@@ -126,7 +125,7 @@ pub record Examples : Type 0 where
   pub goesOn : nextSays engine crowdedRun 0 Fetch ≡ copyFetched (copy 2 1)
 
 pub examples : Examples
-unfolding ℕ-discrete decLe decLt firstBelow occOf joined tabulate allOf sumTo after around capped nextPhase part sizesFit firstBad firstTwice firstOnCycle tablesAnswer checkAnswer below? among? light? good? bad? endsFit? twice? twiceIn? find-twice edge? thru? path? leads? onCycle? succsBelow succStart succStarts succWords roots capacity slotAt endsAt storeEnds sound empty full headOn tailOn sumToZ load leastFrom least search allSteps allEntries numbersFit allFit othersFit lengthsFit countersFit storeWords updated written counted carriedOut scan fetchCopy fetchFrom fetchRule startRule completeCopy completeSink completeInner completeLast completeRule advanced findRoom releaseTo releaseFirst releaseLater releaseRule ruleOf stepPlan step weakDegrees rootsLaid cleared begun rootsAnswer beginAnswer begin jobs.says jobs.leaves machine.began machine.memoryAfter machine.recalled machine.eventsAfter machine.acceptedOf orderOf placeOf ahead differ sameCopy
+unfolding ℕ-discrete decLe decLt firstBelow occOf joined tabulate allOf sumTo after around capped nextPhase part sizesFit firstBad firstTwice firstOnCycle tablesAnswer checkAnswer below? among? light? good? bad? endsFit? twice? twiceIn? find-twice edge? thru? path? leads? onCycle? succsBelow succStart succStarts succWords roots capacity slotAt endsAt storeEnds sound empty full headOn tailOn sumToZ load leastFrom least search allSteps allEntries numbersFit allFit othersFit lengthsFit countersFit storeWords updated written counted carriedOut scan fetchCopy fetchFrom fetchRule startRule completeCopy completeSink completeInner completeLast completeRule advanced findRoom releaseTo releaseFirst releaseLater releaseRule ruleOf stepPlan step weakDegrees rootsLaid cleared begun rootsAnswer beginAnswer begin machine.began machine.memoryAfter machine.recalled machine.eventsAfter machine.acceptedOf orderOf placeOf ahead differ sameCopy
 examples =
     record {
       finished = (record { completes = omega arith }, record { completes = omega arith });

@@ -41,7 +41,7 @@ module _ (limits : Limits) (r : Run) where
 
     -- the run with one more accepted step counts one more
     one-more : acceptedSteps (eventsOf (longer r (c ∷ []))) ≡ suc (acceptedSteps (eventsOf r))
-    unfolding machine.memoryAfter jobs.leaves
+    unfolding machine.memoryAfter
     one-more =
         sym (accepted-word (longer r (c ∷ [])))
         ∙ ap acceptedIn (memory-on weak (r .calls) (c ∷ []) (jobs.begunOf weakCalls r))

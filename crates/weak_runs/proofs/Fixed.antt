@@ -31,7 +31,7 @@ use Rattle.copies.specs.Copies.{Copy, copy, sameCopy}
 use Rattle.split_lists.specs.Items.{threadWith, fresh, queueOf}
 use Rattle.split_lists.specs.Moves.{holding, executing, passed}
 use Rattle.split_lists.proofs.Memories.{first-lt}
-use Rattle.weak_rules.specs.Memory.{Mem, tasks, edges, graphIn, fixedIn, rootsWord}
+use Rattle.weak_rules.specs.Memory.{Mem, edges, graphIn, fixedIn, rootsWord}
 use Rattle.weak_rules.specs.Begin.{begin}
 use Rattle.weak_rules.specs.Begun.{LaidDown, rootsOf}
 use Rattle.weak_rules.proofs.Begin.{begin-accepted}

@@ -10,7 +10,6 @@ use Rattle.task.specs.declared.Step.{Step}
 use Rattle.weak_task.specs.Says.{stepSays}
 use Rattle.weak_task.specs.declared.WeakAnswer.{WeakAnswer}
 use Rattle.graph.specs.Lookup.{lentOf, judgeAnswer}
-use Rattle.machine.specs.Jobs as jobs
 use Rattle.weak_rules.specs.Memory.{Mem}
 use Rattle.weak_rules.specs.Plans.{Result, resultOf}
 use Rattle.weak_rules.specs.Steps.{step}
@@ -37,20 +36,17 @@ module _ (m : Mem) where
       → read (reply (step limits p k i s m .answer)) ≡ stepSays (step limits p k i s m .answer)
       → (r : R) (m′ : Mem) → resultOf r m′ ≡ resultOf (reply (step limits p k i s m .answer)) (step limits p k i s m .memory)
       → Link m (seenAs (stepCall limits p k i s) (read r) m′)
-  unfolding jobs.says jobs.leaves
   replied-step limits p k i s = from-rule (stepCall limits p k i s) (step limits p k i s m) stepSays refl refl
 
   pub replied-begin : {R : Type 0} (limits : Limits) (p k : ℕ) (reply : Answer → R) (read : R → Said)
       → read (reply (begin limits p k m .answer)) ≡ answerSays (begin limits p k m .answer)
       → (r : R) (m′ : Mem) → resultOf r m′ ≡ resultOf (reply (begin limits p k m .answer)) (begin limits p k m .memory)
       → Link m (seenAs (beginCall limits p k) (read r) m′)
-  unfolding jobs.says jobs.leaves
   replied-begin limits p k = from-rule (beginCall limits p k) (begin limits p k m) answerSays refl refl
 
   pub replied-lookup : {R : Type 0} (side : Side) (t : ℕ) (reply : Answer → R) (read : R → Said)
       → read (reply (judged m side t)) ≡ answerSays (judged m side t)
       → (r : R) → r ≡ reply (judged m side t) → Link m (seenAs (lookupCall side t) (read r) m)
-  unfolding jobs.says jobs.leaves
   replied-lookup {R = R} side t reply read told r contract =
       from-rule (lookupCall side t) (resultOf (judged m side t) m) answerSays refl refl reply read told r m (ap (λ (x : R). resultOf x m) contract)
 

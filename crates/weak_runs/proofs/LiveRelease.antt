@@ -1,6 +1,6 @@
 -- Where a weak run isn't finished and an idle worker has a copy to make, its Release is accepted if no copy waits for any worker: then every ring has
 -- room, the target's for a first copy and that of the task's worker for a later one. So some step of an unfinished run is accepted.
-use Prim.Native.Nat.{ℕ, suc, _+_, _-_, _*_, _%_, _≤_, _<_}
+use Prim.Native.Nat.{ℕ, suc, _+_, _-_, _*_, _≤_, _<_}
 use mathlib.Core.Path.{_≡_, refl, sym, ap, _∙_}
 use mathlib.Core.Logic.{_⊎_, inl, inr}
 use mathlib.Core.List.{List, [], _∷_, map}
@@ -8,7 +8,6 @@ use native.Mathlib.Omega.{arith}
 use native.Mathlib.Decide.{ℕ-discrete, decLt}
 use lib.ListN.{length, getD, length-append, length-drop, length-map}
 use lib.Seq.{drop-nil}
-use Rattle.lists.specs.Lists.{allOf}
 use Rattle.lists.proofs.Apart.{cons-not-nil}
 use Rattle.lists.proofs.Blocks.{length-tabulate}
 use Rattle.lists.proofs.Decided.{stable}
@@ -49,7 +48,7 @@ use Rattle.runs.specs.Items.{handOf}
 use Rattle.runs.proofs.Invariant.{Buffered}
 use Rattle.runs.proofs.LiveRelease.{successors-task, counters-within}
 use Rattle.runs.proofs.Rings as rings
-use Rattle.weak_algorithm.specs.State.{Thread, State, threadOf}
+use Rattle.weak_algorithm.specs.State.{Thread, threadOf}
 use Rattle.weak_algorithm.specs.Reading.{recordIn, stateOf}
 use Rattle.weak_algorithm.proofs.Readings.{tid-at, successors-at, thread-at}
 use Rattle.weak_runs.proofs.Invariant.{copiesFrom, pendingOf, pendingIn, meaning, systemIn, Honest}

@@ -31,7 +31,6 @@ use Rattle.ring.specs.Ring.{capacity}
 use Rattle.memory.specs.Field as list
 use Rattle.memory.specs.Updates.{storeWords, updated, written}
 use Rattle.machine.specs.Machine.{acceptedSaid, acceptedOf, eventOf}
-use Rattle.machine.specs.Jobs as jobs
 use Rattle.machine.specs.Jobs.{isCompletion}
 use Rattle.weak_rules.specs.Memory.{Mem, tasks, edges, graphIn, rowIn, held, entriesIn, acceptedIn, rootsWord}
 use Rattle.weak_rules.specs.Updates.{Update}
@@ -189,7 +188,7 @@ module _ (limits : Limits) (p k i : ℕ) (m : Mem) where
     other-fetched s j n = rw (ne-eqb i j (λ e. n (sym e)), cond-either (isFetch s) false) refl
 
     own-hand : (s : Step) → AcceptedStep limits p k i s m → ¬ (_≡_ {A = ℕ} (rowIn (after s) i .phase) 0) → held (after s) i ≡ lastFetched i (seen s ∷ past)
-    unfolding lastFetched jobs.says
+    unfolding lastFetched
     own-hand Fetch r n =
         let f : Fetches p k i m (r .outcome) (r .updates) = r .allowed .made in
         rw (r .answered, f .outcome, eq-eqb i i refl, r .left)
@@ -201,7 +200,7 @@ module _ (limits : Limits) (p k i : ℕ) (m : Mem) where
     own-hand Release r n = absurd (n (phase-after limits p k i Release m (step-accepts limits p k i Release m r)))
 
     step-recounts : (s : Step) → AcceptedStep limits p k i s m → Recounts p (after s) (seen s ∷ past)
-    unfolding acceptedOf entriesOf entryBy jobs.says
+    unfolding acceptedOf entriesOf entryBy
     step-recounts s r =
         record { steps = steps; entries = entries; roots = same-roots; tasked = tasked; few = few; executed = executed; unused = unused; workers = workers; hand = hand }
       where

@@ -13,7 +13,6 @@ use Rattle.task.specs.declared.Step.{Step}
 use Rattle.task.specs.declared.Step.the-variants.{Fetch, Start, Complete, Release}
 use Rattle.weak_task.specs.declared.WeakOutcome.{WeakOutcome}
 use Rattle.memory.specs.Updates.{updated, written}
-use Rattle.machine.specs.Jobs as specs
 use Rattle.machine.specs.Machine.{eventOf, began, begins, memoryAfter}
 use Rattle.machine.proofs.Jobs as jobs
 use Rattle.machine.proofs.Jobs.{stays, steps, starts, Did}
@@ -57,7 +56,6 @@ none-counted false n e = ((λ q. unequal cc), e)
 module _ (p k t : ℕ) where
   call-stays : (c : Call) (m : Mem) → Did weakCalls p k m c → ¬ (began weak (eventOf weak c m) ≡ true) → fixedIn m t < p
       → fixedIn (weak .leaves c m) t ≡ fixedIn m t
-  unfolding specs.leaves
   call-stays c m (stays _ q e) none below = ap (λ (m′ : Mem). fixedIn m′ t) e
   call-stays _ m (steps limits i s a) none below = step-stays limits p k i s m t (accepted-step limits p k i s m a) below
   call-stays _ m (starts limits e) none below = absurd (none (jobs.begin-began weakCalls limits p k m e))

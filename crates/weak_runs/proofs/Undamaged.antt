@@ -19,7 +19,6 @@ use Rattle.weak_task.specs.Says.{stepSays}
 use Rattle.graph.specs.Graph.{Graph}
 use Rattle.graph.specs.Successors.{roots}
 use Rattle.graph.proofs.Refusals.{judge-follows}
-use Rattle.machine.specs.Jobs as jobs
 use Rattle.machine.specs.Machine as machine
 use Rattle.machine.specs.Machine.{eventOf, began, recalled, eventsAfter}
 use Rattle.machine.proofs.Lists.{memory-on}
@@ -165,7 +164,6 @@ module _ {limits : Limits} {p k : ℕ} {m : Mem} (h : Honest limits p k m) (w : 
 
   -- any call: begin's rows and a lookup's have other numbers
   pub undamaged-call : (c : Call) → NoDamage (says c m)
-  unfolding jobs.says
   undamaged-call (stepCall own p k i s) = undamaged-step own p k i s
   undamaged-call (beginCall own p k) =
       harmless-says (begin-follows own p k m)

@@ -11,7 +11,7 @@ pub use Rattle.machine.specs.Seen.{seenAs, eventSeen}
 unfoldable pub use Rattle.machine.specs.Seen.{callsMade, lastLeft}
 use Rattle.weak_rules.specs.Memory.{Mem}
 use Rattle.weak_rules.specs.Begin.{begin}
-use Rattle.weak_runs.specs.Calls.{Call, beginCall, weakCalls, weak, Event, Run}
+use Rattle.weak_runs.specs.Calls.{Call, beginCall, weak, Event, Run}
 
 -- a call that a host made, what it was answered, and the words of the lists afterwards
 abbrev pub Seen : Type 0
@@ -31,19 +31,19 @@ eventsSeen = seen.eventsSeen weak
 
 -- what a host sees from an accepted begin on
 abbrev pub Hosting : Type 0
-Hosting = hosted.Hosting weakCalls
+Hosting = hosted.Hosting weak beginCall
 
 abbrev pub begin-accepts : (limits : Limits) (p k : ℕ) (m b : Mem) → Link m (seenAs (beginCall limits p k) accepted b)
     → answerSays (begin limits p k m .answer) ≡ accepted
-begin-accepts = hosted.begin-accepts weakCalls
+begin-accepts = hosted.begin-accepts weak beginCall
 
 -- the run of this begin and the first n calls (all of them, from their number on), and the words that the host saw then
 abbrev pub runAfter : Hosting → ℕ → Run
-runAfter = hosted.runAfter weakCalls
+runAfter = hosted.runAfter weak beginCall
 
 abbrev pub wordsAfter : Hosting → ℕ → Mem
-wordsAfter = hosted.wordsAfter weakCalls
+wordsAfter = hosted.wordsAfter weak beginCall
 
 -- PROMISE: these are a run, after each of the calls
 abbrev pub Hosted : Hosting → Type 0
-Hosted = hosted.Hosted weakCalls
+Hosted = hosted.Hosted weak beginCall

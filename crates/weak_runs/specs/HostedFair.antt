@@ -7,18 +7,18 @@ use Rattle.machine.specs.Fetches as jobs
 use Rattle.weak_task.specs.Types.{Copy}
 use Rattle.weak_task.specs.Says.{copyFetched}
 use Rattle.weak_rules.specs.Memory.{Mem}
-use Rattle.weak_runs.specs.Calls.{weakCalls}
+use Rattle.weak_runs.specs.Calls.{weak}
 use Rattle.weak_runs.specs.Fairness.{queueIn}
 use Rattle.weak_runs.specs.Hosted.{Seen, Hosting, wordsAfter}
 
 -- how many of the calls seen are accepted Fetches by worker i, as long as the run lasts: an accepted begin ends it
 abbrev pub fetchesSeen : ℕ → List Seen → ℕ
-fetchesSeen = jobs.fetchesSeen weakCalls
+fetchesSeen = jobs.fetchesSeen weak
 
 -- Of the calls seen from the words m on, one of the first `bound` accepted Fetches by the owner is answered c and takes it, the c that has `behind`
 -- behind it, from the owner's ring that the filler fills.
 abbrev pub SeenTaken : (workers slots owner filler : ℕ) (c : Copy) (behind : List Copy) (bound : ℕ) → List Seen → Mem → Type 0
-SeenTaken = jobs.SeenTaken weakCalls queueIn copyFetched
+SeenTaken = jobs.SeenTaken weak queueIn copyFetched
 
 -- PROMISE: "A task with p tasks ahead of it in its ring is therefore taken within (p+1)·P accepted fetches of its owner.", of copies: after the first n calls
 -- that a host made, and in those that it made then
