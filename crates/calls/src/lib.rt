@@ -28,7 +28,7 @@ pub fn make(
     let k = command.k as usize;
     match call {
         Call::Begin => {
-            let answer = engine::begin(
+            let answer = engine_begin::begin(
                 Limits::engine(),
                 weights,
                 pred_starts,
@@ -67,7 +67,7 @@ pub fn make(
             true
         }
         Call::Step(which) => {
-            let answer = engine::step(
+            let answer = engine_step::step(
                 Limits::engine(),
                 which,
                 weights,

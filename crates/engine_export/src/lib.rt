@@ -7,7 +7,7 @@ ghost use Rattle.task.specs.declared.Step.{Step};
 ghost use Rattle.rules.specs.Begin.{begin};
 ghost use Rattle.rules.specs.Steps.{step};
 ghost use Rattle.rules.specs.Plans.{resultOf};
-ghost use Rattle.engine.specs.Engine.{cellMem};
+ghost use Rattle.engine_cells.specs.Cells.{cellMem};
 ghost use Rattle.replies.specs.Replies.{replyOf, stepReplyOf};
 ghost use Rattle.engine_export.specs.Replies.{replied};
 use replies::Reply;
@@ -46,7 +46,7 @@ pub extern "C" fn yolluvek_begin(
         (now (rows .entry))))
         ⌝ }
 {
-    let answer = engine::begin(
+    let answer = engine_begin::begin(
         Limits::engine(),
         weights,
         pred_starts,

@@ -28,7 +28,7 @@ use Rattle.desk_rule.specs.Printed.{pairLine}
 use Rattle.desk_rule.specs.Output.{refusedLine, entryLines, runLines, begunOutput, graphOutput, deskMemory, readOutput, deskRead, deskOutput}
 use Rattle.desk_rule.proofs.Finishes.{desk-finishes}
 use Rattle.rows.specs.Rows.{rowsOf}
-use Rattle.engine.specs.Engine.{cellMem}
+use Rattle.engine_cells.specs.Cells.{cellMem}
 use Rattle.text_put.specs.Appending.{Appends}
 use Rattle.text_put.proofs.Laws.{appends-then}
 

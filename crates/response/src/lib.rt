@@ -3,7 +3,7 @@ ghost use mathlib.Core.Path.{_≡_};
 ghost use Prim.Native.Nat.{_+_, _≤_};
 ghost use lib.ListN.{length};
 ghost use Rattle.task.specs.Types.{engine};
-ghost use Rattle.engine.specs.Engine.{cellMem};
+ghost use Rattle.engine_cells.specs.Cells.{cellMem};
 ghost use Rattle.desk_rule.specs.Output.{deskMemory, graphOutput, deskOutput};
 ghost use Rattle.text_put.specs.Appending.{Appends};
 use task::Answer;
@@ -38,7 +38,7 @@ fn run_graph(
         (now (out .entry)) (now (out .exit)) r
         ⌝ }
 {
-    let answer = engine::begin(
+    let answer = engine_begin::begin(
         Limits::engine(),
         weights,
         pred_starts,

@@ -5,7 +5,7 @@ ghost use lib.ListN.{getD};
 ghost use Rattle.task.specs.Types.{engine};
 ghost use Rattle.task.specs.declared.Step.{Step};
 ghost use Rattle.rules.specs.Desk.{tries, turn};
-ghost use Rattle.engine.specs.Engine.{cellMem};
+ghost use Rattle.engine_cells.specs.Cells.{cellMem};
 use task::Limits;
 use task::Step;
 use task::StepAnswer;
@@ -51,7 +51,7 @@ pub fn take_turn(
 {
     let mut tried = 0;
     while tried < 4 {
-        let answer = engine::step(
+        let answer = engine_step::step(
             Limits::engine(),
             try_at(tried),
             weights,

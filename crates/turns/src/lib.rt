@@ -4,7 +4,7 @@ ghost use Prim.Native.Nat.{_≤_};
 ghost use lib.ListN.{length};
 ghost use Rattle.task.specs.Types.{engine};
 ghost use Rattle.rules.specs.Desk.{deskRun};
-ghost use Rattle.engine.specs.Engine.{cellMem};
+ghost use Rattle.engine_cells.specs.Cells.{cellMem};
 use task::WorkerId;
 
 // Turns 0, 1, 0, 1, .. on memory that has been begun, until all steps are accepted.

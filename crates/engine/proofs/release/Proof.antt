@@ -1,5 +1,5 @@
 use Rattle.call_laws.proofs.Laws.{judged-made, row-there, release-lent, release-made}
-use Rattle.engine.proofs.Laws.{there}
+use Rattle.engine_cells.proofs.Laws.{there}
 use Rattle.rows.specs.Rows.{rowsOf}
 use Rattle.task.specs.declared.Step.the-variants.{Release}
 use borrow.Author.Needs.{needs}

@@ -3,7 +3,7 @@ use Prim.Native.Nat.{_-_}
 use mathlib.Core.Path.{refl}
 use native.Mathlib.Omega.{arith}
 use borrow.Author.Needs.{needs}
-use Rattle.engine.specs.Engine.{cellMem}
+use Rattle.engine_cells.specs.Cells.{cellMem}
 use Rattle.tries.proofs.Laws.{Lasting, Trying, trying-last, trying-over, trying-on}
 use Rattle.tries.proofs.take_turn.Statement.{statement}
 use Rattle.tries.proofs.take_turn.Tie as tie

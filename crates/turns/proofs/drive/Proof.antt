@@ -2,7 +2,7 @@
 use mathlib.Core.Path.{refl}
 use native.Mathlib.Omega.{arith}
 use borrow.Author.Needs.{needs}
-use Rattle.engine.specs.Engine.{cellMem}
+use Rattle.engine_cells.specs.Cells.{cellMem}
 use Rattle.tries.proofs.Laws.{Lasting}
 use Rattle.turns.proofs.Laws.{Driving, driving-none, driving-over, driving-last, driving-turn}
 use Rattle.turns.proofs.drive.Statement.{statement}

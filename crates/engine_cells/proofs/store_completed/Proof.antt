@@ -1,11 +1,11 @@
-use Rattle.engine.proofs.Laws.{two-stored}
+use Rattle.engine_cells.proofs.Laws.{two-stored}
 use mathlib.Core.Path.{refl, subst}
 use Rattle.complete.specs.Complete.{HandAndWrite}
 use Rattle.rules.specs.Memory.{withHand}
 use Rattle.rows.specs.Rows.{withWrite}
 use borrow.Author.Needs.{needs}
-use Rattle.engine.proofs.store_completed.Statement.{statement}
-use Rattle.engine.proofs.store_completed.Tie as tie
+use Rattle.engine_cells.proofs.store_completed.Statement.{statement}
+use Rattle.engine_cells.proofs.store_completed.Tie as tie
 
 enum-known-stepped : tie.Need-enum-known-stepped
 enum-known-stepped c = search needs

@@ -2,8 +2,8 @@ use Rattle.call_laws.proofs.Laws.{begin-made}
 use Rattle.rows.specs.Rows.{rowsOf}
 use Rattle.rows.proofs.Laws.{length-rows}
 use borrow.Author.Needs.{needs}
-use Rattle.engine.proofs.begin.Statement.{statement}
-use Rattle.engine.proofs.begin.Tie as tie
+use Rattle.engine_begin.proofs.begin.Statement.{statement}
+use Rattle.engine_begin.proofs.begin.Tie as tie
 
 begin-lists-requires : tie.Need-begin-lists-requires
 begin-lists-requires c κs = search needs

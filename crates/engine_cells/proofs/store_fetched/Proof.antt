@@ -1,10 +1,10 @@
-use Rattle.engine.proofs.Laws.{two-stored}
+use Rattle.engine_cells.proofs.Laws.{two-stored}
 use mathlib.Core.Path.{refl, subst}
 use Rattle.fetch.specs.Fetch.{HandAndPointer}
 use Rattle.rules.specs.Memory.{withHand, withPointer}
 use borrow.Author.Needs.{needs}
-use Rattle.engine.proofs.store_fetched.Statement.{statement}
-use Rattle.engine.proofs.store_fetched.Tie as tie
+use Rattle.engine_cells.proofs.store_fetched.Statement.{statement}
+use Rattle.engine_cells.proofs.store_fetched.Tie as tie
 
 enum-known-stepped : tie.Need-enum-known-stepped
 enum-known-stepped c = search needs

@@ -1,6 +1,6 @@
-use Rattle.engine.proofs.Laws.{sizes-made}
-use Rattle.engine.proofs.sizes_of.Statement.{statement}
-use Rattle.engine.proofs.sizes_of.Tie as tie
+use Rattle.engine_cells.proofs.Laws.{sizes-made}
+use Rattle.engine_cells.proofs.sizes_of.Statement.{statement}
+use Rattle.engine_cells.proofs.sizes_of.Tie as tie
 
 returns : tie.Need-returns
 returns c =

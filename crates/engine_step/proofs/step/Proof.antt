@@ -1,9 +1,9 @@
 use Rattle.call_laws.proofs.Laws.{judged-made, row-there, fetch-lent, start-lent, complete-lent, release-lent, fetch-made, start-made, complete-made, release-made}
-use Rattle.engine.proofs.Laws.{there}
+use Rattle.engine_cells.proofs.Laws.{there}
 use Rattle.rows.specs.Rows.{rowsOf}
 use borrow.Author.Needs.{needs}
-use Rattle.engine.proofs.step.Statement.{statement}
-use Rattle.engine.proofs.step.Tie as tie
+use Rattle.engine_step.proofs.step.Statement.{statement}
+use Rattle.engine_step.proofs.step.Tie as tie
 
 sizes-of-requires : tie.Need-sizes-of-requires
 sizes-of-requires c κs = search needs

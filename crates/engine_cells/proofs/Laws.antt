@@ -14,7 +14,7 @@ use Rattle.admission.specs.Admission.{sizesOf, answerOf, rowsAfter}
 use Rattle.admission.specs.declared.Sizes.{Sizes}
 use Rattle.admission.specs.declared.Stepped.{Stepped}
 use Rattle.admission.specs.declared.Stepped.the-variants.{Taken}
-use Rattle.engine.specs.Engine.{cellMem}
+use Rattle.engine_cells.specs.Cells.{cellMem}
 
 -- a row is six words
 module _ (w ps p′ ss s d r e : List ℕ) (c : List ℤ) (b x n : List ℕ) (cells : List (List ℕ)) where
