@@ -3,7 +3,6 @@ pub mod Lists
 pub mod Standing
 pub mod Onward
 pub mod Seen
-pub mod ExampleLaws
 pub mod Jobs
 pub mod Hosted
 pub mod Finishing

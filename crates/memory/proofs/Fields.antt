@@ -140,7 +140,7 @@ module _ {A : Type 0} where
       go (yes b) = rw (getD-set-same l i a d b) (set-set l i a (h a))
       go (no b) = rw (set-out l i a (omega (arith, b)), set-out l i (h (getD l i d)) (omega (arith, b)), set-out l i (h a) (omega (arith, b)))
 
-length-words : (ws l : List ℕ) (x : ℕ) → length (storeWords l x ws) ≡ length l
+pub length-words : (ws l : List ℕ) (x : ℕ) → length (storeWords l x ws) ≡ length l
 unfolding storeWords
 length-words [] l x = refl
 length-words (w ∷ ws) l x = length-words ws (set l x w) (x + 1) ∙ length-set l x w
