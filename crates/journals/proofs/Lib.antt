@@ -1,3 +1,4 @@
 pub mod Groups
 pub mod Net
 pub mod Runs
+pub mod Examples
