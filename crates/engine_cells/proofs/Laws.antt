@@ -8,7 +8,7 @@ use Rattle.task.specs.Types.{idle}
 use Rattle.task.specs.declared.Row.{Row}
 use Rattle.task.specs.declared.StepOutcome.{StepOutcome}
 use Rattle.task.specs.declared.StepAnswer.the-variants.{Accepted}
-use Rattle.rows.specs.Rows.{rowsOf, changed}
+use Rattle.rows.specs.Rows.{rowsOf, withNext, withCursor, changed}
 use Rattle.rows.proofs.Laws.{length-rows, one-changed, two-changed}
 use Rattle.admission.specs.Admission.{sizesOf, answerOf, rowsAfter}
 use Rattle.admission.specs.declared.Sizes.{Sizes}
@@ -48,6 +48,11 @@ module _ (cells : List (List ℕ)) (i : ℕ) (row : Row) (h : i < length cells) 
   pub one-stored : (f : Row → Row) → after ≡ f row → (last : List Row) → last ≡ changed f i (rowsOf cells)
       → (Accepted o ≡ answerOf a) × (last ≡ rowsAfter (rowsOf cells) i a)
   one-stored f kept last l = rw v (refl, l ∙ one-changed (rowsOf cells) i row loaded f f after kept)
+
+  -- where the read place stays the cursor alone is stored
+  pub cursor-stored : after ≡ withNext (after .read) (after .cursor) row → after .read ≡ row .read → (last : List Row)
+      → last ≡ changed (withCursor (after .cursor)) i (rowsOf cells) → (Accepted o ≡ answerOf a) × (last ≡ rowsAfter (rowsOf cells) i a)
+  cursor-stored kept same = one-stored (withCursor (after .cursor)) (kept ∙ ap (λ (n : ℕ). withNext n (after .cursor) row) same)
 
   pub two-stored : (f g : Row → Row) → after ≡ g (f row) → (mid last : List Row) → mid ≡ changed f i (rowsOf cells) → last ≡ changed g i mid
       → (Accepted o ≡ answerOf a) × (last ≡ rowsAfter (rowsOf cells) i a)

@@ -120,7 +120,8 @@ pub fn store_completed(
     }
 }
 
-// The end of a Release by the worker with this row: accepted, it stores the row's read place and cursor.
+// The end of a Release by the worker with this row: accepted, it stores the row's cursor, and its read place where
+// that has moved.
 pub fn store_released(
     rows: &mut [[u32; 6]],
     worker: WorkerId,
@@ -133,6 +134,10 @@ pub fn store_released(
     match stepped {
         Stepped::Refused(number, detail) => StepAnswer::Refused(number, detail),
         Stepped::Taken(outcome, after) => {
+            if after.read == row.read {
+                rows::set_cursor(rows, worker, after.cursor);
+                return StepAnswer::Accepted(outcome);
+            }
             rows::set_next(rows, worker, after.read, after.cursor);
             StepAnswer::Accepted(outcome)
         }

@@ -11,7 +11,7 @@ use Rattle.task.specs.Types.{idle}
 use Rattle.task.specs.declared.Row.{Row}
 use Rattle.task.specs.declared.TaskId.{TaskId}
 use Rattle.rules.specs.Memory.{withHand, withPointer}
-use Rattle.rows.specs.Rows.{rowOf, rowsOf, withPhase, withWrite, withNext, changed, clearedRows}
+use Rattle.rows.specs.Rows.{rowOf, rowsOf, withPhase, withWrite, withNext, withCursor, changed, clearedRows}
 
 pub length-rows : (l : List (List ℕ)) → length (rowsOf l) ≡ length l
 unfolding rowsOf
@@ -60,6 +60,9 @@ module _ (cells : List ℕ) (h : length cells ≡ 6) where
 
   pub next-put : (read cursor : ℕ) → rowOf (set (set cells 3 read) 5 cursor) ≡ withNext read cursor (rowOf cells)
   next-put read cursor = six-words (λ l. rowOf (set (set l 3 read) 5 cursor) ≡ withNext read cursor (rowOf l)) (λ a b c d e f l. refl) cells h
+
+  pub cursor-put : (cursor : ℕ) → rowOf (set cells 5 cursor) ≡ withCursor cursor (rowOf cells)
+  cursor-put cursor = six-words (λ l. rowOf (set l 5 cursor) ≡ withCursor cursor (rowOf l)) (λ a b c d e f l. refl) cells h
 
 -- one part changed, and two, one after the other
 module _ (rows : List Row) (i : ℕ) (row : Row) (h : row ≡ getD rows i idle) (f g : Row → Row) (after : Row) where

@@ -21,7 +21,7 @@ unfoldable pub rowsOf : List (List ℕ) → List Row
 rowsOf [] = []
 rowsOf (cells ∷ rest) = rowOf cells ∷ rowsOf rest
 
--- a row with another phase alone, another write place, another read place and cursor
+-- a row with another phase alone, another write place, another read place and cursor, another cursor alone
 abbrev pub withPhase : ℕ → Row → Row
 withPhase phase row = withHand phase (row .held) row
 
@@ -30,6 +30,9 @@ withWrite write row = withPlaces (row .read) write (row .cursor) row
 
 abbrev pub withNext : ℕ → ℕ → Row → Row
 withNext read cursor row = withPlaces read (row .write) cursor row
+
+abbrev pub withCursor : ℕ → Row → Row
+withCursor cursor row = withNext (row .read) cursor row
 
 -- worker i's row changed, where there is one
 unfoldable pub changed : (Row → Row) → ℕ → List Row → List Row

@@ -4,7 +4,7 @@ ghost use Prim.Native.Nat.{_≤_, _<_};
 ghost use lib.ListN.{length, getD};
 ghost use Rattle.task.specs.Types.{idle};
 ghost use Rattle.rules.specs.Memory.{withHand, withPointer};
-ghost use Rattle.rows.specs.Rows.{rowOf, rowsOf, withPhase, withWrite, withNext, changed, clearedRows};
+ghost use Rattle.rows.specs.Rows.{rowOf, rowsOf, withPhase, withWrite, withNext, withCursor, changed, clearedRows};
 use task::Row;
 use task::TaskId;
 use task::WorkerId;
@@ -85,6 +85,14 @@ fn with_next(cells: [u32; 6], read: u32, cursor: u32) -> [u32; 6]
     after
 }
 
+fn with_cursor(cells: [u32; 6], cursor: u32) -> [u32; 6]
+    ensures { λ r. ⌜ rowOf r ≡ withCursor cursor (rowOf cells) ⌝ }
+{
+    let mut after = cells;
+    after[CURSOR] = cursor;
+    after
+}
+
 // The worker's row with such a part stored.
 pub fn set_phase(rows: &mut [[u32; 6]], worker: WorkerId, phase: u32)
     requires { ⌜ worker .0 < length (now rows) ⌝ }
@@ -124,6 +132,14 @@ pub fn set_next(rows: &mut [[u32; 6]], worker: WorkerId, read: u32, cursor: u32)
 {
     let at = worker.0 as usize;
     rows[at] = with_next(rows[at], read, cursor);
+}
+
+pub fn set_cursor(rows: &mut [[u32; 6]], worker: WorkerId, cursor: u32)
+    requires { ⌜ worker .0 < length (now rows) ⌝ }
+    ensures { λ r. ⌜ rowsOf (now (rows .exit)) ≡ changed (withCursor cursor) (worker .0) (rowsOf (now (rows .entry))) ⌝ }
+{
+    let at = worker.0 as usize;
+    rows[at] = with_cursor(rows[at], cursor);
 }
 
 // The first n rows become those of idle workers.

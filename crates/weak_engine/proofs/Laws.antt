@@ -20,7 +20,7 @@ use Rattle.weak_rules.specs.Memory.{Mem, memOf}
 use Rattle.weak_rules.specs.Plans.{resultOf}
 use Rattle.weak_rules.specs.Begin.{begin}
 use Rattle.weak_rules.specs.Steps.{step}
-use Rattle.weak_rows.specs.Rows.{rowsOf, changed, clearedRows}
+use Rattle.weak_rows.specs.Rows.{rowsOf, withNext, withCursor, changed, clearedRows}
 use Rattle.weak_rows.specs.Copies.{copiesOf}
 use Rattle.weak_rows.proofs.Laws.{length-rows, one-changed, two-changed}
 use Rattle.weak_rows.proofs.Copies.{length-copies}
@@ -142,6 +142,11 @@ module _ (cells : List (List ℕ)) (i : ℕ) (row : WeakRow) (h : i < length cel
   pub one-stored : (f : WeakRow → WeakRow) → after ≡ f row → (last : List WeakRow) → last ≡ changed f i (rowsOf cells)
       → (answer.Accepted o ≡ answerOf a) × (last ≡ rowsAfter (rowsOf cells) i a)
   one-stored f kept last l = rw v (refl, l ∙ one-changed (rowsOf cells) i row loaded f f after kept)
+
+  -- where the read place stays the cursor alone is stored
+  pub cursor-stored : after ≡ withNext (after .read) (after .cursor) row → after .read ≡ row .read → (last : List WeakRow)
+      → last ≡ changed (withCursor (after .cursor)) i (rowsOf cells) → (answer.Accepted o ≡ answerOf a) × (last ≡ rowsAfter (rowsOf cells) i a)
+  cursor-stored kept same = one-stored (withCursor (after .cursor)) (kept ∙ ap (λ (n : ℕ). withNext n (after .cursor) row) same)
 
   pub two-stored : (f g : WeakRow → WeakRow) → after ≡ g (f row) → (mid last : List WeakRow) → mid ≡ changed f i (rowsOf cells) → last ≡ changed g i mid
       → (answer.Accepted o ≡ answerOf a) × (last ≡ rowsAfter (rowsOf cells) i a)

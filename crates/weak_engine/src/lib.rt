@@ -131,7 +131,8 @@ fn store_completed(
     }
 }
 
-// The end of a Release by the worker with this row: accepted, it stores the row's read place and cursor.
+// The end of a Release by the worker with this row: accepted, it stores the row's cursor, and its read place where
+// that has moved.
 fn store_released(
     rows: &mut [[u32; 7]],
     worker: WorkerId,
@@ -144,6 +145,10 @@ fn store_released(
     match stepped {
         WeakStepped::Refused(number, detail) => WeakAnswer::Refused(number, detail),
         WeakStepped::Taken(outcome, after) => {
+            if after.read == row.read {
+                weak_rows::set_cursor(rows, worker, after.cursor);
+                return WeakAnswer::Accepted(outcome);
+            }
             weak_rows::set_next(rows, worker, after.read, after.cursor);
             WeakAnswer::Accepted(outcome)
         }

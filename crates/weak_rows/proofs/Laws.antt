@@ -9,7 +9,7 @@ use Rattle.weak_task.specs.Types.{idle}
 use Rattle.weak_task.specs.Rows.{withHand, withPointer}
 use Rattle.weak_task.specs.declared.TaskCopy.{TaskCopy}
 use Rattle.weak_task.specs.declared.WeakRow.{WeakRow}
-use Rattle.weak_rows.specs.Rows.{rowOf, rowsOf, withPhase, withWrite, withNext, changed, clearedRows}
+use Rattle.weak_rows.specs.Rows.{rowOf, rowsOf, withPhase, withWrite, withNext, withCursor, changed, clearedRows}
 use Rattle.weak_rows.proofs.Cells.{CellsOf, read-at, read-set, length-read, Filled, filled-none, filled-next, filled-upto, read-words}
 
 pub length-rows : (l : List (List ℕ)) → length (rowsOf l) ≡ length l
@@ -52,6 +52,9 @@ module _ (cells : List ℕ) (h : length cells ≡ 7) where
 
   pub next-put : (read cursor : ℕ) → rowOf (set (set cells 4 read) 6 cursor) ≡ withNext read cursor (rowOf cells)
   next-put read cursor = seven-words (λ l. rowOf (set (set l 4 read) 6 cursor) ≡ withNext read cursor (rowOf l)) (λ a b c d e f g l. refl) cells h
+
+  pub cursor-put : (cursor : ℕ) → rowOf (set cells 6 cursor) ≡ withCursor cursor (rowOf cells)
+  cursor-put cursor = seven-words (λ l. rowOf (set l 6 cursor) ≡ withCursor cursor (rowOf l)) (λ a b c d e f g l. refl) cells h
 
 -- one part changed, and two, one after the other
 module _ (rows : List WeakRow) (i : ℕ) (row : WeakRow) (h : row ≡ getD rows i idle) (f g : WeakRow → WeakRow) (after : WeakRow) where

@@ -22,7 +22,7 @@ rowOf cells =
 abbrev pub rowsOf : List (List ℕ) → List WeakRow
 rowsOf l = readAs rowOf l
 
--- a row with another phase alone, another write place, another read place and cursor
+-- a row with another phase alone, another write place, another read place and cursor, another cursor alone
 abbrev pub withPhase : ℕ → WeakRow → WeakRow
 withPhase phase row = withHand phase (row .held) row
 
@@ -31,6 +31,9 @@ withWrite write row = withPlaces (row .read) write (row .cursor) row
 
 abbrev pub withNext : ℕ → ℕ → WeakRow → WeakRow
 withNext read cursor row = withPlaces read (row .write) cursor row
+
+abbrev pub withCursor : ℕ → WeakRow → WeakRow
+withCursor cursor row = withNext (row .read) cursor row
 
 -- worker i's row changed, where there is one
 unfoldable pub changed : (WeakRow → WeakRow) → ℕ → List WeakRow → List WeakRow

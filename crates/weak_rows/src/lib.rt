@@ -6,7 +6,7 @@ ghost use lib.ListN.{length, getD, set, replicate};
 ghost use Rattle.ring.specs.Ring.{slotAt, endsAt, Sound, ringsOf, appendedAt, Inside};
 ghost use Rattle.weak_task.specs.Types.{copy, copyOf, idle};
 ghost use Rattle.weak_task.specs.Rows.{withHand, withPointer};
-ghost use Rattle.weak_rows.specs.Rows.{rowOf, rowsOf, withPhase, withWrite, withNext, changed, clearedRows};
+ghost use Rattle.weak_rows.specs.Rows.{rowOf, rowsOf, withPhase, withWrite, withNext, withCursor, changed, clearedRows};
 ghost use Rattle.weak_rows.specs.Copies.{copyIn, copiesOf};
 use task::Ends;
 use task::TaskId;
@@ -100,6 +100,14 @@ fn with_next(cells: [u32; 7], read: u32, cursor: u32) -> [u32; 7]
     after
 }
 
+fn with_cursor(cells: [u32; 7], cursor: u32) -> [u32; 7]
+    ensures { λ r. ⌜ rowOf r ≡ withCursor cursor (rowOf cells) ⌝ }
+{
+    let mut after = cells;
+    after[CURSOR] = cursor;
+    after
+}
+
 // The worker's row with such a part stored.
 pub fn set_phase(rows: &mut [[u32; 7]], worker: WorkerId, phase: u32)
     requires { ⌜ worker .0 < length (now rows) ⌝ }
@@ -139,6 +147,14 @@ pub fn set_next(rows: &mut [[u32; 7]], worker: WorkerId, read: u32, cursor: u32)
 {
     let at = worker.0 as usize;
     rows[at] = with_next(rows[at], read, cursor);
+}
+
+pub fn set_cursor(rows: &mut [[u32; 7]], worker: WorkerId, cursor: u32)
+    requires { ⌜ worker .0 < length (now rows) ⌝ }
+    ensures { λ r. ⌜ rowsOf (now (rows .exit)) ≡ changed (withCursor cursor) (worker .0) (rowsOf (now (rows .entry))) ⌝ }
+{
+    let at = worker.0 as usize;
+    rows[at] = with_cursor(rows[at], cursor);
 }
 
 // The first n rows become those of idle workers.
