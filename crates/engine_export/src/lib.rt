@@ -13,6 +13,7 @@ ghost use Rattle.engine_export.specs.Replies.{replied};
 use replies::Reply;
 use replies::StepReply;
 use task::Limits;
+use task::StepAnswer;
 use task::WorkerId;
 
 #[no_mangle]
@@ -118,6 +119,9 @@ pub extern "C" fn yolluvek_fetch(
         k,
         WorkerId(worker),
     );
+    if let StepAnswer::Refused(number, detail) = answer {
+        return replies::refused(number, detail);
+    }
     replies::step_reply_of(answer)
 }
 
@@ -172,6 +176,9 @@ pub extern "C" fn yolluvek_start(
         k,
         WorkerId(worker),
     );
+    if let StepAnswer::Refused(number, detail) = answer {
+        return replies::refused(number, detail);
+    }
     replies::step_reply_of(answer)
 }
 
@@ -226,6 +233,9 @@ pub extern "C" fn yolluvek_complete(
         k,
         WorkerId(worker),
     );
+    if let StepAnswer::Refused(number, detail) = answer {
+        return replies::refused(number, detail);
+    }
     replies::step_reply_of(answer)
 }
 
@@ -280,5 +290,8 @@ pub extern "C" fn yolluvek_release(
         k,
         WorkerId(worker),
     );
+    if let StepAnswer::Refused(number, detail) = answer {
+        return replies::refused(number, detail);
+    }
     replies::step_reply_of(answer)
 }

@@ -1,6 +1,7 @@
 // What the calls for C and Rust answer: the number and the detail, 0 and 0 where accepted; a step answers its outcome too.
 ghost use mathlib.Core.Path.{_≡_};
 ghost use Rattle.task.specs.Refusals.{outcomeSays, releaseSays};
+ghost use Rattle.task.specs.declared.StepAnswer.{StepAnswer};
 ghost use Rattle.replies.specs.Replies.{replyOf, saidOf, stepReplyOf};
 use task::Answer;
 use task::ReleaseOutcome;
@@ -34,6 +35,19 @@ pub struct StepReply {
     pub kind: u32,
     pub first: u32,
     pub second: u32,
+}
+
+// A refused step's reply. An export answers it before it looks at outcomes.
+pub fn refused(number: u32, detail: u32) -> StepReply
+    ensures { λ r. ⌜ r ≡ stepReplyOf (StepAnswer.Refused number detail) ⌝ }
+{
+    StepReply {
+        number,
+        detail,
+        kind: 0,
+        first: 0,
+        second: 0,
+    }
 }
 
 fn accepted(kind: u32, first: u32, second: u32) -> StepReply
@@ -71,13 +85,7 @@ pub fn step_reply_of(answer: StepAnswer) -> StepReply
     ensures { λ r. ⌜ r ≡ stepReplyOf answer ⌝ }
 {
     match answer {
-        StepAnswer::Refused(number, detail) => StepReply {
-            number,
-            detail,
-            kind: 0,
-            first: 0,
-            second: 0,
-        },
+        StepAnswer::Refused(number, detail) => refused(number, detail),
         StepAnswer::Accepted(outcome) => outcome_reply_of(outcome),
     }
 }

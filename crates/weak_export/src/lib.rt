@@ -15,6 +15,7 @@ use replies::Reply;
 use task::Limits;
 use task::WorkerId;
 use weak_replies::WeakReply;
+use weak_task::WeakAnswer;
 
 #[no_mangle]
 pub extern "C" fn yolluvek_weak_begin(
@@ -123,6 +124,9 @@ pub extern "C" fn yolluvek_weak_fetch(
         k,
         WorkerId(worker),
     );
+    if let WeakAnswer::Refused(number, detail) = answer {
+        return weak_replies::refused(number, detail);
+    }
     weak_replies::weak_reply_of(answer)
 }
 
@@ -179,6 +183,9 @@ pub extern "C" fn yolluvek_weak_start(
         k,
         WorkerId(worker),
     );
+    if let WeakAnswer::Refused(number, detail) = answer {
+        return weak_replies::refused(number, detail);
+    }
     weak_replies::weak_reply_of(answer)
 }
 
@@ -235,6 +242,9 @@ pub extern "C" fn yolluvek_weak_complete(
         k,
         WorkerId(worker),
     );
+    if let WeakAnswer::Refused(number, detail) = answer {
+        return weak_replies::refused(number, detail);
+    }
     weak_replies::weak_reply_of(answer)
 }
 
@@ -291,5 +301,8 @@ pub extern "C" fn yolluvek_weak_release(
         k,
         WorkerId(worker),
     );
+    if let WeakAnswer::Refused(number, detail) = answer {
+        return weak_replies::refused(number, detail);
+    }
     weak_replies::weak_reply_of(answer)
 }

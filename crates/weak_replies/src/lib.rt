@@ -17,6 +17,20 @@ pub struct WeakReply {
     pub third: u32,
 }
 
+// A refused step's reply. An export answers it before it looks at outcomes.
+pub fn refused(number: u32, detail: u32) -> WeakReply
+    ensures { λ r. ⌜ r ≡ weakReplyOf (WeakAnswer.Refused number detail) ⌝ }
+{
+    WeakReply {
+        number,
+        detail,
+        kind: 0,
+        first: 0,
+        second: 0,
+        third: 0,
+    }
+}
+
 fn accepted(kind: u32, first: u32, second: u32, third: u32) -> WeakReply
     ensures { λ r. ⌜ r ≡ record { number = 0; detail = 0; kind = kind; first = first; second = second; third = third } ⌝ }
 {
@@ -46,14 +60,7 @@ pub fn weak_reply_of(answer: WeakAnswer) -> WeakReply
     ensures { λ r. ⌜ r ≡ weakReplyOf answer ⌝ }
 {
     match answer {
-        WeakAnswer::Refused(number, detail) => WeakReply {
-            number,
-            detail,
-            kind: 0,
-            first: 0,
-            second: 0,
-            third: 0,
-        },
+        WeakAnswer::Refused(number, detail) => refused(number, detail),
         WeakAnswer::Accepted(outcome) => outcome_reply_of(outcome),
     }
 }
