@@ -3,6 +3,7 @@ use scripts::script::Call;
 use scripts::script::Command;
 use scripts::tell;
 use task::Limits;
+use task::RowCell;
 use task::WorkerId;
 
 // Makes a call; whether it is accepted.
@@ -22,7 +23,7 @@ pub fn make(
     buffers: &mut [u32],
     executed: &mut [u32],
     run: &mut [u32],
-    rows: &mut [[u32; 6]],
+    rows: &mut [RowCell],
 ) -> bool {
     let p = command.p as usize;
     let k = command.k as usize;

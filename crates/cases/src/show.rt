@@ -1,6 +1,7 @@
 // Printing answers and lists, and the words that a lent list holds before a call.
 use libc::STDOUT_FILENO;
 use task::Answer;
+use task::RowCell;
 
 pub fn say(bytes: &[u8]) {
     io::write_all(STDOUT_FILENO, bytes);
@@ -99,13 +100,13 @@ pub fn hash_counters(counters: &[i32]) -> u64 {
     sum
 }
 
-fn mixed_row(sum: u64, row: [u32; 6]) -> u64 {
+fn mixed_row(sum: u64, row: RowCell) -> u64 {
     let held = mixed(mixed(sum, row[0]), row[1]);
     let read = mixed(mixed(held, row[2]), row[3]);
     mixed(mixed(read, row[4]), row[5])
 }
 
-pub fn hash_rows(rows: &[[u32; 6]]) -> u64 {
+pub fn hash_rows(rows: &[RowCell]) -> u64 {
     let mut sum = 0;
     let mut i = 0;
     while i < rows.len() {

@@ -9,6 +9,7 @@ ghost use Rattle.rules.specs.Steps.{step};
 ghost use Rattle.engine_cells.specs.Cells.{cellMem};
 use admission::Judged;
 use task::Limits;
+use task::RowCell;
 use task::StepAnswer;
 use task::WorkerId;
 
@@ -26,7 +27,7 @@ pub fn fetch(
     buffers: &[u32],
     executed: &[u32],
     run: &mut [u32],
-    rows: &mut [[u32; 6]],
+    rows: &mut [RowCell],
     p: usize,
     k: usize,
     worker: WorkerId,
@@ -82,7 +83,7 @@ pub fn start(
     buffers: &[u32],
     executed: &[u32],
     run: &mut [u32],
-    rows: &mut [[u32; 6]],
+    rows: &mut [RowCell],
     p: usize,
     k: usize,
     worker: WorkerId,
@@ -138,7 +139,7 @@ pub fn complete(
     buffers: &mut [u32],
     executed: &mut [u32],
     run: &mut [u32],
-    rows: &mut [[u32; 6]],
+    rows: &mut [RowCell],
     p: usize,
     k: usize,
     worker: WorkerId,
@@ -207,7 +208,7 @@ pub fn release(
     buffers: &[u32],
     executed: &[u32],
     run: &mut [u32],
-    rows: &mut [[u32; 6]],
+    rows: &mut [RowCell],
     p: usize,
     k: usize,
     worker: WorkerId,

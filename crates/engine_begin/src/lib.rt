@@ -5,6 +5,7 @@ ghost use Rattle.rules.specs.Plans.{resultOf};
 ghost use Rattle.engine_cells.specs.Cells.{cellMem};
 use task::Answer;
 use task::Limits;
+use task::RowCell;
 
 pub fn begin(
     limits: Limits,
@@ -20,7 +21,7 @@ pub fn begin(
     buffers: &mut [u32],
     executed: &mut [u32],
     run: &mut [u32],
-    rows: &mut [[u32; 6]],
+    rows: &mut [RowCell],
     p: usize,
     k: usize,
 ) -> Answer

@@ -14,6 +14,7 @@ ghost use Rattle.engine_cells.specs.Cells.{cellMem};
 use admission::Sizes;
 use admission::Stepped;
 use task::Row;
+use task::RowCell;
 use task::StepAnswer;
 use task::WorkerId;
 
@@ -31,7 +32,7 @@ pub fn sizes_of(
     buffers: &[u32],
     executed: &[u32],
     run: &[u32],
-    rows: &[[u32; 6]],
+    rows: &[RowCell],
 ) -> Sizes
     ensures { λ r. ⌜
         r
@@ -61,7 +62,7 @@ pub fn sizes_of(
 
 // The end of a Fetch by the worker with this row: accepted, it stores the row's hand and pointer.
 pub fn store_fetched(
-    rows: &mut [[u32; 6]],
+    rows: &mut [RowCell],
     worker: WorkerId,
     row: Row,
     stepped: Stepped,
@@ -82,7 +83,7 @@ pub fn store_fetched(
 
 // The end of a Start by the worker with this row: accepted, it stores the row's phase.
 pub fn store_started(
-    rows: &mut [[u32; 6]],
+    rows: &mut [RowCell],
     worker: WorkerId,
     row: Row,
     stepped: Stepped,
@@ -101,7 +102,7 @@ pub fn store_started(
 
 // The end of a Complete by the worker with this row: accepted, it stores the row's hand and write place.
 pub fn store_completed(
-    rows: &mut [[u32; 6]],
+    rows: &mut [RowCell],
     worker: WorkerId,
     row: Row,
     stepped: Stepped,
@@ -123,7 +124,7 @@ pub fn store_completed(
 // The end of a Release by the worker with this row: accepted, it stores the row's cursor, and its read place where
 // that has moved.
 pub fn store_released(
-    rows: &mut [[u32; 6]],
+    rows: &mut [RowCell],
     worker: WorkerId,
     row: Row,
     stepped: Stepped,

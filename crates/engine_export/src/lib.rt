@@ -13,6 +13,7 @@ ghost use Rattle.engine_export.specs.Replies.{replied};
 use replies::Reply;
 use replies::StepReply;
 use task::Limits;
+use task::RowCell;
 use task::StepAnswer;
 use task::WorkerId;
 
@@ -30,7 +31,7 @@ pub extern "C" fn yolluvek_begin(
     buffers: &mut [u32],
     executed: &mut [u32],
     run: &mut [u32],
-    rows: &mut [[u32; 6]],
+    rows: &mut [RowCell],
     p: usize,
     k: usize,
 ) -> Reply
@@ -82,7 +83,7 @@ pub extern "C" fn yolluvek_fetch(
     buffers: &[u32],
     executed: &[u32],
     run: &mut [u32],
-    rows: &mut [[u32; 6]],
+    rows: &mut [RowCell],
     p: usize,
     k: usize,
     worker: u32,
@@ -139,7 +140,7 @@ pub extern "C" fn yolluvek_start(
     buffers: &[u32],
     executed: &[u32],
     run: &mut [u32],
-    rows: &mut [[u32; 6]],
+    rows: &mut [RowCell],
     p: usize,
     k: usize,
     worker: u32,
@@ -196,7 +197,7 @@ pub extern "C" fn yolluvek_complete(
     buffers: &mut [u32],
     executed: &mut [u32],
     run: &mut [u32],
-    rows: &mut [[u32; 6]],
+    rows: &mut [RowCell],
     p: usize,
     k: usize,
     worker: u32,
@@ -253,7 +254,7 @@ pub extern "C" fn yolluvek_release(
     buffers: &[u32],
     executed: &[u32],
     run: &mut [u32],
-    rows: &mut [[u32; 6]],
+    rows: &mut [RowCell],
     p: usize,
     k: usize,
     worker: u32,

@@ -6,6 +6,7 @@ ghost use Rattle.rules.specs.Steps.{step};
 ghost use Rattle.engine_cells.specs.Cells.{cellMem};
 use admission::Judged;
 use task::Limits;
+use task::RowCell;
 use task::Step;
 use task::StepAnswer;
 use task::WorkerId;
@@ -25,7 +26,7 @@ pub fn step(
     buffers: &mut [u32],
     executed: &mut [u32],
     run: &mut [u32],
-    rows: &mut [[u32; 6]],
+    rows: &mut [RowCell],
     p: usize,
     k: usize,
     worker: WorkerId,

@@ -11,6 +11,7 @@ ghost use Rattle.engine_export.specs.Replies.{replied};
 use replies::Reply;
 use replies::StepReply;
 use task::Limits;
+use task::RowCell;
 use task::WorkerId;
 
 #[no_mangle]
@@ -27,7 +28,7 @@ pub extern "C" fn yolluvek_preview_begin(
     buffers: &mut [u32],
     executed: &mut [u32],
     run: &mut [u32],
-    rows: &mut [[u32; 6]],
+    rows: &mut [RowCell],
     p: usize,
     k: usize,
 ) -> Reply
@@ -79,7 +80,7 @@ pub extern "C" fn yolluvek_preview_fetch(
     buffers: &[u32],
     executed: &[u32],
     run: &mut [u32],
-    rows: &mut [[u32; 6]],
+    rows: &mut [RowCell],
     p: usize,
     k: usize,
     worker: u32,
@@ -133,7 +134,7 @@ pub extern "C" fn yolluvek_preview_start(
     buffers: &[u32],
     executed: &[u32],
     run: &mut [u32],
-    rows: &mut [[u32; 6]],
+    rows: &mut [RowCell],
     p: usize,
     k: usize,
     worker: u32,
@@ -187,7 +188,7 @@ pub extern "C" fn yolluvek_preview_complete(
     buffers: &mut [u32],
     executed: &mut [u32],
     run: &mut [u32],
-    rows: &mut [[u32; 6]],
+    rows: &mut [RowCell],
     p: usize,
     k: usize,
     worker: u32,
@@ -241,7 +242,7 @@ pub extern "C" fn yolluvek_preview_release(
     buffers: &[u32],
     executed: &[u32],
     run: &mut [u32],
-    rows: &mut [[u32; 6]],
+    rows: &mut [RowCell],
     p: usize,
     k: usize,
     worker: u32,

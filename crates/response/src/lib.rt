@@ -8,7 +8,9 @@ ghost use Rattle.desk_rule.specs.Output.{deskMemory, graphOutput, deskOutput};
 ghost use Rattle.text_put.specs.Appending.{Appends};
 use task::Answer;
 use task::Limits;
+use task::ROW_WORDS;
 use task::ReadAnswer;
+use task::RowCell;
 
 // Begins a run with P 2 and K 4, takes the desk's turns, and puts what is printed of it.
 fn run_graph(
@@ -24,7 +26,7 @@ fn run_graph(
     buffers: &mut [u32],
     executed: &mut [u32],
     run: &mut [u32],
-    rows: &mut [[u32; 6]],
+    rows: &mut [RowCell],
     out: &mut [u8],
 ) -> usize
     requires { ⌜ length (now out) ≡ 32768 ⌝ }
@@ -94,7 +96,7 @@ fn run_tables(weights: &[u32], pred_starts: &[u32], preds: &[u32], out: &mut [u8
     let mut buffers = [0u32; 2048];
     let mut executed = [0u32; 2048];
     let mut run = [0u32; 2];
-    let mut rows = [[0u32; 6]; 2];
+    let mut rows = [[0u32; ROW_WORDS]; 2];
     run_graph(
         weights,
         pred_starts,

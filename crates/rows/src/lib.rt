@@ -5,7 +5,9 @@ ghost use lib.ListN.{length, getD};
 ghost use Rattle.task.specs.Types.{idle};
 ghost use Rattle.rules.specs.Memory.{withHand, withPointer};
 ghost use Rattle.rows.specs.Rows.{rowOf, rowsOf, withPhase, withWrite, withNext, withCursor, changed, clearedRows};
+use task::ROW_WORDS;
 use task::Row;
+use task::RowCell;
 use task::TaskId;
 use task::WorkerId;
 
@@ -21,7 +23,7 @@ const WRITE: usize = 4;
 
 const CURSOR: usize = 5;
 
-fn row_of(cells: [u32; 6]) -> Row
+fn row_of(cells: RowCell) -> Row
     ensures { λ r. ⌜ r ≡ rowOf cells ⌝ }
 {
     Row {
@@ -35,7 +37,7 @@ fn row_of(cells: [u32; 6]) -> Row
 }
 
 // The worker's row.
-pub fn row_at(rows: &[[u32; 6]], worker: WorkerId) -> Row
+pub fn row_at(rows: &[RowCell], worker: WorkerId) -> Row
     requires { ⌜ worker .0 < length (now rows) ⌝ }
     ensures { λ r. ⌜ r ≡ getD (rowsOf (now (rows .entry))) (worker .0) idle ⌝ }
 {
@@ -43,7 +45,7 @@ pub fn row_at(rows: &[[u32; 6]], worker: WorkerId) -> Row
 }
 
 // The parts of a row that a step changes.
-fn with_phase(cells: [u32; 6], phase: u32) -> [u32; 6]
+fn with_phase(cells: RowCell, phase: u32) -> RowCell
     ensures { λ r. ⌜ rowOf r ≡ withPhase phase (rowOf cells) ⌝ }
 {
     let mut after = cells;
@@ -51,7 +53,7 @@ fn with_phase(cells: [u32; 6], phase: u32) -> [u32; 6]
     after
 }
 
-fn with_hand(cells: [u32; 6], phase: u32, held: TaskId) -> [u32; 6]
+fn with_hand(cells: RowCell, phase: u32, held: TaskId) -> RowCell
     ensures { λ r. ⌜ rowOf r ≡ withHand phase held (rowOf cells) ⌝ }
 {
     let mut after = cells;
@@ -60,7 +62,7 @@ fn with_hand(cells: [u32; 6], phase: u32, held: TaskId) -> [u32; 6]
     after
 }
 
-fn with_pointer(cells: [u32; 6], pointer: WorkerId) -> [u32; 6]
+fn with_pointer(cells: RowCell, pointer: WorkerId) -> RowCell
     ensures { λ r. ⌜ rowOf r ≡ withPointer (pointer .0) (rowOf cells) ⌝ }
 {
     let mut after = cells;
@@ -68,7 +70,7 @@ fn with_pointer(cells: [u32; 6], pointer: WorkerId) -> [u32; 6]
     after
 }
 
-fn with_write(cells: [u32; 6], write: u32) -> [u32; 6]
+fn with_write(cells: RowCell, write: u32) -> RowCell
     ensures { λ r. ⌜ rowOf r ≡ withWrite write (rowOf cells) ⌝ }
 {
     let mut after = cells;
@@ -76,7 +78,7 @@ fn with_write(cells: [u32; 6], write: u32) -> [u32; 6]
     after
 }
 
-fn with_next(cells: [u32; 6], read: u32, cursor: u32) -> [u32; 6]
+fn with_next(cells: RowCell, read: u32, cursor: u32) -> RowCell
     ensures { λ r. ⌜ rowOf r ≡ withNext read cursor (rowOf cells) ⌝ }
 {
     let mut after = cells;
@@ -85,7 +87,7 @@ fn with_next(cells: [u32; 6], read: u32, cursor: u32) -> [u32; 6]
     after
 }
 
-fn with_cursor(cells: [u32; 6], cursor: u32) -> [u32; 6]
+fn with_cursor(cells: RowCell, cursor: u32) -> RowCell
     ensures { λ r. ⌜ rowOf r ≡ withCursor cursor (rowOf cells) ⌝ }
 {
     let mut after = cells;
@@ -94,7 +96,7 @@ fn with_cursor(cells: [u32; 6], cursor: u32) -> [u32; 6]
 }
 
 // The worker's row with such a part stored.
-pub fn set_phase(rows: &mut [[u32; 6]], worker: WorkerId, phase: u32)
+pub fn set_phase(rows: &mut [RowCell], worker: WorkerId, phase: u32)
     requires { ⌜ worker .0 < length (now rows) ⌝ }
     ensures { λ r. ⌜ rowsOf (now (rows .exit)) ≡ changed (withPhase phase) (worker .0) (rowsOf (now (rows .entry))) ⌝ }
 {
@@ -102,7 +104,7 @@ pub fn set_phase(rows: &mut [[u32; 6]], worker: WorkerId, phase: u32)
     rows[at] = with_phase(rows[at], phase);
 }
 
-pub fn set_hand(rows: &mut [[u32; 6]], worker: WorkerId, phase: u32, held: TaskId)
+pub fn set_hand(rows: &mut [RowCell], worker: WorkerId, phase: u32, held: TaskId)
     requires { ⌜ worker .0 < length (now rows) ⌝ }
     ensures { λ r. ⌜ rowsOf (now (rows .exit)) ≡ changed (withHand phase held) (worker .0) (rowsOf (now (rows .entry))) ⌝ }
 {
@@ -110,7 +112,7 @@ pub fn set_hand(rows: &mut [[u32; 6]], worker: WorkerId, phase: u32, held: TaskI
     rows[at] = with_hand(rows[at], phase, held);
 }
 
-pub fn set_pointer(rows: &mut [[u32; 6]], worker: WorkerId, pointer: WorkerId)
+pub fn set_pointer(rows: &mut [RowCell], worker: WorkerId, pointer: WorkerId)
     requires { ⌜ worker .0 < length (now rows) ⌝ }
     ensures { λ r. ⌜ rowsOf (now (rows .exit)) ≡ changed (withPointer (pointer .0)) (worker .0) (rowsOf (now (rows .entry))) ⌝ }
 {
@@ -118,7 +120,7 @@ pub fn set_pointer(rows: &mut [[u32; 6]], worker: WorkerId, pointer: WorkerId)
     rows[at] = with_pointer(rows[at], pointer);
 }
 
-pub fn set_write(rows: &mut [[u32; 6]], worker: WorkerId, write: u32)
+pub fn set_write(rows: &mut [RowCell], worker: WorkerId, write: u32)
     requires { ⌜ worker .0 < length (now rows) ⌝ }
     ensures { λ r. ⌜ rowsOf (now (rows .exit)) ≡ changed (withWrite write) (worker .0) (rowsOf (now (rows .entry))) ⌝ }
 {
@@ -126,7 +128,7 @@ pub fn set_write(rows: &mut [[u32; 6]], worker: WorkerId, write: u32)
     rows[at] = with_write(rows[at], write);
 }
 
-pub fn set_next(rows: &mut [[u32; 6]], worker: WorkerId, read: u32, cursor: u32)
+pub fn set_next(rows: &mut [RowCell], worker: WorkerId, read: u32, cursor: u32)
     requires { ⌜ worker .0 < length (now rows) ⌝ }
     ensures { λ r. ⌜ rowsOf (now (rows .exit)) ≡ changed (withNext read cursor) (worker .0) (rowsOf (now (rows .entry))) ⌝ }
 {
@@ -134,7 +136,7 @@ pub fn set_next(rows: &mut [[u32; 6]], worker: WorkerId, read: u32, cursor: u32)
     rows[at] = with_next(rows[at], read, cursor);
 }
 
-pub fn set_cursor(rows: &mut [[u32; 6]], worker: WorkerId, cursor: u32)
+pub fn set_cursor(rows: &mut [RowCell], worker: WorkerId, cursor: u32)
     requires { ⌜ worker .0 < length (now rows) ⌝ }
     ensures { λ r. ⌜ rowsOf (now (rows .exit)) ≡ changed (withCursor cursor) (worker .0) (rowsOf (now (rows .entry))) ⌝ }
 {
@@ -143,11 +145,11 @@ pub fn set_cursor(rows: &mut [[u32; 6]], worker: WorkerId, cursor: u32)
 }
 
 // The first n rows become those of idle workers.
-pub fn clear_rows(rows: &mut [[u32; 6]], n: usize)
+pub fn clear_rows(rows: &mut [RowCell], n: usize)
     requires { ⌜ n ≤ length (now rows) ⌝ }
     ensures { λ r. ⌜ rowsOf (now (rows .exit)) ≡ clearedRows n (rowsOf (now (rows .entry))) ⌝ }
 {
-    let mut cells = [0u32; 6];
+    let mut cells = [0u32; ROW_WORDS];
     cells[HELD] = TaskId::NIL.0;
     let mut i = 0;
     while i < n {

@@ -11,6 +11,8 @@ use cases::lines;
 use cases::read;
 use cases::show;
 use scripts::script;
+use task::ROW_WORDS;
+use task::RowCell;
 use task::WorkerId;
 
 // Makes the calls of a script.
@@ -28,7 +30,7 @@ fn run_script(
     buffers: &mut [u32],
     executed: &mut [u32],
     run: &mut [u32],
-    rows: &mut [[u32; 6]],
+    rows: &mut [RowCell],
 ) {
     let mut at = script::entered(script, 0);
     let mut left = script::left_at(script, 0, 4194304);
@@ -83,7 +85,7 @@ fn fill_of(case: &[u32]) -> u32
 fn lend(case: &[u32], weights: &[u32], pred_starts: &[u32], preds: &[u32], script: &[u32]) {
     let fill = fill_of(case);
     let signed = fill as i32;
-    let row = [fill; 6];
+    let row = [fill; ROW_WORDS];
     let mut succ_starts = [fill; 1032];
     let mut succs = [fill; 8200];
     let mut degrees = [fill; 1032];

@@ -4,6 +4,7 @@ use crate::script::Command;
 use cases::show;
 use task::Answer;
 use task::ReleaseOutcome;
+use task::RowCell;
 use task::Step;
 use task::StepAnswer;
 use task::StepOutcome;
@@ -124,7 +125,7 @@ pub fn lists(
     buffers: &[u32],
     executed: &[u32],
     run: &[u32],
-    rows: &[[u32; 6]],
+    rows: &[RowCell],
 ) {
     first_lines(weights.len(), run, executed);
     hashed(show::hash(weights));

@@ -67,6 +67,11 @@ impl Row {
     }
 }
 
+// A row as its words, in the order of its fields, the same memory: its cell.
+pub const ROW_WORDS: usize = 6;
+
+pub type RowCell = [u32; ROW_WORDS];
+
 // A ring's ends: head is the next slot to take, tail the slot that the next task goes to, count how many tasks stand from
 // head on, modulo K.
 #[repr(C)]

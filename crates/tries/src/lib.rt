@@ -7,6 +7,7 @@ ghost use Rattle.task.specs.declared.Step.{Step};
 ghost use Rattle.rules.specs.Desk.{tries, turn};
 ghost use Rattle.engine_cells.specs.Cells.{cellMem};
 use task::Limits;
+use task::RowCell;
 use task::Step;
 use task::StepAnswer;
 use task::WorkerId;
@@ -34,7 +35,7 @@ pub fn take_turn(
     buffers: &mut [u32],
     executed: &mut [u32],
     run: &mut [u32],
-    rows: &mut [[u32; 6]],
+    rows: &mut [RowCell],
     worker: WorkerId,
 )
     ensures { λ r. ⌜

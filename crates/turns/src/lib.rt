@@ -5,6 +5,7 @@ ghost use lib.ListN.{length};
 ghost use Rattle.task.specs.Types.{engine};
 ghost use Rattle.rules.specs.Desk.{deskRun};
 ghost use Rattle.engine_cells.specs.Cells.{cellMem};
+use task::RowCell;
 use task::WorkerId;
 
 // Turns 0, 1, 0, 1, .. on memory that has been begun, until all steps are accepted.
@@ -21,7 +22,7 @@ pub fn drive(
     buffers: &mut [u32],
     executed: &mut [u32],
     run: &mut [u32],
-    rows: &mut [[u32; 6]],
+    rows: &mut [RowCell],
 )
     requires { ⌜ (length (now weights) ≤ engine .tasks) × ((length (now preds) ≤ engine .edges) × (length (now run) ≡ 2)) ⌝ }
     ensures { λ r. ⌜

@@ -6,6 +6,7 @@ use begin::Begun;
 use task::Answer;
 use task::Limits;
 use weak_admission::WeakSizes;
+use weak_task::CopyCell;
 
 pub fn begin_lists(
     limits: Limits,
@@ -19,7 +20,7 @@ pub fn begin_lists(
     succs: &mut [u32],
     degrees: &mut [u32],
     fixed: &mut [u32],
-    rings: &mut [[u32; 2]],
+    rings: &mut [CopyCell],
     ends: &mut [u32],
     counters: &mut [i32],
     buffers: &mut [u32],

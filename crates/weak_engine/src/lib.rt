@@ -23,8 +23,10 @@ use task::Limits;
 use task::WorkerId;
 use weak_admission::WeakSizes;
 use weak_admission::WeakStepped;
+use weak_task::CopyCell;
 use weak_task::WeakAnswer;
 use weak_task::WeakRow;
+use weak_task::WeakRowCell;
 
 // The lengths of the lent lists; the rings' is counted in copies.
 fn sizes_of(
@@ -35,13 +37,13 @@ fn sizes_of(
     succs: &[u32],
     degrees: &[u32],
     fixed: &[u32],
-    rings: &[[u32; 2]],
+    rings: &[CopyCell],
     ends: &[u32],
     counters: &[i32],
     buffers: &[u32],
     executed: &[u32],
     run: &[u32],
-    rows: &[[u32; 7]],
+    rows: &[WeakRowCell],
 ) -> WeakSizes
     ensures { λ r. ⌜
         r
@@ -72,7 +74,7 @@ fn sizes_of(
 
 // The end of a Fetch by the worker with this row: accepted, it stores the row's hand and pointer.
 fn store_fetched(
-    rows: &mut [[u32; 7]],
+    rows: &mut [WeakRowCell],
     worker: WorkerId,
     row: WeakRow,
     stepped: WeakStepped,
@@ -93,7 +95,7 @@ fn store_fetched(
 
 // The end of a Start by the worker with this row: accepted, it stores the row's phase.
 fn store_started(
-    rows: &mut [[u32; 7]],
+    rows: &mut [WeakRowCell],
     worker: WorkerId,
     row: WeakRow,
     stepped: WeakStepped,
@@ -112,7 +114,7 @@ fn store_started(
 
 // The end of a Complete by the worker with this row: accepted, it stores the row's hand and write place.
 fn store_completed(
-    rows: &mut [[u32; 7]],
+    rows: &mut [WeakRowCell],
     worker: WorkerId,
     row: WeakRow,
     stepped: WeakStepped,
@@ -134,7 +136,7 @@ fn store_completed(
 // The end of a Release by the worker with this row: accepted, it stores the row's cursor, and its read place where
 // that has moved.
 fn store_released(
-    rows: &mut [[u32; 7]],
+    rows: &mut [WeakRowCell],
     worker: WorkerId,
     row: WeakRow,
     stepped: WeakStepped,
@@ -164,13 +166,13 @@ pub fn fetch(
     succs: &[u32],
     degrees: &[u32],
     fixed: &[u32],
-    rings: &[[u32; 2]],
+    rings: &[CopyCell],
     ends: &mut [u32],
     counters: &[i32],
     buffers: &[u32],
     executed: &[u32],
     run: &mut [u32],
-    rows: &mut [[u32; 7]],
+    rows: &mut [WeakRowCell],
     p: usize,
     k: usize,
     worker: WorkerId,
@@ -222,13 +224,13 @@ pub fn start(
     succs: &[u32],
     degrees: &[u32],
     fixed: &[u32],
-    rings: &[[u32; 2]],
+    rings: &[CopyCell],
     ends: &[u32],
     counters: &[i32],
     buffers: &[u32],
     executed: &[u32],
     run: &mut [u32],
-    rows: &mut [[u32; 7]],
+    rows: &mut [WeakRowCell],
     p: usize,
     k: usize,
     worker: WorkerId,
@@ -280,13 +282,13 @@ pub fn complete(
     succs: &[u32],
     degrees: &mut [u32],
     fixed: &[u32],
-    rings: &[[u32; 2]],
+    rings: &[CopyCell],
     ends: &[u32],
     counters: &mut [i32],
     buffers: &mut [u32],
     executed: &mut [u32],
     run: &mut [u32],
-    rows: &mut [[u32; 7]],
+    rows: &mut [WeakRowCell],
     p: usize,
     k: usize,
     worker: WorkerId,
@@ -352,13 +354,13 @@ pub fn release(
     succs: &[u32],
     degrees: &[u32],
     fixed: &mut [u32],
-    rings: &mut [[u32; 2]],
+    rings: &mut [CopyCell],
     ends: &mut [u32],
     counters: &mut [i32],
     buffers: &[u32],
     executed: &[u32],
     run: &mut [u32],
-    rows: &mut [[u32; 7]],
+    rows: &mut [WeakRowCell],
     p: usize,
     k: usize,
     worker: WorkerId,
@@ -426,13 +428,13 @@ pub fn begin(
     succs: &mut [u32],
     degrees: &mut [u32],
     fixed: &mut [u32],
-    rings: &mut [[u32; 2]],
+    rings: &mut [CopyCell],
     ends: &mut [u32],
     counters: &mut [i32],
     buffers: &mut [u32],
     executed: &mut [u32],
     run: &mut [u32],
-    rows: &mut [[u32; 7]],
+    rows: &mut [WeakRowCell],
     p: usize,
     k: usize,
 ) -> Answer

@@ -13,6 +13,7 @@ ghost use Rattle.weak_rows.specs.Copies.{copiesOf};
 ghost use Rattle.weak_roots.specs.Laying.{Placed, Laid, Raised};
 use task::TaskId;
 use task::WorkerId;
+use weak_task::CopyCell;
 use weak_task::TaskCopy;
 
 // No task is fixed to a worker.
@@ -32,7 +33,7 @@ fn lay_task(
     weights: &[u32],
     degrees: &[u32],
     fixed: &mut [u32],
-    rings: &mut [[u32; 2]],
+    rings: &mut [CopyCell],
     ends: &mut [u32],
     counters: &mut [i32],
     p: usize,
@@ -71,7 +72,7 @@ fn place_roots(
     weights: &[u32],
     degrees: &[u32],
     fixed: &mut [u32],
-    rings: &mut [[u32; 2]],
+    rings: &mut [CopyCell],
     ends: &mut [u32],
     counters: &mut [i32],
     p: usize,
@@ -126,7 +127,7 @@ pub fn lay_roots(
     weights: &[u32],
     degrees: &mut [u32],
     fixed: &mut [u32],
-    rings: &mut [[u32; 2]],
+    rings: &mut [CopyCell],
     ends: &mut [u32],
     counters: &mut [i32],
     p: usize,

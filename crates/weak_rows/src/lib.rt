@@ -11,8 +11,12 @@ ghost use Rattle.weak_rows.specs.Copies.{copyIn, copiesOf};
 use task::Ends;
 use task::TaskId;
 use task::WorkerId;
+use weak_task::COPY_WORDS;
+use weak_task::CopyCell;
 use weak_task::TaskCopy;
+use weak_task::WEAK_ROW_WORDS;
 use weak_task::WeakRow;
+use weak_task::WeakRowCell;
 
 const PHASE: usize = 0;
 
@@ -32,7 +36,7 @@ const TASK: usize = 0;
 
 const PREDECESSOR: usize = 1;
 
-fn row_of(cells: [u32; 7]) -> WeakRow
+fn row_of(cells: WeakRowCell) -> WeakRow
     ensures { λ r. ⌜ r ≡ rowOf cells ⌝ }
 {
     WeakRow {
@@ -49,7 +53,7 @@ fn row_of(cells: [u32; 7]) -> WeakRow
 }
 
 // The worker's row.
-pub fn row_at(rows: &[[u32; 7]], worker: WorkerId) -> WeakRow
+pub fn row_at(rows: &[WeakRowCell], worker: WorkerId) -> WeakRow
     requires { ⌜ worker .0 < length (now rows) ⌝ }
     ensures { λ r. ⌜ r ≡ getD (rowsOf (now (rows .entry))) (worker .0) idle ⌝ }
 {
@@ -57,7 +61,7 @@ pub fn row_at(rows: &[[u32; 7]], worker: WorkerId) -> WeakRow
 }
 
 // The parts of a row that a step changes.
-fn with_phase(cells: [u32; 7], phase: u32) -> [u32; 7]
+fn with_phase(cells: WeakRowCell, phase: u32) -> WeakRowCell
     ensures { λ r. ⌜ rowOf r ≡ withPhase phase (rowOf cells) ⌝ }
 {
     let mut after = cells;
@@ -65,7 +69,7 @@ fn with_phase(cells: [u32; 7], phase: u32) -> [u32; 7]
     after
 }
 
-fn with_hand(cells: [u32; 7], phase: u32, held: TaskCopy) -> [u32; 7]
+fn with_hand(cells: WeakRowCell, phase: u32, held: TaskCopy) -> WeakRowCell
     ensures { λ r. ⌜ rowOf r ≡ withHand phase held (rowOf cells) ⌝ }
 {
     let mut after = cells;
@@ -75,7 +79,7 @@ fn with_hand(cells: [u32; 7], phase: u32, held: TaskCopy) -> [u32; 7]
     after
 }
 
-fn with_pointer(cells: [u32; 7], pointer: WorkerId) -> [u32; 7]
+fn with_pointer(cells: WeakRowCell, pointer: WorkerId) -> WeakRowCell
     ensures { λ r. ⌜ rowOf r ≡ withPointer (pointer .0) (rowOf cells) ⌝ }
 {
     let mut after = cells;
@@ -83,7 +87,7 @@ fn with_pointer(cells: [u32; 7], pointer: WorkerId) -> [u32; 7]
     after
 }
 
-fn with_write(cells: [u32; 7], write: u32) -> [u32; 7]
+fn with_write(cells: WeakRowCell, write: u32) -> WeakRowCell
     ensures { λ r. ⌜ rowOf r ≡ withWrite write (rowOf cells) ⌝ }
 {
     let mut after = cells;
@@ -91,7 +95,7 @@ fn with_write(cells: [u32; 7], write: u32) -> [u32; 7]
     after
 }
 
-fn with_next(cells: [u32; 7], read: u32, cursor: u32) -> [u32; 7]
+fn with_next(cells: WeakRowCell, read: u32, cursor: u32) -> WeakRowCell
     ensures { λ r. ⌜ rowOf r ≡ withNext read cursor (rowOf cells) ⌝ }
 {
     let mut after = cells;
@@ -100,7 +104,7 @@ fn with_next(cells: [u32; 7], read: u32, cursor: u32) -> [u32; 7]
     after
 }
 
-fn with_cursor(cells: [u32; 7], cursor: u32) -> [u32; 7]
+fn with_cursor(cells: WeakRowCell, cursor: u32) -> WeakRowCell
     ensures { λ r. ⌜ rowOf r ≡ withCursor cursor (rowOf cells) ⌝ }
 {
     let mut after = cells;
@@ -109,7 +113,7 @@ fn with_cursor(cells: [u32; 7], cursor: u32) -> [u32; 7]
 }
 
 // The worker's row with such a part stored.
-pub fn set_phase(rows: &mut [[u32; 7]], worker: WorkerId, phase: u32)
+pub fn set_phase(rows: &mut [WeakRowCell], worker: WorkerId, phase: u32)
     requires { ⌜ worker .0 < length (now rows) ⌝ }
     ensures { λ r. ⌜ rowsOf (now (rows .exit)) ≡ changed (withPhase phase) (worker .0) (rowsOf (now (rows .entry))) ⌝ }
 {
@@ -117,7 +121,7 @@ pub fn set_phase(rows: &mut [[u32; 7]], worker: WorkerId, phase: u32)
     rows[at] = with_phase(rows[at], phase);
 }
 
-pub fn set_hand(rows: &mut [[u32; 7]], worker: WorkerId, phase: u32, held: TaskCopy)
+pub fn set_hand(rows: &mut [WeakRowCell], worker: WorkerId, phase: u32, held: TaskCopy)
     requires { ⌜ worker .0 < length (now rows) ⌝ }
     ensures { λ r. ⌜ rowsOf (now (rows .exit)) ≡ changed (withHand phase held) (worker .0) (rowsOf (now (rows .entry))) ⌝ }
 {
@@ -125,7 +129,7 @@ pub fn set_hand(rows: &mut [[u32; 7]], worker: WorkerId, phase: u32, held: TaskC
     rows[at] = with_hand(rows[at], phase, held);
 }
 
-pub fn set_pointer(rows: &mut [[u32; 7]], worker: WorkerId, pointer: WorkerId)
+pub fn set_pointer(rows: &mut [WeakRowCell], worker: WorkerId, pointer: WorkerId)
     requires { ⌜ worker .0 < length (now rows) ⌝ }
     ensures { λ r. ⌜ rowsOf (now (rows .exit)) ≡ changed (withPointer (pointer .0)) (worker .0) (rowsOf (now (rows .entry))) ⌝ }
 {
@@ -133,7 +137,7 @@ pub fn set_pointer(rows: &mut [[u32; 7]], worker: WorkerId, pointer: WorkerId)
     rows[at] = with_pointer(rows[at], pointer);
 }
 
-pub fn set_write(rows: &mut [[u32; 7]], worker: WorkerId, write: u32)
+pub fn set_write(rows: &mut [WeakRowCell], worker: WorkerId, write: u32)
     requires { ⌜ worker .0 < length (now rows) ⌝ }
     ensures { λ r. ⌜ rowsOf (now (rows .exit)) ≡ changed (withWrite write) (worker .0) (rowsOf (now (rows .entry))) ⌝ }
 {
@@ -141,7 +145,7 @@ pub fn set_write(rows: &mut [[u32; 7]], worker: WorkerId, write: u32)
     rows[at] = with_write(rows[at], write);
 }
 
-pub fn set_next(rows: &mut [[u32; 7]], worker: WorkerId, read: u32, cursor: u32)
+pub fn set_next(rows: &mut [WeakRowCell], worker: WorkerId, read: u32, cursor: u32)
     requires { ⌜ worker .0 < length (now rows) ⌝ }
     ensures { λ r. ⌜ rowsOf (now (rows .exit)) ≡ changed (withNext read cursor) (worker .0) (rowsOf (now (rows .entry))) ⌝ }
 {
@@ -149,7 +153,7 @@ pub fn set_next(rows: &mut [[u32; 7]], worker: WorkerId, read: u32, cursor: u32)
     rows[at] = with_next(rows[at], read, cursor);
 }
 
-pub fn set_cursor(rows: &mut [[u32; 7]], worker: WorkerId, cursor: u32)
+pub fn set_cursor(rows: &mut [WeakRowCell], worker: WorkerId, cursor: u32)
     requires { ⌜ worker .0 < length (now rows) ⌝ }
     ensures { λ r. ⌜ rowsOf (now (rows .exit)) ≡ changed (withCursor cursor) (worker .0) (rowsOf (now (rows .entry))) ⌝ }
 {
@@ -158,11 +162,11 @@ pub fn set_cursor(rows: &mut [[u32; 7]], worker: WorkerId, cursor: u32)
 }
 
 // The first n rows become those of idle workers.
-pub fn clear_rows(rows: &mut [[u32; 7]], n: usize)
+pub fn clear_rows(rows: &mut [WeakRowCell], n: usize)
     requires { ⌜ n ≤ length (now rows) ⌝ }
     ensures { λ r. ⌜ rowsOf (now (rows .exit)) ≡ clearedRows n (rowsOf (now (rows .entry))) ⌝ }
 {
-    let mut cells = [0u32; 7];
+    let mut cells = [0u32; WEAK_ROW_WORDS];
     cells[HELD_TASK] = TaskId::NIL.0;
     cells[HELD_PREDECESSOR] = TaskId::NIL.0;
     let mut i = 0;
@@ -172,7 +176,7 @@ pub fn clear_rows(rows: &mut [[u32; 7]], n: usize)
     }
 }
 
-fn copy_of(cells: [u32; 2]) -> TaskCopy
+fn copy_of(cells: CopyCell) -> TaskCopy
     ensures { λ r. ⌜ copyOf r ≡ copyIn cells ⌝ }
 {
     TaskCopy {
@@ -181,24 +185,24 @@ fn copy_of(cells: [u32; 2]) -> TaskCopy
     }
 }
 
-fn cells_of(copy: TaskCopy) -> [u32; 2]
+fn cells_of(copy: TaskCopy) -> CopyCell
     ensures { λ r. ⌜ copyIn r ≡ copyOf copy ⌝ }
 {
-    let mut cells = [0u32; 2];
+    let mut cells = [0u32; COPY_WORDS];
     cells[TASK] = copy.task.0;
     cells[PREDECESSOR] = copy.predecessor.0;
     cells
 }
 
 // The copy in a slot of the rings.
-pub fn copy_at(rings: &[[u32; 2]], place: usize) -> TaskCopy
+pub fn copy_at(rings: &[CopyCell], place: usize) -> TaskCopy
     requires { ⌜ place < length (now rings) ⌝ }
     ensures { λ r. ⌜ copyOf r ≡ getD (copiesOf (now (rings .entry))) place (copy 0 0) ⌝ }
 {
     copy_of(rings[place])
 }
 
-pub fn store_copy(rings: &mut [[u32; 2]], place: usize, copy: TaskCopy)
+pub fn store_copy(rings: &mut [CopyCell], place: usize, copy: TaskCopy)
     requires { ⌜ place < length (now rings) ⌝ }
     ensures { λ r. ⌜ copiesOf (now (rings .exit)) ≡ set (copiesOf (now (rings .entry))) place (copyOf copy) ⌝ }
 {
@@ -206,10 +210,10 @@ pub fn store_copy(rings: &mut [[u32; 2]], place: usize, copy: TaskCopy)
 }
 
 // All slots are zeroed.
-pub fn clear_copies(rings: &mut [[u32; 2]])
+pub fn clear_copies(rings: &mut [CopyCell])
     ensures { λ r. ⌜ copiesOf (now (rings .exit)) ≡ replicate (length (now (rings .entry))) (copy 0 0) ⌝ }
 {
-    let cells = [0u32; 2];
+    let cells = [0u32; COPY_WORDS];
     let mut i = 0;
     while i < rings.len() {
         rings[i] = cells;
@@ -218,7 +222,7 @@ pub fn clear_copies(rings: &mut [[u32; 2]])
 }
 
 // The copy at the head of ring q, whose ends are known; it stays there.
-pub fn head_copy(rings: &[[u32; 2]], k: usize, q: usize, ends: Ends) -> TaskCopy
+pub fn head_copy(rings: &[CopyCell], k: usize, q: usize, ends: Ends) -> TaskCopy
     requires { ⌜ (q * k + k ≤ length (now rings)) × Sound k ends ⌝ }
     ensures { λ r. ⌜ copyOf r ≡ getD (copiesOf (now (rings .entry))) (slotAt k q (ends .head)) (copy 0 0) ⌝ }
 {
@@ -228,7 +232,7 @@ pub fn head_copy(rings: &[[u32; 2]], k: usize, q: usize, ends: Ends) -> TaskCopy
 
 // A copy joins ring q of all rings.
 pub fn append_copy(
-    rings: &mut [[u32; 2]],
+    rings: &mut [CopyCell],
     words: &mut [u32],
     k: usize,
     q: usize,

@@ -32,6 +32,11 @@ impl TaskCopy {
     }
 }
 
+// A copy as its words, in the order of its fields, the same memory: its cell.
+pub const COPY_WORDS: usize = 2;
+
+pub type CopyCell = [u32; COPY_WORDS];
+
 // What a worker of a weak job keeps between its steps: as a plain job's, with a copy in hand.
 #[repr(C)]
 pub struct WeakRow {
@@ -61,6 +66,11 @@ impl WeakRow {
         }
     }
 }
+
+// A row as its words, in the order of its fields, the same memory: its cell.
+pub const WEAK_ROW_WORDS: usize = 7;
+
+pub type WeakRowCell = [u32; WEAK_ROW_WORDS];
 
 // What an accepted weak step answers: nothing more (Start, Complete), the copy fetched, or the copy made and its owner.
 pub enum WeakOutcome {

@@ -77,11 +77,11 @@ fn in_c(of: &str) -> &'static str {
         "u32" | "TaskId" | "WorkerId" => "uint32_t",
         "i32" => "int32_t",
         "usize" => "size_t",
-        // a row is lent as its cell of six words, the same memory
-        "Row" | "[u32; 6]" => "yolluvek_row",
+        // a row is lent as its cell, the same memory
+        "Row" | "RowCell" => "yolluvek_row",
         // so are a weak job's row and a copy
-        "WeakRow" | "[u32; 7]" => "yolluvek_weak_row",
-        "TaskCopy" | "[u32; 2]" => "yolluvek_copy",
+        "WeakRow" | "WeakRowCell" => "yolluvek_weak_row",
+        "TaskCopy" | "CopyCell" => "yolluvek_copy",
         "WeakReply" => "yolluvek_weak_step_reply",
         "Reply" => "yolluvek_reply",
         "StepReply" => "yolluvek_step_reply",
