@@ -7,7 +7,7 @@ ghost use Rattle.task.specs.declared.Step.{Step};
 ghost use Rattle.weak_rules.specs.Begin.{begin};
 ghost use Rattle.weak_rules.specs.Steps.{step};
 ghost use Rattle.weak_rules.specs.Plans.{resultOf};
-ghost use Rattle.weak_engine.specs.Engine.{weakCellMem};
+ghost use Rattle.weak_engine_cells.specs.Cells.{weakCellMem};
 ghost use Rattle.replies.specs.Replies.{replyOf};
 ghost use Rattle.weak_replies.specs.Replies.{weakReplyOf};
 ghost use Rattle.weak_export.specs.Replies.{replied};
@@ -51,7 +51,7 @@ pub extern "C" fn yolluvek_weak_begin(
         (now (run .entry)) (now (rows .entry))))
         ⌝ }
 {
-    let answer = weak_engine::begin(
+    let answer = weak_engine_begin::begin(
         Limits::engine(),
         weights,
         pred_starts,

@@ -1,6 +1,6 @@
-use Rattle.weak_engine.proofs.Laws.{sizes-made}
-use Rattle.weak_engine.proofs.sizes_of.Statement.{statement}
-use Rattle.weak_engine.proofs.sizes_of.Tie as tie
+use Rattle.weak_engine_cells.proofs.Laws.{sizes-made}
+use Rattle.weak_engine_cells.proofs.sizes_of.Statement.{statement}
+use Rattle.weak_engine_cells.proofs.sizes_of.Tie as tie
 
 returns : tie.Need-returns
 returns c =

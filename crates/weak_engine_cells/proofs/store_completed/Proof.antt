@@ -1,11 +1,11 @@
-use Rattle.weak_engine.proofs.Laws.{two-stored}
+use Rattle.weak_engine_cells.proofs.Laws.{two-stored}
 use mathlib.Core.Path.{refl, subst}
 use Rattle.weak_complete.specs.Complete.{HandAndWrite}
 use Rattle.weak_task.specs.Rows.{withHand}
 use Rattle.weak_rows.specs.Rows.{withWrite}
 use borrow.Author.Needs.{needs}
-use Rattle.weak_engine.proofs.store_completed.Statement.{statement}
-use Rattle.weak_engine.proofs.store_completed.Tie as tie
+use Rattle.weak_engine_cells.proofs.store_completed.Statement.{statement}
+use Rattle.weak_engine_cells.proofs.store_completed.Tie as tie
 
 enum-known-stepped : tie.Need-enum-known-stepped
 enum-known-stepped c = search needs

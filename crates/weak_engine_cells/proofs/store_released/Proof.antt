@@ -1,11 +1,11 @@
-use Rattle.weak_engine.proofs.Laws.{one-stored, cursor-stored}
+use Rattle.weak_engine_cells.proofs.Laws.{one-stored, cursor-stored}
 use mathlib.Core.Path.{refl, subst}
 use native.Mathlib.Omega.{arith}
 use Rattle.weak_release.specs.Release.{ReadAndCursor}
 use Rattle.weak_rows.specs.Rows.{withNext}
 use borrow.Author.Needs.{needs}
-use Rattle.weak_engine.proofs.store_released.Statement.{statement}
-use Rattle.weak_engine.proofs.store_released.Tie as tie
+use Rattle.weak_engine_cells.proofs.store_released.Statement.{statement}
+use Rattle.weak_engine_cells.proofs.store_released.Tie as tie
 
 enum-known-stepped : tie.Need-enum-known-stepped
 enum-known-stepped c = search needs

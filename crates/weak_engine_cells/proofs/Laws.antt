@@ -1,5 +1,5 @@
--- How a weak call is made up, its slots and rows lent as cells: the lengths of the lent lists, a step by value between the load and the store
--- of the worker's row, and begin before the rows are cleared, over all lists.
+-- How a weak step is made up, its slots and rows lent as cells: the lengths of the lent lists, and a step by value between the load and the
+-- store of the worker's row, over all lists.
 use Prim.Native.Nat.{ℕ, _<_}
 use mathlib.Core.Path.{_≡_, refl, sym, ap, subst, _∙_}
 use mathlib.Core.List.{List}
@@ -16,11 +16,10 @@ use Rattle.weak_task.specs.declared.WeakAnswer.{WeakAnswer}
 use Rattle.weak_task.specs.declared.WeakAnswer.the-variants as answer
 use Rattle.memory.specs.Field as list
 use Rattle.memory.specs.Memory.{put}
-use Rattle.weak_rules.specs.Memory.{Mem, memOf}
+use Rattle.weak_rules.specs.Memory.{Mem}
 use Rattle.weak_rules.specs.Plans.{resultOf}
-use Rattle.weak_rules.specs.Begin.{begin}
 use Rattle.weak_rules.specs.Steps.{step}
-use Rattle.weak_rows.specs.Rows.{rowsOf, withNext, withCursor, changed, clearedRows}
+use Rattle.weak_rows.specs.Rows.{rowsOf, withNext, withCursor, changed}
 use Rattle.weak_rows.specs.Copies.{copiesOf}
 use Rattle.weak_rows.proofs.Laws.{length-rows, one-changed, two-changed}
 use Rattle.weak_rows.proofs.Copies.{length-copies}
@@ -35,9 +34,7 @@ use Rattle.weak_fetch.specs.Fetch.{Fetches}
 use Rattle.weak_start.specs.Start.{Starts}
 use Rattle.weak_complete.specs.Complete.{Completes}
 use Rattle.weak_release.specs.Release.{tablesOf, wordsOf, Lent, Releases}
-use Rattle.weak_begin.specs.Begin.{Begins}
-use Rattle.begin.specs.declared.Begun.{Begun}
-use Rattle.weak_engine.specs.Engine.{weakCellMem}
+use Rattle.weak_engine_cells.specs.Cells.{weakCellMem}
 
 -- where 2, 1 and 7 pass, the worker has a row
 pub row-there : (p k i : ℕ) (sizes : WeakSizes) (j : Judged) → Knows p k i sizes j → j ≡ judged.Fit → (rows : ℕ) → sizes .rows ≡ rows → i < rows
@@ -129,12 +126,6 @@ module _ (w ps p′ ss s d f : List ℕ) (slots : List (List ℕ)) (e : List ℕ
             ≡ step limits p k i Release lent
         unfolding Releases
         release-made f′ r′ e′ c′ n′ t = rw (ended .0, ended .1) (t limits lent judges (sym measured) (sym loaded))
-
-  pub begin-made : (limits : Limits) (p k : ℕ) (rows′ : List WeakRow) (a : Begun) (ss′ s′ d′ f′ : List ℕ) (r′ : List Copy) (e′ : List ℕ) (c′ : List ℤ)
-      (b′ x′ n′ : List ℕ) → rows′ ≡ clearedRows (a .rows) (rowsOf cells)
-      → Begins limits p k (length cells) (memOf w ps p′ ss s d f (copiesOf slots) e c b x n) (memOf w ps p′ ss′ s′ d′ f′ r′ e′ c′ b′ x′ n′) a
-      → resultOf (a .answer) (memOf w ps p′ ss′ s′ d′ f′ r′ e′ c′ b′ x′ n′ rows′) ≡ begin limits p k lent
-  begin-made limits p k rows′ a ss′ s′ d′ f′ r′ e′ c′ b′ x′ n′ cleared t = rw cleared (t .0 (rowsOf cells) (length-rows cells))
 
 -- the end of an accepted step, whose row is stored by one part or two
 module _ (cells : List (List ℕ)) (i : ℕ) (row : WeakRow) (h : i < length cells) (loaded : row ≡ getD (rowsOf cells) i idle)

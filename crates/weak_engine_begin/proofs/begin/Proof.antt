@@ -1,7 +1,7 @@
-use Rattle.weak_engine.proofs.Laws.{begin-made}
+use Rattle.weak_engine_begin.proofs.Laws.{begin-made}
 use borrow.Author.Needs.{needs}
-use Rattle.weak_engine.proofs.begin.Statement.{statement}
-use Rattle.weak_engine.proofs.begin.Tie as tie
+use Rattle.weak_engine_begin.proofs.begin.Statement.{statement}
+use Rattle.weak_engine_begin.proofs.begin.Tie as tie
 
 begin-lists-requires : tie.Need-begin-lists-requires
 begin-lists-requires c κs = search needs

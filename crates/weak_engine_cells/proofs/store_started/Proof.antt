@@ -1,10 +1,10 @@
-use Rattle.weak_engine.proofs.Laws.{one-stored}
+use Rattle.weak_engine_cells.proofs.Laws.{one-stored}
 use mathlib.Core.Path.{refl, subst}
 use Rattle.weak_start.specs.Start.{PhaseAlone}
 use Rattle.weak_rows.specs.Rows.{withPhase}
 use borrow.Author.Needs.{needs}
-use Rattle.weak_engine.proofs.store_started.Statement.{statement}
-use Rattle.weak_engine.proofs.store_started.Tie as tie
+use Rattle.weak_engine_cells.proofs.store_started.Statement.{statement}
+use Rattle.weak_engine_cells.proofs.store_started.Tie as tie
 
 enum-known-stepped : tie.Need-enum-known-stepped
 enum-known-stepped c = search needs

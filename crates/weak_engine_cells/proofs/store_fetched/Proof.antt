@@ -1,10 +1,10 @@
-use Rattle.weak_engine.proofs.Laws.{two-stored}
+use Rattle.weak_engine_cells.proofs.Laws.{two-stored}
 use mathlib.Core.Path.{refl, subst}
 use Rattle.weak_fetch.specs.Fetch.{HandAndPointer}
 use Rattle.weak_task.specs.Rows.{withHand, withPointer}
 use borrow.Author.Needs.{needs}
-use Rattle.weak_engine.proofs.store_fetched.Statement.{statement}
-use Rattle.weak_engine.proofs.store_fetched.Tie as tie
+use Rattle.weak_engine_cells.proofs.store_fetched.Statement.{statement}
+use Rattle.weak_engine_cells.proofs.store_fetched.Tie as tie
 
 enum-known-stepped : tie.Need-enum-known-stepped
 enum-known-stepped c = search needs
