@@ -12,6 +12,7 @@ use replies::Reply;
 use replies::StepReply;
 use task::Limits;
 use task::RowCell;
+use task::StepAnswer;
 use task::WorkerId;
 
 #[no_mangle]
@@ -117,6 +118,9 @@ pub extern "C" fn yolluvek_preview_fetch(
         k,
         WorkerId(worker),
     );
+    if let StepAnswer::Refused(number, detail) = answer {
+        return replies::refused(number, detail);
+    }
     replies::step_reply_of(answer)
 }
 
@@ -171,6 +175,9 @@ pub extern "C" fn yolluvek_preview_start(
         k,
         WorkerId(worker),
     );
+    if let StepAnswer::Refused(number, detail) = answer {
+        return replies::refused(number, detail);
+    }
     replies::step_reply_of(answer)
 }
 
@@ -225,6 +232,9 @@ pub extern "C" fn yolluvek_preview_complete(
         k,
         WorkerId(worker),
     );
+    if let StepAnswer::Refused(number, detail) = answer {
+        return replies::refused(number, detail);
+    }
     replies::step_reply_of(answer)
 }
 
@@ -279,5 +289,8 @@ pub extern "C" fn yolluvek_preview_release(
         k,
         WorkerId(worker),
     );
+    if let StepAnswer::Refused(number, detail) = answer {
+        return replies::refused(number, detail);
+    }
     replies::step_reply_of(answer)
 }

@@ -1,5 +1,6 @@
 use Rattle.engine_export.proofs.Laws.{step-replied}
 use Rattle.replies.specs.Replies.{stepReplyOf}
+use Rattle.replies.proofs.Laws.{in-case}
 use borrow.Author.Needs.{needs}
 use Rattle.preview_export.proofs.yolluvek_preview_fetch.Statement.{statement}
 use Rattle.preview_export.proofs.yolluvek_preview_fetch.Tie as tie
@@ -10,8 +11,11 @@ preview-requires c κs = search needs
 fetch-requires : tie.Need-fetch-requires
 fetch-requires c κs = search needs
 
-step-reply-of-requires : tie.Need-step-reply-of-requires
-step-reply-of-requires c κs = search needs
+enum-known-answer : tie.Need-enum-known-answer
+enum-known-answer c = search needs
+
+refused-requires : tie.Need-refused-requires
+refused-requires c κs = search needs
 
 same-length : tie.Need-same-length
 same-length c = search needs
@@ -25,8 +29,30 @@ same-length-3 c = search needs
 returns : tie.Need-returns
 returns c =
     step-replied _ _ _ _ stepReplyOf _ _ _ _ _ _
-    (c .before .before .before .before .before .before .before .before .before .before .preview .ensures)
-    (c .before .before .before .before .before .before .fetch .ensures)
+    (c .before .before .before .before .before .before .before .before .before .before .before .before .before .preview .ensures)
+    (c .before .before .before .before .before .before .before .before .before .fetch .ensures)
+    (in-case stepReplyOf _ _ _ (c .before .before .answer .given .1) (c .refused .ensures))
+
+enum-told : tie.Need-enum-told
+enum-told c = search needs
+
+step-reply-of-requires : tie.Need-step-reply-of-requires
+step-reply-of-requires c κs = search needs
+
+same-length-4 : tie.Need-same-length-4
+same-length-4 c = search needs
+
+same-length-5 : tie.Need-same-length-5
+same-length-5 c = search needs
+
+same-length-6 : tie.Need-same-length-6
+same-length-6 c = search needs
+
+returns-2 : tie.Need-returns-2
+returns-2 c =
+    step-replied _ _ _ _ stepReplyOf _ _ _ _ _ _
+    (c .before .before .before .before .before .before .before .before .before .before .before .before .preview .ensures)
+    (c .before .before .before .before .before .before .before .before .fetch .ensures)
     (c .step-reply-of .ensures)
 
 pub yolluvek-preview-fetch-spec : {M : Type 1} → statement M
@@ -35,8 +61,15 @@ yolluvek-preview-fetch-spec =
     (tie.spec
     preview-requires
     fetch-requires
-    step-reply-of-requires
+    enum-known-answer
+    refused-requires
     same-length
     same-length-2
     same-length-3
-    returns)
+    returns
+    enum-told
+    step-reply-of-requires
+    same-length-4
+    same-length-5
+    same-length-6
+    returns-2)
