@@ -8,6 +8,7 @@ use Rattle.lists.proofs.Apart.{unequal}
 use Rattle.task.specs.Phases.{suits, leadsTo, nextPhase}
 use Rattle.task.specs.declared.Row.{Row}
 use Rattle.task.specs.declared.Step.{Step}
+use Rattle.task.specs.declared.Step.the-variants as step
 use Rattle.task.specs.declared.Next.{Next}
 use Rattle.task.specs.declared.Next.the-variants as next
 use Rattle.plans.specs.Words.{phaseFits}
@@ -24,18 +25,29 @@ module _ (phase : ℕ) (s : Step) where
   unfolding phaseAfter
   phase-damaged h = rw (lt-leb phase 2 h) refl
 
-  module _ (h : phase ≤ 2) (to : Next) (e : to ≡ nextPhase phase s) where
-    pub phase-wrong : to ≡ next.Refused → Refused 9 phase ≡ phaseAfter phase s
-    unfolding phaseAfter
-    phase-wrong w = rw (le-leb phase 2 h, ← e, w) refl
-
-    pub phase-suits : (q : ℕ) → to ≡ next.To q → To q ≡ phaseAfter phase s
-    unfolding phaseAfter
-    phase-suits q w = rw (le-leb phase 2 h, ← e, w) refl
-
   passed-to : (b : Bool) (a q : ℕ) → cond b (next.To a) next.Refused ≡ next.To q → (b ≡ true) × (q ≡ a)
   passed-to true a q e = (refl, cc)
   passed-to false a q e = unequal cc
+
+  -- a word that a step suits is a phase
+  suits-fits : (q : ℕ) → nextPhase phase s ≡ next.To q → phaseFits phase ≡ true
+  unfolding nextPhase
+  suits-fits q e = rw (eqb-true phase (suits s) (passed-to (eqb phase (suits s)) (leadsTo s) q e .0)) (fits s)
+    where
+      fits : (x : Step) → phaseFits (suits x) ≡ true
+      fits step.Fetch = refl
+      fits step.Start = refl
+      fits step.Complete = refl
+      fits step.Release = refl
+
+  module _ (to : Next) (e : to ≡ nextPhase phase s) where
+    pub phase-wrong : phase ≤ 2 → to ≡ next.Refused → Refused 9 phase ≡ phaseAfter phase s
+    unfolding phaseAfter
+    phase-wrong h w = rw (le-leb phase 2 h, ← e, w) refl
+
+    pub phase-suits : (q : ℕ) → to ≡ next.To q → To q ≡ phaseAfter phase s
+    unfolding phaseAfter
+    phase-suits q w = rw (suits-fits q (sym e ∙ w), ← e, w) refl
 
   -- the phase that is led to
   pub phase-leads : (q : ℕ) → phaseAfter phase s ≡ To q → (phase ≡ suits s) × (q ≡ leadsTo s)

@@ -100,11 +100,11 @@ pub enum Phased {
 pub fn phase_after(phase: u32, step: Step) -> Phased
     ensures { λ r. ⌜ r ≡ phaseAfter phase step ⌝ }
 {
-    if 2 < phase {
-        return Phased::Refused(refusal::DAMAGED, 0);
-    }
-    let next = task::next_phase(phase as usize, step);
+    let next = task::next_phase(phase, step);
     let Next::To(to) = next else {
+        if 2 < phase {
+            return Phased::Refused(refusal::DAMAGED, 0);
+        }
         return Phased::Refused(refusal::WRONG_PHASE, phase);
     };
     Phased::To(to)

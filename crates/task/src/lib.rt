@@ -101,15 +101,18 @@ const PHASES: [[Next; 4]; 3] = [
     [Next::Refused, Next::Refused, Next::To(0), Next::Refused],
 ];
 
-// The phase after a step taken in a phase below 3. Read at constant places the table takes no memory.
-pub fn next_phase(phase: usize, step: Step) -> Next
-    requires { ⌜ phase < 3 ⌝ }
+// No step suits a word that is no phase.
+const NO_PHASE: [Next; 4] = [Next::Refused, Next::Refused, Next::Refused, Next::Refused];
+
+// The phase after a step taken in this phase. Read at constant places the table takes no memory.
+pub fn next_phase(phase: u32, step: Step) -> Next
     ensures { λ r. ⌜ r ≡ nextPhase phase step ⌝ }
 {
     let row = match phase {
         0 => PHASES[0],
         1 => PHASES[1],
-        _ => PHASES[2],
+        2 => PHASES[2],
+        _ => NO_PHASE,
     };
     match step {
         Step::Fetch => row[0],

@@ -3,7 +3,7 @@ use mathlib.Core.Path.{_≡_}
 use mathlib.Core.Logic.{⊎-elim}
 use native.Mathlib.Omega.{arith}
 use Rattle.task.specs.declared.Step.the-variants.{Fetch, Start, Complete, Release}
-use Rattle.task.proofs.PhaseTable.{rowOf, row-of, column-of}
+use Rattle.task.proofs.PhaseTable.{rowOf, row-of, no-row, column-of}
 use borrow.Author.Needs.{needs}
 use Rattle.task.proofs.next_phase.Statement.{statement}
 use Rattle.task.proofs.next_phase.Tie as tie
@@ -46,7 +46,8 @@ array-copy-out-result-4 c = search needs
 row-is : (m : lts.At-match-came reads.Pre reads.Post) → m .match .row ≡ rowOf (m .before .args .phase)
 row-is m =
     ⊎-elim (λ w. row-of _ _ 0 (omega arith) (omega arith) (w .2))
-    (⊎-elim (λ w. row-of _ _ 1 (omega arith) (omega arith) (w .2)) (λ w. row-of _ _ 2 (omega arith) (omega arith) (w .2)))
+    (⊎-elim (λ w. row-of _ _ 1 (omega arith) (omega arith) (w .2))
+    (⊎-elim (λ w. row-of _ _ 2 (omega arith) (omega arith) (w .2)) (λ w. no-row _ _ (omega arith) (w .1))))
     (m .match .came)
 
 returns : tie.Need-returns
