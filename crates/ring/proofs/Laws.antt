@@ -3,13 +3,13 @@ use Prim.Native.Nat.{ℕ, _+_, _-_, _*_, _%_, _≤_, _<_}
 use mathlib.Core.Path.{_≡_, refl}
 use mathlib.Core.Bool.{Bool, true, false, _&&_}
 use mathlib.Core.List.{List}
-use lib.Dec.{ltb, leb, eqb}
+use lib.Dec.{ltb, eqb}
 use lib.ListN.{length, set}
 use native.Mathlib.Omega.{arith}
 use native.Mathlib.Nat.{mod-lt}
-use borrow.Author.Tests.{lt-ltb}
+use borrow.Author.Tests.{lt-ltb, le-ltb, lt-leb, le-leb}
 use Rattle.lists.specs.Circles.{after}
-use Rattle.lists.proofs.Told.{Told, told-true, told-false, lt-told, le-told, same-told}
+use Rattle.lists.proofs.Told.{Told, told-true, told-false, same-told}
 use Rattle.task.specs.declared.Ends.{Ends}
 use Rattle.ring.specs.Ring.{sound, slotAt, endsAt, storeEnds, headOn, tailOn, ringsOf, appendedAt, Inside}
 
@@ -21,7 +21,7 @@ and-right : (b : Bool) → (b && true) ≡ b
 and-right true = refl
 and-right false = refl
 
--- With the slot after an end, or the one that head plus count leads to, computed beforehand.
+-- With the slot after an end computed beforehand.
 module _ (k x : ℕ) (e : Ends) where
   pub tail-made : x ≡ after k (e .tail) → record { head = e .head; tail = x; count = e .count + 1 } ≡ tailOn k e
   unfolding tailOn
@@ -31,22 +31,27 @@ module _ (k x : ℕ) (e : Ends) where
   unfolding headOn
   head-made h = rw h
 
-  pub sound-made : (e .head < k → e .count ≤ k → x ≡ (e .head + e .count) % k) → (ltb (e .head) k && leb (e .count) k && eqb x (e .tail)) ≡ sound k e
+-- The tests of a ring's ends, one after the other; x is the slot that head plus count leads to.
+module _ (k : ℕ) (e : Ends) where
+  pub sound-head : k ≤ e .head → false ≡ sound k e
   unfolding sound
-  sound-made reached = go (lt-told (e .head) k) (le-told (e .count) k)
-    where
-      leads : Bool
-      leads = eqb ((e .head + e .count) % k) (e .tail)
+  sound-head h = rw (le-ltb (e .head) k h) refl
 
-      go : Told (ltb (e .head) k) (¬ (k ≤ e .head)) (k ≤ e .head) → Told (leb (e .count) k) (¬ (k < e .count)) (k < e .count)
-          → (ltb (e .head) k && leb (e .count) k && eqb x (e .tail)) ≡ (ltb (e .head) k && ltb (e .tail) k && leb (e .count) k && leads)
-      go (told-false f h) c = rw f
-      go (told-true t h) (told-false f c) = rw (t, f, and-false (ltb (e .tail) k))
-      go (told-true t h) (told-true u c) = rw (t, u, reached (omega (arith, h)) (omega (arith, c)), and-right (ltb (e .tail) k)) (below (same-told ((e .head + e .count) % k) (e .tail)))
-        where
-          below : Told leads ((e .head + e .count) % k ≡ e .tail) (¬ ((e .head + e .count) % k ≡ e .tail)) → leads ≡ (ltb (e .tail) k && leads)
-          below (told-true v l) = rw (v, lt-ltb (e .tail) k (rw (← l) (mod-lt (e .head + e .count) (omega (arith, h)))))
-          below (told-false v l) = rw (v, and-false (ltb (e .tail) k))
+  module _ (h : e .head < k) where
+    pub sound-count : k < e .count → false ≡ sound k e
+    unfolding sound
+    sound-count c = rw (lt-ltb (e .head) k h, lt-leb (e .count) k c, and-false (ltb (e .tail) k)) refl
+
+    pub sound-tail : e .count ≤ k → (x : ℕ) → x ≡ (e .head + e .count) % k → eqb x (e .tail) ≡ sound k e
+    unfolding sound
+    sound-tail c x reached = rw (lt-ltb (e .head) k h, le-leb (e .count) k c, and-right (ltb (e .tail) k), reached) (below (same-told ((e .head + e .count) % k) (e .tail)))
+      where
+        leads : Bool
+        leads = eqb ((e .head + e .count) % k) (e .tail)
+
+        below : Told leads ((e .head + e .count) % k ≡ e .tail) (¬ ((e .head + e .count) % k ≡ e .tail)) → leads ≡ (ltb (e .tail) k && leads)
+        below (told-true v l) = rw (v, lt-ltb (e .tail) k (rw (← l) (mod-lt (e .head + e .count) (omega (arith, h)))))
+        below (told-false v l) = rw (v, and-false (ltb (e .tail) k))
 
 -- Ring q of all rings.
 module _ (slots ends : List ℕ) (k q : ℕ) where

@@ -29,8 +29,13 @@ fn reached(x: usize, k: usize) -> usize
 pub fn is_sound(ends: Ends, k: usize) -> bool
     ensures { λ r. ⌜ r ≡ sound k ends ⌝ }
 {
-    let tail = reached(ends.head as usize + ends.count as usize, k);
-    ((ends.head as usize) < k) & (ends.count as usize <= k) & (tail == ends.tail as usize)
+    if k <= ends.head as usize {
+        return false;
+    }
+    if k < ends.count as usize {
+        return false;
+    }
+    reached(ends.head as usize + ends.count as usize, k) == ends.tail as usize
 }
 
 pub fn is_empty(ends: Ends) -> bool
