@@ -1,37 +1,40 @@
 -- The tests up to the successor, in their order; what is known of a successor reached; and the plans, of any family, that begin with these tests.
 use Prim.Native.Nat.{ℕ, _+_, _-_, _*_, _≤_, _<_}
-use mathlib.Core.Path.{_≡_, refl}
-use mathlib.Core.Bool.{Bool, true, false, cond, not, _&&_}
+use mathlib.Core.Path.{_≡_, refl, sym, ap, _∙_}
+use mathlib.Core.Bool.{Bool, true, false, cond, _&&_}
 use mathlib.Core.List.{List}
 use native.Mathlib.Omega.{arith}
 use lib.ListN.{length}
 use lib.Dec.{ltb, leb, eqb}
-use borrow.Author.Tests.{leb-true, ltb-true, eqb-false, lt-ltb, le-ltb, eq-eqb, ne-eqb, not-true, not-false}
+use borrow.Author.Tests.{leb-true, ltb-true, eqb-false, le-leb, lt-leb, lt-ltb, le-ltb, eq-eqb, ne-eqb}
 use Rattle.lists.proofs.Apart.{unequal}
-use Rattle.lists.proofs.Told.{and-true}
+use Rattle.lists.proofs.Told.{and-true, and-false}
 use Rattle.task.specs.Refusals.{nothingThere}
+use Rattle.task.specs.declared.TaskId.{TaskId}
 use Rattle.memory.specs.Family.{Family}
 use Rattle.memory.specs.Memory.{Mem}
 use Rattle.plans.specs.Memory.{tasks, edges, placesIn, oldest, successor, firstSucc, pastSucc}
 use Rattle.plans.specs.Words.{taskFits, placesFit, cursorFits, rangeFits}
 use Rattle.plans.specs.Plans.{Plan, refuse, refuseIf, checked}
-use Rattle.release_plan.specs.Reach.{within, reachOf, successorAt}
+use Rattle.release_plan.specs.Reach.{Successor, successorOf, within, reachOf, successorAt}
 use Rattle.release_plan.specs.Reach as words
-use Rattle.release_plan.specs.declared.Successor.{Successor}
 use Rattle.release_plan.specs.declared.Reached.{Reached}
 use Rattle.release_plan.specs.declared.Reached.the-variants.{Refused, At}
 
--- both parts of a test that passed
+-- both parts of a test that passed, and a test of which both parts pass
 pub both : (a b c d : ℕ) → (leb a b && leb c d) ≡ true → (a ≤ b) × (c ≤ d)
 both a b c d e = (leb-true a b (and-true (leb a b) (leb c d) e .0), leb-true c d (and-true (leb a b) (leb c d) e .1))
 
--- the buffer's word lies within worker i's part
-pub read-inside : (i n read write l : ℕ) → i * n + n ≤ l → not (leb read write && leb write n) ≡ false → ¬ (read ≡ write) → i * n + read < l
-read-inside i n read write l h a e = omega (arith, both read write write n (not-false (leb read write && leb write n) a))
+hold : (a b c d : ℕ) → a ≤ b → c ≤ d → (leb a b && leb c d) ≡ true
+hold a b c d e f = rw (le-leb a b e, le-leb c d f) refl
 
--- a successor below the count lies within the table
-pub successor-inside : (first past cursor l : ℕ) → not (leb first past && leb past l) ≡ false → cursor < past - first → first + cursor < l
-successor-inside first past cursor l g h = omega (arith, both first past past l (not-false (leb first past && leb past l) g))
+fail : (a b c d : ℕ) → (a ≤ b → d < c) → (leb a b && leb c d) ≡ false
+fail a b c d f = and-false (leb a b) (leb c d) (λ e. lt-leb c d (f (leb-true a b e)))
+
+-- the successor that was reached
+abbrev successorIn : Successor → Reached → Successor
+successorIn y (Refused n d) = y
+successorIn y (At t done count) = successorOf t done count
 
 module _ (i n read write cursor : ℕ) (ss s b : List ℕ) where
   abbrev t : ℕ
@@ -56,41 +59,51 @@ module _ (i n read write cursor : ℕ) (ss s b : List ℕ) where
   abbrev range : Bool
   range = leb first past && leb past (length s)
 
-  pub reach-places : not places ≡ true → Refused 8 0 ≡ reached
-  unfolding reachOf
-  reach-places e = rw (not-true places e) refl
+  abbrev there : Successor
+  there = successorAt i n read write cursor ss s b
 
-  module _ (a : not places ≡ false) where
+  pub reach-write : n < write → Refused 8 0 ≡ reached
+  unfolding reachOf
+  reach-write e = rw (fail read write write n (λ q. e)) refl
+
+  pub reach-places : write < read → Refused 8 0 ≡ reached
+  unfolding reachOf
+  reach-places e = rw (fail read write write n (λ q. absurd (omega arith))) refl
+
+  module _ (w : write ≤ n) where
     pub reach-empty : read ≡ write → Refused 10 0 ≡ reached
     unfolding reachOf
-    reach-empty e = rw (not-false places a, eq-eqb read write e) refl
+    reach-empty e = rw (hold read write write n (omega arith) w, eq-eqb read write e) refl
 
-    module _ (f : ¬ (read ≡ write)) where
+    module _ (f : read < write) where
       pub reach-task : n ≤ t → Refused 8 0 ≡ reached
       unfolding reachOf
-      reach-task e = rw (not-false places a, ne-eqb read write f, le-ltb t n e) refl
+      reach-task e = rw (hold read write write n (omega arith) w, ne-eqb read write (λ q. absurd (omega arith)), le-ltb t n e) refl
 
       module _ (h : t < n) where
-        pub reach-range : not range ≡ true → Refused 8 0 ≡ reached
+        -- the tests up to the range passed
+        up-to-range : reached ≡ within range (within (ltb cursor (past - first)) (within (ltb x n) (At (there .task) (there .completed) (there .count))))
         unfolding reachOf
-        reach-range e = rw (not-false places a, ne-eqb read write f, lt-ltb t n h, not-true range e) refl
+        up-to-range = rw (hold read write write n (omega arith) w, ne-eqb read write (λ q. absurd (omega arith)), lt-ltb t n h) refl
 
-        module _ (g : not range ≡ false) where
+        pub reach-past : length s < past → Refused 8 0 ≡ reached
+        reach-past e = sym (up-to-range ∙ rw (fail first past past (length s) (λ q. e)) refl)
+
+        pub reach-first : past < first → Refused 8 0 ≡ reached
+        reach-first e = sym (up-to-range ∙ rw (fail first past past (length s) (λ q. absurd (omega arith))) refl)
+
+        module _ (g : past ≤ length s) (l : first ≤ past) where
           pub reach-cursor : past - first ≤ cursor → Refused 8 0 ≡ reached
-          unfolding reachOf
-          reach-cursor e =
-              rw (not-false places a, ne-eqb read write f, lt-ltb t n h, not-false range g, le-ltb cursor (past - first) e) refl
+          reach-cursor e = sym (up-to-range ∙ rw (hold first past past (length s) l g, le-ltb cursor (past - first) e) refl)
 
           module _ (c : cursor < past - first) where
             pub reach-word : n ≤ x → Refused 8 0 ≡ reached
-            unfolding reachOf
             reach-word e =
-                rw (not-false places a, ne-eqb read write f, lt-ltb t n h, not-false range g, lt-ltb cursor (past - first) c, le-ltb x n e) refl
+                sym (up-to-range ∙ rw (hold first past past (length s) l g, lt-ltb cursor (past - first) c, le-ltb x n e) refl)
 
-            pub reach-at : x < n → At (successorAt i n read write cursor ss s b) ≡ reached
-            unfolding reachOf
+            pub reach-at : x < n → At (there .task) (there .completed) (there .count) ≡ reached
             reach-at e =
-                rw (not-false places a, ne-eqb read write f, lt-ltb t n h, not-false range g, lt-ltb cursor (past - first) c, lt-ltb x n e) refl
+                sym (up-to-range ∙ rw (hold first past past (length s) l g, lt-ltb cursor (past - first) c, lt-ltb x n e) refl)
 
   -- what is known of a successor reached
   pub record Reaches (y : Successor) : Type 0 where
@@ -99,15 +112,14 @@ module _ (i n read write cursor : ℕ) (ss s b : List ℕ) where
     pub inside : cursor < y .count
     pub task : y .task .0 < n
 
-  pub reach-known : (y : Successor) → reached ≡ At y → Reaches y
+  pub reach-known : (y : Successor) → reached ≡ At (y .task) (y .completed) (y .count) → Reaches y
   unfolding reachOf
   reach-known y v = go places (eqb read write) (ltb t n) range (ltb cursor (past - first)) (ltb x n) refl refl refl refl v
     where
-      same : At (successorAt i n read write cursor ss s b) ≡ At y → y ≡ successorAt i n read write cursor ss s b
-      same q = cc
+      same : At (there .task) (there .completed) (there .count) ≡ At (y .task) (y .completed) (y .count) → y ≡ there
+      same q = sym (ap (successorIn y) q)
 
-      known : places ≡ true → eqb read write ≡ false → ltb cursor (past - first) ≡ true → ltb x n ≡ true
-          → y ≡ successorAt i n read write cursor ss s b → Reaches y
+      known : places ≡ true → eqb read write ≡ false → ltb cursor (past - first) ≡ true → ltb x n ≡ true → y ≡ there → Reaches y
       known p e c w q =
           record {
             is = q;
@@ -117,8 +129,9 @@ module _ (i n read write cursor : ℕ) (ss s b : List ℕ) where
           }
 
       go : (b₁ b₂ b₃ b₄ b₅ b₆ : Bool) → places ≡ b₁ → eqb read write ≡ b₂ → ltb cursor (past - first) ≡ b₅ → ltb x n ≡ b₆
-          → within b₁ (cond b₂ (Refused nothingThere 0) (within b₃ (within b₄ (within b₅ (within b₆ (At (successorAt i n read write cursor ss s b)))))))
-          ≡ At y
+          → within b₁
+          (cond b₂ (Refused nothingThere 0) (within b₃ (within b₄ (within b₅ (within b₆ (At (there .task) (there .completed) (there .count)))))))
+          ≡ At (y .task) (y .completed) (y .count)
           → Reaches y
       go false b₂ b₃ b₄ b₅ b₆ p e c w q = unequal cc
       go true true b₃ b₄ b₅ b₆ p e c w q = unequal cc
@@ -128,15 +141,18 @@ module _ (i n read write cursor : ℕ) (ss s b : List ℕ) where
       go true false true true true false p e c w q = unequal cc
       go true false true true true true p e c w q = known p e c w (same q)
 
+  pub reach-inside : (z : Reached) → z ≡ reached → (u done : TaskId) (count : ℕ) → z ≡ At u done count → u .0 < n
+  reach-inside z h u done count e = reach-known (successorOf u done count) (sym h ∙ e) .task
+
 -- a plan that goes on once a successor is reached
 abbrev pub planned : {O U : Type 0} → Reached → Plan O U → Plan O U
 planned (Refused n d) rest = refuse n d
-planned (At y) rest = rest
+planned (At t done count) rest = rest
 
 pub planned-refused : {O U : Type 0} (z : Reached) (rest : Plan O U) (n d : ℕ) → z ≡ Refused n d → planned z rest ≡ refuse n d
 planned-refused z rest n d e = rw e refl
 
-pub planned-at : {O U : Type 0} (z : Reached) (rest : Plan O U) (y : Successor) → z ≡ At y → planned z rest ≡ rest
+pub planned-at : {O U : Type 0} (z : Reached) (rest : Plan O U) (y : Successor) → z ≡ At (y .task) (y .completed) (y .count) → planned z rest ≡ rest
 planned-at z rest y e = rw e refl
 
 module _ {F : Family} (i : ℕ) (m : Mem F) where
@@ -164,7 +180,7 @@ module _ {F : Family} (i : ℕ) (m : Mem F) where
     where
       go : (b₁ b₂ b₃ b₄ b₅ b₆ : Bool) (y : Successor)
           → checked b₁ (refuseIf b₂ nothingThere 0 (checked b₃ (checked b₄ (checked b₅ (checked b₆ rest)))))
-          ≡ planned (within b₁ (cond b₂ (Refused nothingThere 0) (within b₃ (within b₄ (within b₅ (within b₆ (At y))))))) rest
+          ≡ planned (within b₁ (cond b₂ (Refused nothingThere 0) (within b₃ (within b₄ (within b₅ (within b₆ (At (y .task) (y .completed) (y .count)))))))) rest
       go false b₂ b₃ b₄ b₅ b₆ y = refl
       go true true b₃ b₄ b₅ b₆ y = refl
       go true false false b₄ b₅ b₆ y = refl

@@ -5,9 +5,18 @@ use mathlib.Core.List.{List}
 use lib.ListN.{length, getD}
 use lib.Dec.{ltb, leb, eqb}
 use Rattle.task.specs.Refusals.{damaged, nothingThere}
-use Rattle.release_plan.specs.declared.Successor.{Successor}
+use Rattle.task.specs.declared.TaskId.{TaskId}
 use Rattle.release_plan.specs.declared.Reached.{Reached}
 use Rattle.release_plan.specs.declared.Reached.the-variants.{Refused, At}
+
+-- the successor at the cursor, the completed task that it follows, and how many successors that one has
+pub record Successor : Type 0 where
+  pub task : TaskId
+  pub completed : TaskId
+  pub count : ℕ
+
+abbrev pub successorOf : TaskId → TaskId → ℕ → Successor
+successorOf t done n = record { task = t; completed = done; count = n }
 
 -- a word that is read must be in its range
 abbrev pub within : Bool → Reached → Reached
@@ -29,7 +38,7 @@ module _ (i n read write cursor : ℕ) (ss s b : List ℕ) where
   next = getD s (first + cursor) 0
 
   abbrev pub successorAt : Successor
-  successorAt = record { task = record { 0 = next }; completed = record { 0 = completed }; count = past - first }
+  successorAt = successorOf (record { 0 = next }) (record { 0 = completed }) (past - first)
 
   -- "the oldest task in i's buffer, its successor s at the cursor"
   unfoldable pub reachOf : Reached
@@ -39,4 +48,4 @@ module _ (i n read write cursor : ℕ) (ss s b : List ℕ) where
       (within (ltb completed n)
       (within (leb first past && leb past (length s))
       (within (ltb cursor (past - first))
-      (within (ltb next n) (At successorAt))))))
+      (within (ltb next n) (At (successorAt .task) (successorAt .completed) (successorAt .count)))))))

@@ -5,7 +5,7 @@ ghost use lib.ListN.{length};
 ghost use Rattle.task.specs.Types.{engine};
 ghost use Rattle.ring.specs.Ring.{endWords};
 ghost use Rattle.release_plan.specs.Reach.{reachOf};
-ghost use Rattle.release_plan.specs.Picks.{Picked};
+ghost use Rattle.release_plan.specs.Picks.{degreeOf, Picked};
 ghost use Rattle.release_plan.specs.Owners.{ownerOf, Owned};
 use counters::Choice;
 use searches::Found;
@@ -15,17 +15,10 @@ use task::TaskId;
 use task::WorkerId;
 use task::refusal;
 
-// The successor at the cursor, the completed task that it follows, and how many successors that one has.
-pub struct Successor {
-    pub task: TaskId,
-    pub completed: TaskId,
-    pub count: u32,
-}
-
-// Refused, or the successor at the cursor.
+// Refused, or the successor at the cursor, the completed task that it follows, and how many successors that one has.
 pub enum Reached {
     Refused(u32, u32),
-    At(Successor),
+    At(TaskId, TaskId, u32),
 }
 
 // The oldest task in the worker's buffer, and its successor at the cursor, among n tasks.
@@ -42,40 +35,66 @@ pub fn pick_successor(
     requires { ⌜ (length (now «succ_starts») ≡ n + 1) × (worker .0 * n + n ≤ length (now buffers)) ⌝ }
     ensures { λ r. ⌜ r ≡ reachOf (worker .0) n read write cursor (now («succ_starts» .entry)) (now (succs .entry)) (now (buffers .entry)) ⌝ }
 {
-    if !((read <= write) & (write as usize <= n)) {
+    if n < write as usize {
         return Reached::Refused(refusal::DAMAGED, 0);
     }
-    if read == write {
-        return Reached::Refused(refusal::NOTHING_THERE, 0);
+    if write <= read {
+        if read == write {
+            return Reached::Refused(refusal::NOTHING_THERE, 0);
+        }
+        return Reached::Refused(refusal::DAMAGED, 0);
     }
     let done = buffers[worker.0 as usize * n + read as usize];
     if n <= done as usize {
         return Reached::Refused(refusal::DAMAGED, 0);
     }
-    let first = succ_starts[done as usize];
     let past = succ_starts[done as usize + 1];
-    if !((first <= past) & (past as usize <= succs.len())) {
+    if succs.len() < past as usize {
         return Reached::Refused(refusal::DAMAGED, 0);
     }
-    if past - first <= cursor {
+    let first = succ_starts[done as usize];
+    if past < first {
+        return Reached::Refused(refusal::DAMAGED, 0);
+    }
+    let count = past - first;
+    if count <= cursor {
         return Reached::Refused(refusal::DAMAGED, 0);
     }
     let task = succs[first as usize + cursor as usize];
     if n <= task as usize {
         return Reached::Refused(refusal::DAMAGED, 0);
     }
-    Reached::At(Successor {
-        task: TaskId(task),
-        completed: TaskId(done),
-        count: past - first,
-    })
+    Reached::At(TaskId(task), TaskId(done), count)
 }
 
-// Refused; or a successor that waits on, with the degree left to it; or one that is ready.
+// Refused; or a successor that waits on, with the degree left to it and the accepted word as read; or one that is ready. Both with the number of
+// successors that the completed task has.
 pub enum Pick {
     Refused(u32, u32),
-    Waiting(Successor, u32),
-    Ready(Successor),
+    Waiting(TaskId, u32, u32, u32),
+    Ready(TaskId, u32),
+}
+
+// The successor by its degree; where it waits on, the accepted word is read, last of all.
+fn pick_degree(degrees: &[u32], run: &[u32], steps: usize, task: TaskId, count: u32) -> Pick
+    requires { ⌜ (task .0 < length (now degrees)) × (length (now run) ≡ 2) ⌝ }
+    ensures { λ r. ⌜ r ≡ degreeOf steps task count (now (degrees .entry)) (now (run .entry)) ⌝ }
+{
+    let degree = degrees[task.0 as usize];
+    if degree < 2 {
+        if degree == 0 {
+            return Pick::Refused(refusal::DAMAGED, 0);
+        }
+        return Pick::Ready(task, count);
+    }
+    if degrees.len() < degree as usize {
+        return Pick::Refused(refusal::DAMAGED, 0);
+    }
+    let accepted = run[1];
+    if steps <= accepted as usize {
+        return Pick::Refused(refusal::DAMAGED, 0);
+    }
+    Pick::Waiting(task, count, degree - 1, accepted)
 }
 
 // The successor of a plain job, and its degree.
@@ -84,39 +103,34 @@ pub fn pick_next(
     succs: &[u32],
     degrees: &[u32],
     buffers: &[u32],
+    run: &[u32],
+    steps: usize,
     worker: WorkerId,
     row: Row,
 ) -> Pick
     requires { ⌜
-        (length (now «succ_starts») ≡ length (now degrees) + 1) × (worker .0 * length (now degrees) + length (now degrees) ≤
-        length (now buffers))
+        (length (now «succ_starts») ≡ length (now degrees) + 1)
+        × ((worker .0 * length (now degrees) + length (now degrees) ≤ length (now buffers)) × (length (now run) ≡ 2))
         ⌝ }
-    ensures { λ r. ⌜ Picked (worker .0) row (now («succ_starts» .entry)) (now (succs .entry)) (now (degrees .entry)) (now (buffers .entry)) r ⌝ }
+    ensures { λ r. ⌜
+        Picked (worker .0) steps row (now («succ_starts» .entry)) (now (succs .entry)) (now (degrees .entry))
+        (now (buffers .entry)) (now (run .entry)) r
+        ⌝ }
 {
-    let n = degrees.len();
     let reached = pick_successor(
         succ_starts,
         succs,
-        n,
+        degrees.len(),
         buffers,
         worker,
         row.read,
         row.write,
         row.cursor,
     );
-    let next = match reached {
-        Reached::Refused(number, detail) => return Pick::Refused(number, detail),
-        Reached::At(next) => next,
-    };
-    let task = next.task;
-    let degree = degrees[task.0 as usize];
-    if !((1 <= degree) & (degree as usize <= n)) {
-        return Pick::Refused(refusal::DAMAGED, 0);
+    match reached {
+        Reached::Refused(number, detail) => Pick::Refused(number, detail),
+        Reached::At(task, completed, count) => pick_degree(degrees, run, steps, task, count),
     }
-    if degree == 1 {
-        return Pick::Ready(next);
-    }
-    Pick::Waiting(next, degree - 1)
 }
 
 // Refused, or the worker whose ring takes the task, and that ring's ends as read.
