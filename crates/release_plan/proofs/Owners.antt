@@ -57,6 +57,9 @@ module _ (p k i j : ℕ) (e : List ℕ) where
     found-sound : Sound k (endsAt e (o .0 * p + i))
     found-sound = subst (λ (x : ℕ). Sound k (endsAt e (x * p + i))) (sym (looked .2)) (looked .1 .sound)
 
+    found-room : ¬ (Full k (endsAt e (o .0 * p + i)))
+    found-room = subst (λ (x : ℕ). ¬ (Full k (endsAt e (x * p + i)))) (sym (looked .2)) (looked .1 .stops)
+
 module _ (p : ℕ) (c : List ℤ) (x : Choice) (hx : Chosen p c x) where
   module _ (j : WorkerId) (t : x ≡ choice.Target j) where
     chosen : (countersFit c ≡ true) × (j .0 ≡ least (allOf p) (load p c))
@@ -97,6 +100,7 @@ module _ (p : ℕ) (c : List ℤ) (x : Choice) (hx : Chosen p c x) where
               record {
                 owner = found-below p k i (j .0) e r hr o both g h;
                 sound = found-sound p k i (j .0) e r hr o both g;
+                room = found-room p k i (j .0) e r hr o both g;
                 counters = counter-among c (chosen j t .0);
                 follows = λ m v. goes-to m v ∙ rw g;
               },

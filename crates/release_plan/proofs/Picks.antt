@@ -127,9 +127,7 @@ module _ (i steps : ℕ) (r : Row) (ss s d b run : List ℕ) where
           go true false false f q a = λ ready m v. goes ready m v ∙ rw (f, q) (full m v a)
           go true false true f q a =
               record {
-                at = at;
-                degree = refl;
-                counts = record { word = refl; room = ltb-true (getD run 1 0) steps a };
+                lowers = record { at = at; degree = refl; counts = record { word = refl; room = ltb-true (getD run 1 0) steps a } };
                 follows = λ ready m v. goes ready m v ∙ rw (f, q) (waits m v a);
               }
 

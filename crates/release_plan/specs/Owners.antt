@@ -9,7 +9,7 @@ use Rattle.lists.specs.Lists.{allOf}
 use Rattle.lists.specs.Circles.{around}
 use Rattle.task.specs.Refusals.{damaged, ringsFull}
 use Rattle.task.specs.declared.Ends.{Ends}
-use Rattle.ring.specs.Ring.{Sound, sound, full, endsAt}
+use Rattle.ring.specs.Ring.{Sound, Full, sound, full, endsAt}
 use Rattle.choice.specs.Least.{load, least}
 use Rattle.choice.specs.Search.{Found, unsound, none, at, search}
 use Rattle.plans.specs.Forms.{own}
@@ -46,6 +46,7 @@ pub record Offers (i s : ℕ) (e : List ℕ) (c : List ℤ) (m : Mem) : Type 0 w
 pub record Takes (p k i s : ℕ) (e : List ℕ) (c : List ℤ) (o : ℕ) : Type 0 where
   pub owner : o < p
   pub sound : Sound k (endsAt e (ringNumber p o i))
+  pub room : ¬ (Full k (endsAt e (ringNumber p o i)))
   pub counters : (q : ℕ) → q < length c → counterFits (getD c q (pos 0)) ≡ true
   pub follows : (m : Mem) → Offers i s e c m → releaseReady (own p m) p k i m ≡ releaseTo (own p m) p k i m (at o)
 

@@ -66,6 +66,12 @@ pub record Counts (steps accepted : ℕ) (run : List ℕ) : Type 0 where
   pub word : accepted ≡ getD run 1 0
   pub room : accepted < steps
 
+-- what is known of a successor that waits on, by its degree and the run words
+pub record Lowers (a : ℕ) (r : Row) (d words : List ℕ) (t n left z : ℕ) : Type 0 where
+  pub at : Cursor r t n (length d)
+  pub degree : left ≡ getD d t 0 - 1
+  pub counts : Counts a z words
+
 -- what is written where the successor waits on
 abbrev pub lowering : ℕ → Row → (t count left accepted : ℕ) → List Update
 lowering i r t count left accepted = putAccepted (accepted + 1) ∷ putDegree t left ∷ putPlaces i (advanced count r) ∷ []
@@ -73,9 +79,7 @@ lowering i r t count left accepted = putAccepted (accepted + 1) ∷ putDegree t 
 module _ (i steps : ℕ) (r : Row) (ss s d b run : List ℕ) where
   -- a successor that waits on, with what the rule writes
   pub record Waits (t : TaskId) (count left accepted : ℕ) : Type 0 where
-    pub at : Cursor r (t .0) count (length d)
-    pub degree : left ≡ getD d (t .0) 0 - 1
-    pub counts : Counts steps accepted run
+    pub lowers : Lowers steps r d run (t .0) count left accepted
     pub follows : (ready : Plan) (m : Mem) → Shows i steps r ss s d b run m
         → releaseBy ready i m ≡ accept (Released (DegreeLeft left)) (lowering i r (t .0) count left accepted)
 

@@ -1,4 +1,4 @@
-// What Release reads before it writes: the successor at the cursor, and the owner whose ring takes it.
+// What Release reads before it writes: the successor at the cursor, and the owner whose ring takes it; so what it is to do.
 ghost use mathlib.Core.Path.{_≡_};
 ghost use Prim.Native.Nat.{_+_, _*_, _≤_, _<_};
 ghost use lib.ListN.{length};
@@ -7,6 +7,7 @@ ghost use Rattle.ring.specs.Ring.{endWords};
 ghost use Rattle.release_plan.specs.Reach.{reachOf};
 ghost use Rattle.release_plan.specs.Picks.{degreeOf, Picked};
 ghost use Rattle.release_plan.specs.Owners.{ownerOf, Owned};
+ghost use Rattle.release_plan.specs.Plans.{placeOf, listsOf, Measures, Decides};
 use counters::Choice;
 use searches::Found;
 use task::Ends;
@@ -164,5 +165,89 @@ pub fn find_owner(
         Found::Unsound => Owner::Refused(refusal::DAMAGED, 0),
         Found::None => Owner::Refused(refusal::RINGS_FULL, task.0),
         Found::At(owner, both) => Owner::At(owner, both),
+    }
+}
+
+// What Release is to do: refused; or the successor waits on, with the degree left to it; or it joins the ring of this owner, whose head, tail and
+// count follow, with its weight. Behind the task stands the number of successors that the completed task has, last the accepted word, each as read.
+pub enum ReleasePlan {
+    Refused(u32, u32),
+    Lower(TaskId, u32, u32, u32),
+    Place(TaskId, u32, WorkerId, u32, u32, u32, u32, u32),
+}
+
+// A task that is to join a ring of this owner, whose ends are known: its weight, and the accepted word, last of all.
+pub fn plan_place(
+    weights: &[u32],
+    run: &[u32],
+    steps: usize,
+    task: TaskId,
+    count: u32,
+    owner: WorkerId,
+    both: Ends,
+) -> ReleasePlan
+    requires { ⌜ (task .0 < length (now weights)) × (length (now run) ≡ 2) ⌝ }
+    ensures { λ r. ⌜ r ≡ placeOf steps task count owner both (now (weights .entry)) (now (run .entry)) ⌝ }
+{
+    let weight = weights[task.0 as usize];
+    if 65535 < weight {
+        return ReleasePlan::Refused(refusal::DAMAGED, 0);
+    }
+    let accepted = run[1];
+    if steps <= accepted as usize {
+        return ReleasePlan::Refused(refusal::DAMAGED, 0);
+    }
+    ReleasePlan::Place(
+        task,
+        count,
+        owner,
+        both.head,
+        both.tail,
+        both.count,
+        weight,
+        accepted,
+    )
+}
+
+// Everything that Release reads, in its order, for a worker with this row.
+pub fn plan_release(
+    weights: &[u32],
+    succ_starts: &[u32],
+    succs: &[u32],
+    degrees: &[u32],
+    buffers: &[u32],
+    ends: &[u32],
+    counters: &[i32],
+    run: &[u32],
+    p: usize,
+    k: usize,
+    steps: usize,
+    worker: WorkerId,
+    row: Row,
+) -> ReleasePlan
+    requires { ⌜
+        Measures p k (worker .0) (listsOf (now weights) (now «succ_starts») (now succs) (now degrees) (now buffers) (now ends)
+        (now counters) (now run))
+        ⌝ }
+    ensures { λ r. ⌜
+        Decides p k (worker .0) steps row (listsOf (now (weights .entry)) (now («succ_starts» .entry)) (now (succs .entry))
+        (now (degrees .entry)) (now (buffers .entry)) (now (ends .entry)) (now (counters .entry)) (now (run .entry))) r
+        ⌝ }
+{
+    let picked = pick_next(succ_starts, succs, degrees, buffers, run, steps, worker, row);
+    match picked {
+        Pick::Refused(number, detail) => ReleasePlan::Refused(number, detail),
+        Pick::Waiting(task, count, left, accepted) => {
+            ReleasePlan::Lower(task, count, left, accepted)
+        }
+        Pick::Ready(task, count) => {
+            let found = find_owner(ends, counters, p, k, worker, task);
+            match found {
+                Owner::Refused(number, detail) => ReleasePlan::Refused(number, detail),
+                Owner::At(owner, both) => {
+                    plan_place(weights, run, steps, task, count, owner, both)
+                }
+            }
+        }
     }
 }
