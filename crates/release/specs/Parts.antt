@@ -1,87 +1,64 @@
--- What the parts of Release do once the successor is picked.
-use Prim.Native.Nat.{ℕ, _+_, _*_, _≤_, _<_}
+-- What the writes of Release ask for, and what they leave.
+use Prim.Native.Nat.{ℕ, _+_, _≤_, _<_}
 use mathlib.Core.Path.{_≡_}
+use mathlib.Core.Bool.{true}
 use mathlib.Core.List.{List}
-use lib.ListN.{length}
+use lib.ListN.{length, getD, set}
+use lib.IntN.{pos, _+ℤ_}
 use Rattle.task.specs.Types.{engine}
-use Rattle.task.specs.Phases.{leadsTo}
-use Rattle.task.specs.declared.Limits.{Limits}
+use Rattle.task.specs.declared.Ends.{Ends}
 use Rattle.task.specs.declared.Row.{Row}
-use Rattle.task.specs.declared.Step.the-variants as step-name
-use Rattle.choice.specs.Search.{at}
+use Rattle.task.specs.declared.TaskId.{TaskId}
+use Rattle.task.specs.declared.WorkerId.{WorkerId}
+use Rattle.task.specs.declared.StepOutcome.the-variants.{Released}
+use Rattle.task.specs.declared.ReleaseOutcome.the-variants.{DegreeLeft, Placed}
+use Rattle.ring.specs.Ring.{Sound, endsAt, ringsOf, appendedAt}
 use Rattle.memory.specs.Field as list
-use Rattle.memory.specs.Memory.{put}
-use Rattle.memory.specs.Shape.{lengthOf, fixedLength}
-use Rattle.plans.specs.Forms.{own}
-use Rattle.rules.specs.Memory.{plainShape, plain, Mem, tasks, edges, rowIn, movedTo}
-use Rattle.rules.specs.Plans.{Plan, resultOf}
-use Rattle.rules.specs.Steps.{advanced, releaseTo, releaseReady, releaseWaiting, stepPlan, step}
-use Rattle.admission.specs.Admission.{answerOf, rowsAfter}
+use Rattle.memory.specs.Shape.{fixedLength}
+use Rattle.rules.specs.Memory.{plain, ringNumber, movedTo}
+use Rattle.rules.specs.Words.{counterFits}
+use Rattle.rules.specs.Steps.{advanced}
 use Rattle.admission.specs.declared.Stepped.{Stepped}
-use Rattle.release_plan.specs.Picks.{Next}
-use Rattle.release_plan.specs.declared.Successor.{Successor}
-use Rattle.release.specs.Release.{Words, wordsOf}
+use Rattle.admission.specs.declared.Stepped.the-variants.{Taken}
+use Rattle.release_plan.specs.Picks.{Cursor}
+use Rattle.release.specs.Release.{Words}
 
 -- the row after a successor: its places advance
 abbrev pub advancedRow : ℕ → Row → Row
 advancedRow count row = movedTo (advanced count row) row
 
--- what a Release knows of its numbers: a run has n tasks and a steps (at most 3·1,024 + 8,192), and `words` are its run words
-pub record Goes (a : ℕ) (r : Row) (s : Successor) (n : ℕ) (words : List ℕ) : Type 0 where
-  pub steps : a ≤ 11264
-  pub place : r .read < r .write
-  pub cursor : r .cursor < s .count
-  pub task : s .task .0 < n
-  pub run : length words ≡ plainShape .runWords
+-- a degree among n can be lowered, and the accepted word, one of so many words, counted
+pub record Lowerable (r : Row) (t count accepted n words : ℕ) : Type 0 where
+  pub at : Cursor r t count n
+  pub few : accepted ≤ 65535
+  pub run : words ≡ fixedLength plain 0 0 list.run
 
--- worker i's rings and the words lie within their lists
-pub record Sized (p k i n : ℕ) (x : Words) : Type 0 where
+-- the degree that is left, one step more, and the row after the successor
+unfoldable pub Lowered : Row → TaskId → (count left accepted : ℕ) → (d run d′ run′ : List ℕ) → Stepped → Type 0
+Lowered row t count left accepted d run d′ run′ r =
+    (d′ ≡ set d (t .0) left) × ((run′ ≡ set run 1 (accepted + 1)) × (r ≡ Taken (Released (DegreeLeft left)) (advancedRow count row)))
+
+-- the task can join the ring of owner o filled by worker i, whose ends are `both`, and its weight that ring's counter
+pub record Placeable (p k i : ℕ) (r : Row) (t count o : ℕ) (both : Ends) (weight accepted : ℕ) (x : Words) : Type 0 where
   pub worker : i < p
   pub fewWorkers : p ≤ engine .workers
   pub fewSlots : k ≤ engine .slots
-  pub degrees : length (x .degrees) ≡ lengthOf plain p k n 0 list.degrees
   pub rings : length (x .rings) ≡ fixedLength plain p k list.rings
-  pub ends : length (x .ends) ≡ fixedLength plain p k list.ends
+  pub allEnds : length (x .ends) ≡ fixedLength plain p k list.ends
   pub counters : length (x .counters) ≡ fixedLength plain p k list.counters
+  pub run : length (x .run) ≡ fixedLength plain p k list.run
+  pub at : Cursor r t count (length (x .degrees))
+  pub owner : o < p
+  pub ends : both ≡ endsAt (x .ends) (ringNumber p o i)
+  pub sound : Sound k both
+  pub counter : counterFits (getD (x .counters) (ringNumber p o i) (pos 0)) ≡ true
+  pub light : weight ≤ 65535
+  pub few : accepted ≤ 65535
 
--- a memory with that row of worker i, in the phase that a Release leads to, and that successor, where a steps are a run
-pub record Stands (i a : ℕ) (r : Row) (s : Successor) (m : Mem) : Type 0 where
-  pub steps : 3 * tasks m + edges m ≡ a
-  pub phase : r .phase ≡ leadsTo step-name.Release
-  pub row : rowIn m i ≡ r
-  pub next : Next i m s
-
--- a memory with these words and rows
-abbrev pub withWords : Mem → Words → List Row → Mem
-withWords m x rows =
-    put list.degrees (x .degrees)
-    (put list.rings (x .rings)
-    (put list.ends (x .ends)
-    (put list.counters (x .counters)
-    (put list.run (x .run)
-    (put list.rows rows m)))))
-
--- a Release by worker i that has come to the plan `rest` ends so, its words x become x′
-abbrev pub Finishes : Limits → (p k i : ℕ) → (Mem → Plan) → Mem → Words → Words → Stepped → Type 0
-Finishes limits p k i rest m x x′ r =
-    stepPlan limits p k i step-name.Release (withWords m x (m .rows)) ≡ rest (withWords m x (m .rows))
-    → resultOf (answerOf r) (withWords m x′ (rowsAfter (m .rows) i r))
-    ≡ step limits p k i step-name.Release (withWords m x (m .rows))
-
--- whatever the other lists hold: the degree stays above 0
-unfoldable pub Lowers : (a : ℕ) → Row → Successor → (d run d′ run′ : List ℕ) → Stepped → Type 0
-Lowers a row next d run d′ run′ r =
-    (limits : Limits) (p k i : ℕ) (m : Mem) → Stands i a row next m
-    → Finishes limits p k i (releaseWaiting i) m
-    (wordsOf d (m .rings) (m .ends) (m .counters) run) (wordsOf d′ (m .rings) (m .ends) (m .counters) run′) r
-
--- the task joins the ring of owner o
-unfoldable pub Places : (p k i a : ℕ) → Row → Successor → ℕ → List ℕ → Words → Words → Stepped → Type 0
-Places p k i a row next o weights x x′ r =
-    (limits : Limits) (m : Mem) → Stands i a row next m → m .weights ≡ weights
-    → Finishes limits p k i (λ m. releaseTo (own p m) p k i m (at o)) m x x′ r
-
--- the degree becomes 0
-unfoldable pub PlacesReady : (p k i a : ℕ) → Row → Successor → List ℕ → Words → Words → Stepped → Type 0
-PlacesReady p k i a row next weights x x′ r =
-    (limits : Limits) (m : Mem) → Stands i a row next m → m .weights ≡ weights → Finishes limits p k i (λ m. releaseReady (own p m) p k i m) m x x′ r
+-- the degree is 0, the task the ring's last, its weight in that ring's counter; one step more, and the row after the successor
+unfoldable pub Joined : (p k i : ℕ) → Row → TaskId → ℕ → WorkerId → (weight accepted : ℕ) → Words → Words → Stepped → Type 0
+Joined p k i row t count o weight accepted x x′ r =
+    (x′ .degrees ≡ set (x .degrees) (t .0) 0)
+    × ((ringsOf (x′ .rings) (x′ .ends) ≡ appendedAt k (ringNumber p (o .0) i) (t .0) (ringsOf (x .rings) (x .ends)))
+    × ((x′ .counters ≡ set (x .counters) (ringNumber p (o .0) i) (getD (x .counters) (ringNumber p (o .0) i) (pos 0) +ℤ pos weight))
+    × ((x′ .run ≡ set (x .run) 1 (accepted + 1)) × (r ≡ Taken (Released (Placed t o)) (advancedRow count row)))))

@@ -18,7 +18,7 @@ use Rattle.choice.specs.Search.{at}
 use Rattle.plans.specs.Forms.{own}
 use Rattle.rules.specs.Memory.{Mem, ringNumber, successor}
 use Rattle.rules.specs.Words.{acceptedFits, weightFits}
-use Rattle.rules.specs.Plans.{Plan, counted}
+use Rattle.rules.specs.Plans.{counted}
 use Rattle.rules.specs.Steps.{releaseTo, releaseReady, releaseRule}
 use Rattle.release_plan.specs.Picks.{releaseBy, Readies, Picked}
 use Rattle.release_plan.specs.Owners.{Takes, Owned}

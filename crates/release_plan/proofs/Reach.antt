@@ -1,5 +1,5 @@
 -- The tests up to the successor, in their order; what is known of a successor reached; and the plans, of any family, that begin with these tests.
-use Prim.Native.Nat.{ℕ, _+_, _-_, _*_, _≤_, _<_}
+use Prim.Native.Nat.{ℕ, _-_, _≤_, _<_}
 use mathlib.Core.Path.{_≡_, refl, sym, ap, _∙_}
 use mathlib.Core.Bool.{Bool, true, false, cond, _&&_}
 use mathlib.Core.List.{List}
@@ -22,7 +22,7 @@ use Rattle.release_plan.specs.declared.Reached.{Reached}
 use Rattle.release_plan.specs.declared.Reached.the-variants.{Refused, At}
 
 -- both parts of a test that passed, and a test of which both parts pass
-pub both : (a b c d : ℕ) → (leb a b && leb c d) ≡ true → (a ≤ b) × (c ≤ d)
+both : (a b c d : ℕ) → (leb a b && leb c d) ≡ true → (a ≤ b) × (c ≤ d)
 both a b c d e = (leb-true a b (and-true (leb a b) (leb c d) e .0), leb-true c d (and-true (leb a b) (leb c d) e .1))
 
 hold : (a b c d : ℕ) → a ≤ b → c ≤ d → (leb a b && leb c d) ≡ true

@@ -234,7 +234,16 @@ pub fn plan_release(
         (now (degrees .entry)) (now (buffers .entry)) (now (ends .entry)) (now (counters .entry)) (now (run .entry))) r
         ⌝ }
 {
-    let picked = pick_next(succ_starts, succs, degrees, buffers, run, steps, worker, row);
+    let picked = pick_next(
+        succ_starts,
+        succs,
+        degrees,
+        buffers,
+        run,
+        steps,
+        worker,
+        row,
+    );
     match picked {
         Pick::Refused(number, detail) => ReleasePlan::Refused(number, detail),
         Pick::Waiting(task, count, left, accepted) => {

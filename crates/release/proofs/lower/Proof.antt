@@ -1,17 +1,7 @@
-use Rattle.release.proofs.Parts.{lower-refused, lower-accepted}
-use mir.Facts.{fits-32-64}
+use Rattle.release.proofs.Parts.{lower-made}
 use borrow.Author.Needs.{needs}
 use Rattle.release.proofs.lower.Statement.{statement}
 use Rattle.release.proofs.lower.Tie as tie
-
-slice-read-accepted : tie.Need-slice-read-accepted
-slice-read-accepted c = search needs
-
-cast-if1 : tie.Need-cast-if1
-cast-if1 c = fits-32-64 (c .slice-known3 .given 1)
-
-returns : tie.Need-returns
-returns c = (lower-refused _ _ _ _ _ (c .if1 .taken), tt)
 
 advanced-requires : tie.Need-advanced-requires
 advanced-requires c κs = search needs
@@ -37,22 +27,13 @@ same-length c = search needs
 same-length-2 : tie.Need-same-length-2
 same-length-2 c = search needs
 
-returns-2 : tie.Need-returns-2
-returns-2 c = (
-  lower-accepted _ _ _ _ _
-      (c .before .before .before .if1 .left) _
-      (c .before .before .before .before .before .before .before .pre .1) _
-      (c .before .before .advanced .ensures .0),
-  c .before .before .advanced .ensures .1,
-)
+returns : tie.Need-returns
+returns c = (lower-made _ _ _ _ _ _ _ _ (c .before .advanced .ensures .0), c .before .advanced .ensures .1)
 
 pub lower-spec : {M : Type 1} → statement M
 lower-spec =
     tie.close
     (tie.spec
-    slice-read-accepted
-    cast-if1
-    returns
     advanced-requires
     cast-degrees
     mul-degrees
@@ -61,4 +42,4 @@ lower-spec =
     slice-write-run
     same-length
     same-length-2
-    returns-2)
+    returns)

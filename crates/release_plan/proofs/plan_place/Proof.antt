@@ -3,8 +3,6 @@ use mir.Facts.{fits-32-64}
 use borrow.Author.Needs.{needs}
 use Rattle.release_plan.proofs.plan_place.Statement.{statement}
 use Rattle.release_plan.proofs.plan_place.Tie as tie
-use Rattle.release_plan.proofs.plan_place.Reads as reads
-use Rattle.release_plan.proofs.plan_place.Lts as lts
 
 cast-weight : tie.Need-cast-weight
 cast-weight c = search needs

@@ -2,11 +2,6 @@ use Rattle.release_plan.proofs.Plans.{decide-none, decide-lower, ready-
 use borrow.Author.Needs.{needs}
 use Rattle.release_plan.proofs.plan_release.Statement.{statement}
 use Rattle.release_plan.proofs.plan_release.Tie as tie
-use Rattle.release_plan.proofs.plan_release.Reads as reads
-use Rattle.release_plan.proofs.plan_release.Lts as lts
-use Rattle.release_plan.proofs.find_owner.Reads as find-owner-reads
-use Rattle.release_plan.proofs.pick_next.Reads as pick-next-reads
-use Rattle.release_plan.proofs.plan_place.Reads as plan-place-reads
 
 pick-next-requires : tie.Need-pick-next-requires
 pick-next-requires c κs = search needs
