@@ -32,7 +32,7 @@ use Rattle.rules.proofs.Untouched.{refused-step}
 use Rattle.rules.proofs.Moves.{accepted-step}
 use Rattle.rules.proofs.Moved.{counts}
 use Rattle.rules.proofs.Words.{all-steps-are}
-use Rattle.runs.specs.Calls.{Call, plain, memoryAfter, begunMemory, Run, eventsOf}
+use Rattle.runs.specs.Calls.{Call, plain, memoryAfter, begunMemory, Run, eventsOf, viewOf}
 use Rattle.runs.specs.Demand.{acceptedCompletes, Finished, nextSays}
 use Rattle.runs.proofs.Calls.{tasks-reached, preds-reached}
 use Rattle.runs.proofs.Demand.{demand-3, finished-full, finished-count}
@@ -175,7 +175,7 @@ module _ (lent : Mem) (e : answerSays (begin engine 2 4 lent .answer) ≡ accept
   live : (m : Mem) → Leads begun m → acceptedIn m < allSteps m → (i : ℕ) × (s : Step) × (i < 2) × Acceptance (stepSays (answerOf i s m))
   live m l h = found (demand-3 .one (runTo m l) .next unfinished)
     where
-      unfinished : ¬ (Finished (runTo m l))
+      unfinished : ¬ (Finished (viewOf (runTo m l)))
       unfinished f =
           omega (
             arith,
@@ -187,7 +187,7 @@ module _ (lent : Mem) (e : answerSays (begin engine 2 4 lent .answer) ≡ accept
             finished-count (runTo m l) (finished-full (runTo m l) f),
           )
 
-      found : (i : ℕ) × (s : Step) × (i < 2) × Acceptance (nextSays engine (runTo m l) i s) → (i : ℕ) × (s : Step) × (i < 2) × Acceptance (stepSays (answerOf i s m))
+      found : (i : ℕ) × (s : Step) × (i < 2) × Acceptance (nextSays engine (viewOf (runTo m l)) i s) → (i : ℕ) × (s : Step) × (i < 2) × Acceptance (stepSays (answerOf i s m))
       found (i, s, w, a) = (i, s, w, rw (l .there) at a)
 
   -- so not both workers wait
@@ -243,14 +243,14 @@ module _ (lent : Mem) (e : answerSays (begin engine 2 4 lent .answer) ≡ accept
   all-taken = suffice (allSteps begun) (2 * allSteps begun) 0 begun (omega arith) (leads-none begun) (omega arith) (omega arith)
 
   -- a run without a next step is finished
-  done : Finished (runTo end led)
+  done : Finished (viewOf (runTo end led))
   done = stable (decLe (tasks lent) (acceptedCompletes (eventsOf (runTo end led))))
     where
-      stable : Dec (tasks lent ≤ acceptedCompletes (eventsOf (runTo end led))) → Finished (runTo end led)
+      stable : Dec (tasks lent ≤ acceptedCompletes (eventsOf (runTo end led))) → Finished (viewOf (runTo end led))
       stable (yes h) = record { completes = h }
       stable (no n) = absurd (none (demand-3 .one (runTo end led) .next (λ f. n (f .completes))))
         where
-          none : (i : ℕ) × (s : Step) × (i < 2) × Acceptance (nextSays engine (runTo end led) i s) → ⊥
+          none : (i : ℕ) × (s : Step) × (i < 2) × Acceptance (nextSays engine (viewOf (runTo end led)) i s) → ⊥
           none (i, s, w, a) =
               omega (
                 arith,

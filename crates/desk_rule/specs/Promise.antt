@@ -14,7 +14,7 @@ use Rattle.rules.specs.Memory.{Mem, tasks, edges, allSteps, entriesIn, accepted
 use Rattle.rules.specs.Steps.{step}
 use Rattle.rules.specs.Begin.{begin}
 use Rattle.rules.specs.Desk.{tries, turn, deskRun}
-use Rattle.runs.specs.Calls.{Call, stepCall, Run, begunMemory, memoryOf}
+use Rattle.runs.specs.Calls.{Call, stepCall, Run, begunMemory, memoryOf, viewOf}
 use Rattle.runs.specs.Demand.{Finished}
 
 -- after an accepted step a turn makes no further call
@@ -49,7 +49,7 @@ deskCalls m e =
 pub record DeskFinishes (m : Mem) (e : answerSays (begin engine 2 4 m .answer) ≡ accepted) : Type 0 where
   -- the words that the turns' calls leave
   pub memory : memoryOf (deskCalls m e) ≡ deskRun (begunMemory engine 2 4 m)
-  pub finished : Finished (deskCalls m e)
+  pub finished : Finished (viewOf (deskCalls m e))
   -- the accepted word, which is printed, and the entries word, which says how many entries are
   pub accepted : acceptedIn (deskRun (begunMemory engine 2 4 m)) ≡ 3 * tasks m + edges m
   pub entries : entriesIn (deskRun (begunMemory engine 2 4 m)) ≡ tasks m

@@ -4,7 +4,7 @@ use Prim.Native.Nat.{ℕ}
 use mathlib.Core.Path.{_≡_}
 use mathlib.Core.List.{[]}
 use lib.ListN.{take}
-use Rattle.runs.specs.Calls.{plain, Run, memoryOf, eventsOf}
+use Rattle.runs.specs.Calls.{plain, Run, memoryOf, eventsOf, viewOf}
 use Rattle.runs.specs.Demand.{Finished, OneRun, OneGraph, Exchanges}
 use Rattle.runs.specs.Hosted.{Hosting, eventsSeen, Hosted}
 use Rattle.runs.specs.HostedFair.{HostedFair}
@@ -41,9 +41,9 @@ pub record ExportsRun (e : Exporting) : Type 0 where
   pub hosted : Hosted (hostingOf e)
   pub fair : HostedFair (hostingOf e)
   -- demand 3
-  pub one : (n : ℕ) → OneRun (runMade e n)
-  pub two : (e′ : Exporting) (n n′ : ℕ) → OneGraph (runMade e n) (runMade e′ n′) → Finished (runMade e n) → Finished (runMade e′ n′)
-      → Exchanges (runMade e n) (runMade e′ n′)
+  pub one : (n : ℕ) → OneRun (viewOf (runMade e n))
+  pub two : (e′ : Exporting) (n n′ : ℕ) → OneGraph (viewOf (runMade e n)) (viewOf (runMade e′ n′)) → Finished (viewOf (runMade e n)) → Finished (viewOf (runMade e′ n′))
+      → Exchanges (viewOf (runMade e n)) (viewOf (runMade e′ n′))
 
 pub exports-run : (e : Exporting) → ExportsRun e
 exports-run e =

@@ -25,7 +25,7 @@ use Rattle.system.specs.Stages.{places}
 use Rattle.rules.specs.Memory.{Mem, tasks, weightIn, entriesIn}
 use Rattle.loads.specs.Windows.{taskAt, workerAt, weightAt, addedBy, loadIn, windowCount, BadEntry, windowRows}
 use Rattle.loads.proofs.Windows.{windows-follow, windows-shown, windows-whole}
-use Rattle.runs.specs.Calls.{Run, memoryOf, eventsOf}
+use Rattle.runs.specs.Calls.{Run, memoryOf, eventsOf, viewOf}
 use Rattle.runs.specs.Demand.{acceptedCompletes, Finished, taskWord, workerWord, orderOf}
 use Rattle.runs.specs.RunWords.{entriesOf, wordsOf}
 use Rattle.runs.proofs.Calls.{begun-within, weights-reached, tasks-reached}
@@ -142,7 +142,7 @@ module _ (r : Run) where
   -- any call for load windows with begin's P
   module _ (limits : Limits) (m : ℕ) (results : List ℕ) where
     abbrev said : Said
-    said = answerSays (windowsIn limits r m results .answer)
+    said = answerSays (windowsIn limits (viewOf r) m results .answer)
 
     follows : Follows (windowRows limits (r .workers) m (now .weights) (now .executed) (now .run) results) said
     follows = windows-follow limits (r .workers) m (now .weights) (now .executed) (now .run) results
@@ -162,7 +162,7 @@ module _ (r : Run) where
     windows-accepted : tasks (r .lent) ≤ capped limits .tasks → r .workers ≤ capped limits .workers → 1 ≤ m → m ≤ acceptedCompletes (eventsOf r)
         → length results ≡ windowCount (acceptedCompletes (eventsOf r)) m * (r .workers + 1) → said ≡ accepted
     windows-accepted ofTasks ofWorkers one few size =
-        accepted-said (windowsIn limits r m results .answer)
+        accepted-said (windowsIn limits (viewOf r) m results .answer)
         (follows .accepts .1 (
           λ d c. far (c .1),
           (
@@ -197,14 +197,14 @@ module _ (r : Run) where
         odd (inr h) = omega (arith, h, few, entries-word r)
 
     words-loads : said ≡ accepted → (w i : ℕ) → w + m ≤ acceptedCompletes (eventsOf r) → i < r .workers
-        → getD (windowsIn limits r m results .results) (w * (r .workers + 1) + i) 0
+        → getD (windowsIn limits (viewOf r) m results .results) (w * (r .workers + 1) + i) 0
         ≡ sumOf (finishedIn (r .lent) i) (take m (drop w completed))
     words-loads e w i h l =
         windows-shown limits (r .workers) m (now .weights) (now .executed) (now .run) results e .load w i (omega (arith, h, entries-word r)) l
         ∙ window-loads m w i h
 
   -- of a finished run each task is recorded once
-  module _ (f : Finished r) where
+  module _ (f : Finished (viewOf r)) where
     all-entries : entriesIn now ≡ tasks (r .lent)
     all-entries = finished-full r f ∙ tasks-reached r
 
@@ -214,24 +214,24 @@ module _ (r : Run) where
         sum-same (entriesIn now) _ _ (λ x h. ap (λ (t : ℕ). weightIn now t) (task-word x h))
         ∙ ap (λ (n : ℕ). sumTo n (λ x. weightIn now (taskWord now x))) all-entries
         ∙ sym (sumOf-tabulate (weightIn now) (tasks (r .lent)) (taskWord now))
-        ∙ sumOf-all (weightIn now) (tasks (r .lent)) (orderOf r) (demand-3 .one r .order f .once)
+        ∙ sumOf-all (weightIn now) (tasks (r .lent)) (orderOf (viewOf r)) (demand-3 .one r .order f .once)
         ∙ ap (λ (w : List ℕ). sumTo (tasks (r .lent)) (λ t. getD w t 0)) (weights-reached r)
 
     abbrev AddsUp : Limits → List ℕ → ℕ → Type 0
     AddsUp limits results m =
-        answerSays (windowsIn limits r m results .answer) ≡ accepted
-        → sumTo (r .workers) (λ i. getD (windowsIn limits r m results .results) i 0) ≡ sumTo (tasks (r .lent)) (weightIn (r .lent))
+        answerSays (windowsIn limits (viewOf r) m results .answer) ≡ accepted
+        → sumTo (r .workers) (λ i. getD (windowsIn limits (viewOf r) m results .results) i 0) ≡ sumTo (tasks (r .lent)) (weightIn (r .lent))
 
     windows-total : (limits : Limits) (results : List ℕ) → AddsUp limits results (tasks (r .lent))
     windows-total limits results =
         subst (AddsUp limits results) all-entries
         (λ e. windows-whole limits (r .workers) (now .weights) (now .executed) (now .run) results e .adds ∙ entry-weights)
 
-pub load-runs : LoadRuns
-load-runs =
+pub load-runs : (r : Run) → LoadRuns (viewOf r)
+load-runs r =
     record {
-      undamaged = windows-undamaged;
-      accepts = λ r limits n p m results. windows-accepted r limits m results n p;
-      loads = words-loads;
-      total = windows-total;
+      undamaged = windows-undamaged r;
+      accepts = λ limits n p m results. windows-accepted r limits m results n p;
+      loads = words-loads r;
+      total = windows-total r;
     }

@@ -12,12 +12,12 @@ use Rattle.task.specs.Refusals.{refused, accepted, damaged, answerSays}
 use Rattle.task.specs.declared.Limits.{Limits}
 use Rattle.rules.specs.Memory.{Mem, tasks, weightIn}
 use Rattle.loads.specs.Windows.{windowCount, Shown, windowLoads}
-use Rattle.runs.specs.Calls.{Run, memoryOf, eventsOf}
+use Rattle.runs.specs.Calls.{Call, View}
 use Rattle.runs.specs.Demand.{acceptedCompletes, Finished}
 use Rattle.runs.specs.RunWords.{entriesOf}
 
-abbrev pub windowsIn : Limits → Run → (m : ℕ) → (results : List ℕ) → Shown
-windowsIn limits r m results = windowLoads limits (r .workers) m (memoryOf r .weights) (memoryOf r .executed) (memoryOf r .run) results
+abbrev pub windowsIn : Limits → View Mem Call → (m : ℕ) → (results : List ℕ) → Shown
+windowsIn limits v m results = windowLoads limits (v .workers) m (v .memory .weights) (v .memory .executed) (v .memory .run) results
 
 -- what an entry, that of an accepted Complete (`entriesOf`), adds to the weight that worker i finished
 unfoldable pub finishedIn : Mem → ℕ → Entry ℕ → ℕ
@@ -25,21 +25,21 @@ finishedIn m i e = cond (eqb (e .worker) i) (weightIn m (e .item)) 0
 
 -- PROMISE: "entries recorded" are the accepted Completes: a call for load windows is never answered 8, is accepted with limits, an m and a length that
 -- suit, shows in each word what the Completes of its window finished, and of a finished run the whole weight
-pub record LoadRuns : Type 0 where
+pub record LoadRuns (v : View Mem Call) : Type 0 where
   -- no recorded word is damaged, whatever the limits, m and the result list
-  pub undamaged : (r : Run) (limits : Limits) (m : ℕ) (results : List ℕ) (d : ℕ)
-      → ¬ (answerSays (windowsIn limits r m results .answer) ≡ refused damaged d)
+  pub undamaged : (limits : Limits) (m : ℕ) (results : List ℕ) (d : ℕ)
+      → ¬ (answerSays (windowsIn limits v m results .answer) ≡ refused damaged d)
   -- with limits that N and P keep, whatever they say of E and K, an m and a length that suit are accepted
-  pub accepts : (r : Run) (limits : Limits) → tasks (r .lent) ≤ capped limits .tasks → r .workers ≤ capped limits .workers
-      → (m : ℕ) (results : List ℕ) → 1 ≤ m → m ≤ acceptedCompletes (eventsOf r)
-      → length results ≡ windowCount (acceptedCompletes (eventsOf r)) m * (r .workers + 1)
-      → answerSays (windowsIn limits r m results .answer) ≡ accepted
+  pub accepts : (limits : Limits) → tasks (v .lent) ≤ capped limits .tasks → v .workers ≤ capped limits .workers
+      → (m : ℕ) (results : List ℕ) → 1 ≤ m → m ≤ acceptedCompletes (v .events)
+      → length results ≡ windowCount (acceptedCompletes (v .events)) m * (v .workers + 1)
+      → answerSays (windowsIn limits v m results .answer) ≡ accepted
   -- the words of an accepted call told from the run's calls: "the weight each worker finished" with the m Completes from number w on
-  pub loads : (r : Run) (limits : Limits) (m : ℕ) (results : List ℕ) → answerSays (windowsIn limits r m results .answer) ≡ accepted
-      → (w i : ℕ) → w + m ≤ acceptedCompletes (eventsOf r) → i < r .workers
-      → getD (windowsIn limits r m results .results) (w * (r .workers + 1) + i) 0
-      ≡ sumOf (finishedIn (r .lent) i) (take m (drop w (entriesOf (eventsOf r))))
+  pub loads : (limits : Limits) (m : ℕ) (results : List ℕ) → answerSays (windowsIn limits v m results .answer) ≡ accepted
+      → (w i : ℕ) → w + m ≤ acceptedCompletes (v .events) → i < v .workers
+      → getD (windowsIn limits v m results .results) (w * (v .workers + 1) + i) 0
+      ≡ sumOf (finishedIn (v .lent) i) (take m (drop w (entriesOf (v .events))))
   -- of a finished run the one window of all N entries has sums that add up to the graph's whole weight; with N 0 nothing is said: m 0 is refused
-  pub total : (r : Run) → Finished r → (limits : Limits) (results : List ℕ)
-      → answerSays (windowsIn limits r (tasks (r .lent)) results .answer) ≡ accepted
-      → sumTo (r .workers) (λ i. getD (windowsIn limits r (tasks (r .lent)) results .results) i 0) ≡ sumTo (tasks (r .lent)) (weightIn (r .lent))
+  pub total : Finished v → (limits : Limits) (results : List ℕ)
+      → answerSays (windowsIn limits v (tasks (v .lent)) results .answer) ≡ accepted
+      → sumTo (v .workers) (λ i. getD (windowsIn limits v (tasks (v .lent)) results .results) i 0) ≡ sumTo (tasks (v .lent)) (weightIn (v .lent))

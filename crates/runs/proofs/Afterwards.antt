@@ -21,7 +21,7 @@ use Rattle.algorithm1.specs.Reading.{queueIn, stateOf}
 use Rattle.algorithm1.proofs.Readings.{degree-at, queue-at}
 use Rattle.system.specs.Stages.{idle}
 use Rattle.system.proofs.Finished.{finished-waiting, finished-hand, finished-degree, finished-pending}
-use Rattle.runs.specs.Calls.{Run, KeptBy, memoryOf}
+use Rattle.runs.specs.Calls.{Run, KeptBy, memoryOf, viewOf}
 use Rattle.runs.specs.Demand.{Finished, nextSays}
 use Rattle.runs.specs.AtRest.{AtRest}
 use Rattle.runs.proofs.Invariant.{meaning}
@@ -33,7 +33,7 @@ use Rattle.runs.proofs.Live.{row-phase, row-pointer, scan-sound}
 use Rattle.runs.proofs.LiveRelease.{places-good, pending-none}
 use Rattle.runs.proofs.Demand.{invariant-run, all-recorded, finished-full}
 
-module _ (r : Run) (f : Finished r) where
+module _ (r : Run) (f : Finished (viewOf r)) where
   abbrev p : ℕ
   p = r .workers
 
@@ -78,7 +78,7 @@ module _ (r : Run) (f : Finished r) where
       sym (degree-at p k now t)
       ∙ finished-degree ℕ-discrete _ p _ (all-listed (graphIn now)) {s = systemIn p k now} (invariant-run r) (all-recorded r (finished-full r f)) t
 
-  pub rests : AtRest r
+  pub rests : AtRest (viewOf r)
   rests = record { queues = queue-none; rings = ring-empty; phases = phase-idle; buffers = buffer-empty; degrees = degree-none }
 
   module _ (i : ℕ) (worker : i < p) where
@@ -90,9 +90,9 @@ module _ (r : Run) (f : Finished r) where
     scan-none d h = ring-empty i ((pointerIn now i + d) % p) worker (mod-lt (pointerIn now i + d) (honest-run r .fits .limits .oneWorker))
 
     -- with all limits that the run keeps
-    pub finished-says : (limits : Limits) → KeptBy limits r
-        → (nextSays limits r i Fetch ≡ refused 10 0) × (nextSays limits r i Start ≡ refused 9 0)
-        × (nextSays limits r i Complete ≡ refused 9 0) × (nextSays limits r i Release ≡ refused 10 0)
+    pub finished-says : (limits : Limits) → KeptBy limits (viewOf r)
+        → (nextSays limits (viewOf r) i Fetch ≡ refused 10 0) × (nextSays limits (viewOf r) i Start ≡ refused 9 0)
+        × (nextSays limits (viewOf r) i Complete ≡ refused 9 0) × (nextSays limits (viewOf r) i Release ≡ refused 10 0)
     finished-says limits w = (
       own-row limits p k i Fetch now (step-follows limits p k i Fetch now) fits worker free refl nothingThere 0
           (inr (λ d c. omega (arith, row-pointer (honest-run r) i worker, c .1), inr (λ d c. scan-sound (honest-run r) i worker (c .1), inl (refl, (refl, scan-none))))),

@@ -29,7 +29,7 @@ use Rattle.rules.proofs.Kept.{same-graph, step-keeps, SameGraph}
 use Rattle.rules.proofs.Begin.{begin-accepted}
 use Rattle.rules.proofs.Begun.{laid-graph, laid-down}
 use Rattle.rules.proofs.Limits.{within-engine}
-use Rattle.runs.specs.Calls.{Call, stepCall, plainCalls, plain, Event, eventOf, memoryAfter, eventsAfter, begunMemory, reached, Run, KeptBy, memoryOf, eventsOf}
+use Rattle.runs.specs.Calls.{Call, stepCall, plainCalls, plain, Event, eventOf, memoryAfter, eventsAfter, begunMemory, reached, Run, KeptBy, memoryOf, eventsOf, viewOf}
 use Rattle.runs.specs.Demand.{acceptedSteps}
 
 -- what is accepted meets neither 2 nor 1
@@ -105,15 +105,15 @@ module _ (r : Run) where
   edges-reached = ap length preds-reached
 
   -- so N, E, P and K that kept some limits at begin still keep them
-  pub kept-now : (limits : Limits) → KeptBy limits r → KeepsLimits limits (r .workers) (r .slots) (tasks (memoryOf r)) (edges (memoryOf r))
+  pub kept-now : (limits : Limits) → KeptBy limits (viewOf r) → KeepsLimits limits (r .workers) (r .slots) (tasks (memoryOf r)) (edges (memoryOf r))
   kept-now limits w = rw (tasks-reached, edges-reached) w
 
   -- begin's own limits are such
-  pub begun-within : KeptBy (r .limits) r
+  pub begun-within : KeptBy (r .limits) (viewOf r)
   begun-within = begin-accepted (r .limits) (r .workers) (r .slots) (r .lent) .0 (r .accepts) .0 .limits
 
   -- and so are the engine's
-  pub engine-kept : KeptBy engine r
+  pub engine-kept : KeptBy engine (viewOf r)
   engine-kept = within-engine begun-within
 
 pub plain-steps : (es : List Event) → stepsIn plain es ≡ acceptedSteps es

@@ -43,7 +43,7 @@ use Rattle.algorithm1.proofs.Readings.{queue-at, thread-at}
 use Rattle.system.specs.Stages.{inHand}
 use Rattle.system.proofs.Records.{word-recorded, recorded-word, earlier-word}
 use Rattle.system.proofs.Progress as progress
-use Rattle.runs.specs.Calls.{stepCall, beginCall, says, leaves, Run, KeptBy, memoryOf, eventsOf}
+use Rattle.runs.specs.Calls.{stepCall, beginCall, says, leaves, Run, KeptBy, memoryOf, eventsOf, viewOf}
 use Rattle.runs.specs.Counters.{inHandOf}
 use Rattle.runs.specs.Demand.{acceptedSteps, acceptedCompletes, Finished, taskWord, orderOf, OneGraph}
 use Rattle.runs.proofs.Invariant.{itemsOf, meaning}
@@ -109,7 +109,7 @@ module _ (r : Run) where
       (in-hand i hi busy) (edge-here u (held now i) e))
 
 -- finished runs of one graph record the same tasks
-pub same-tasks : (r r′ : Run) → OneGraph r r′ → Finished r → Finished r′ → (t : ℕ) → occ t (orderOf r) ≡ occ t (orderOf r′)
+pub same-tasks : (r r′ : Run) → OneGraph (viewOf r) (viewOf r′) → Finished (viewOf r) → Finished (viewOf r′) → (t : ℕ) → occ t (orderOf (viewOf r)) ≡ occ t (orderOf (viewOf r′))
 same-tasks r r′ o f f′ t =
     finished-order r f .once t ∙ ap (λ (n : ℕ). eachOnce n t) (o .sameTasks) ∙ sym (finished-order r′ f′ .once t)
 
@@ -122,15 +122,15 @@ never-early r x u h e =
     (word-recorded ℕ-discrete _ (taskWord (memoryOf r)) (recorded r) (words r) x h))
 
 -- a finished run accepts no further step, whatever the limits, P, K and worker
-pub no-more : (r : Run) → Finished r → (limits : Limits) (p k i : ℕ) (s : Step) → ¬ (Acceptance (stepSays (step limits p k i s (memoryOf r) .answer)))
+pub no-more : (r : Run) → Finished (viewOf r) → (limits : Limits) (p k i : ℕ) (s : Step) → ¬ (Acceptance (stepSays (step limits p k i s (memoryOf r) .answer)))
 no-more r f limits p k i s a =
     omega (arith, accepted-step limits p k i s (memoryOf r) a .allowed .low, finished-count r (finished-full r f))
 
 -- N 0: "0 steps, begun is finished", whatever is called
-pub nothing-finished : (r : Run) → _≡_ {A = ℕ} (tasks (r .lent)) 0 → Finished r × (_≡_ {A = ℕ} (acceptedSteps (eventsOf r)) 0)
+pub nothing-finished : (r : Run) → _≡_ {A = ℕ} (tasks (r .lent)) 0 → Finished (viewOf r) × (_≡_ {A = ℕ} (acceptedSteps (eventsOf r)) 0)
 nothing-finished r none = (finished, omega (arith, none, demand-3 .one r .steps finished, rw none at (ends .last), ends .first))
   where
-    finished : Finished r
+    finished : Finished (viewOf r)
     finished = record { completes = omega (arith, none) }
 
     ends : EndsFit (graphIn (r .lent))
@@ -160,15 +160,15 @@ beyond-limits r limits p k n = (
 
 -- so the run keeps the limits of every step and begin that is accepted, whatever its P and K
 pub accepted-kept : (r : Run) (limits : Limits) (p k : ℕ)
-    → ((i : ℕ) (s : Step) → Acceptance (says (stepCall limits p k i s) (memoryOf r)) → KeptBy limits r)
-    × (Acceptance (says (beginCall limits p k) (memoryOf r)) → KeptBy limits r)
+    → ((i : ℕ) (s : Step) → Acceptance (says (stepCall limits p k i s) (memoryOf r)) → KeptBy limits (viewOf r))
+    × (Acceptance (says (beginCall limits p k) (memoryOf r)) → KeptBy limits (viewOf r))
 accepted-kept r limits p k = (
   λ i s a. keeps _ a (λ n. beyond-limits r limits p k n .0 i s .0) (λ n. other-numbers r limits p k n .0 i s),
   λ a. keeps _ a (λ n. beyond-limits r limits p k n .1 .0) (λ n. other-numbers r limits p k n .1),
 )
   where
     keeps : (said : Said) → Acceptance said → (¬ (KeepsLimits limits p k (tasks (r .lent)) (edges (r .lent))) → said ≡ refused 2 0)
-        → (¬ ((p ≡ r .workers) × (k ≡ r .slots)) → TwoOrOne said) → KeptBy limits r
+        → (¬ ((p ≡ r .workers) × (k ≡ r .slots)) → TwoOrOne said) → KeepsLimits limits (r .workers) (r .slots) (tasks (r .lent)) (edges (r .lent))
     keeps said a beyond other =
         let (ep, ek) = stable (both? p k (r .workers) (r .slots)) (λ n. accepted-fits said a (other n)) in
         rw (sym ep, sym ek, sym (tasks-reached r), sym (edges-reached r))
@@ -177,7 +177,7 @@ accepted-kept r limits p k = (
 
 -- in memory begun and stepped by the engine Complete never meets 12, whatever the limits, P, K and worker
 pub never-full : (r : Run) (limits : Limits) (p k i d : ℕ) → ¬ (stepSays (step limits p k i Complete (memoryOf r) .answer) ≡ refused recordFull d)
-never-full r limits p k i d = undamaged .next r limits p k i Complete .notFull d
+never-full r limits p k i d = undamaged r .next limits p k i Complete .notFull d
 
 -- "target j is the worker with the least sum of its P counters": in a run that is the least weight waiting and in hand, so a lane with a long tile isn't
 -- taken for an empty one. Of every Release that places its successor.
@@ -186,4 +186,4 @@ pub lightest : (r : Run) (i : ℕ) (o : StepOutcome) (us : List Update) (f : Rel
     (λ h. pos (sumOf (weightIn (r .lent)) (joined (r .workers) (queueIn (r .workers) (r .slots) (memoryOf r) h) ++ inHandOf (memoryOf r) h)))
     (f .target)
 unfolding load
-lightest r i o us f = least-same (λ h l. sym (counters-add-up .words r h l)) (f .least)
+lightest r i o us f = least-same (λ h l. sym (counters-add-up r .words h l)) (f .least)

@@ -36,7 +36,7 @@ use Rattle.system.proofs.Finished.{finished-record}
 use Rattle.system.proofs.Plain.{Plain, reached-plain, plain-steps, plain-below}
 use Rattle.system.proofs.Rules.{reached-few}
 use Rattle.system.proofs.Progress.{progress, held-wanted, waiting-wanted, pending-blocked}
-use Rattle.runs.specs.Calls.{Run, KeptBy, memoryOf}
+use Rattle.runs.specs.Calls.{Run, KeptBy, memoryOf, viewOf}
 use Rattle.runs.specs.Items.{handOf}
 use Rattle.runs.specs.Demand.{Finished, taskWord, orderOf, AllowedOrder, nextSays, OneRun, Agree, OneGraph, Exchanges, Demand3}
 use Rattle.runs.proofs.Invariant.{itemsOf, pendingOf, meaning}
@@ -186,12 +186,12 @@ module _ (r : Run) where
         (allOf (tasks now)) (all-listed graph) (systemIn p k now) invariant-run some-missing
 
     -- so one of the four steps is accepted, with all limits that the run keeps
-    accepted-next : (limits : Limits) → KeptBy limits r → (i : ℕ) × (s : Step) × (i < p) × Acceptance (nextSays limits r i s)
+    accepted-next : (limits : Limits) → KeptBy limits (viewOf r) → (i : ℕ) × (s : Step) × (i < p) × Acceptance (nextSays limits (viewOf r) i s)
     unfolding meaning
     accepted-next limits within = go ready
       where
         Accepts : ℕ → Step → Type 0
-        Accepts i s = Acceptance (nextSays limits r i s)
+        Accepts i s = Acceptance (nextSays limits (viewOf r) i s)
 
         h : Honest limits p k now
         h = honest-under r limits within
@@ -210,15 +210,15 @@ module _ (r : Run) where
 
 module _ (r : Run) where
   -- "The run is finished once N of its Completes are accepted": then the record is full
-  pub finished-full : Finished r → entriesIn (memoryOf r) ≡ tasks (memoryOf r)
+  pub finished-full : Finished (viewOf r) → entriesIn (memoryOf r) ≡ tasks (memoryOf r)
   finished-full f = omega (arith, f .completes, entries-word r, honest-run r .words .entries, tasks-reached r)
 
-  pub unfinished-free : ¬ (Finished r) → entriesIn (memoryOf r) < tasks (memoryOf r)
+  pub unfinished-free : ¬ (Finished (viewOf r)) → entriesIn (memoryOf r) < tasks (memoryOf r)
   unfinished-free n =
       stable (decLt (entriesIn (memoryOf r)) (tasks (memoryOf r)))
       (λ m. n (record { completes = omega (arith, m, entries-word r, tasks-reached r) }))
 
-  pub finished-order : Finished r → AllowedOrder (r .lent) (orderOf r)
+  pub finished-order : Finished (viewOf r) → AllowedOrder (r .lent) (orderOf (viewOf r))
   unfolding orderOf
   finished-order f = allowed-as (sym (graph-reached r)) order-is (finished-allowed r (finished-full f))
     where
@@ -233,11 +233,11 @@ order-agreed o a =
       after = λ u t e. a .after u t (o .sameEdges u t .0 e);
     }
 
-two-runs : (r r′ : Run) → OneGraph r r′ → Finished r → Finished r′ → Exchanges r r′
+two-runs : (r r′ : Run) → OneGraph (viewOf r) (viewOf r′) → Finished (viewOf r) → Finished (viewOf r′) → Exchanges (viewOf r) (viewOf r′)
 two-runs r r′ o f f′ =
-    exchange-tasks (tasks (r .lent)) (Edge (graphIn (r .lent))) (orderOf r) (orderOf r′) (finished-order r f) (order-agreed o (finished-order r′ f′))
+    exchange-tasks (tasks (r .lent)) (Edge (graphIn (r .lent))) (orderOf (viewOf r)) (orderOf (viewOf r′)) (finished-order r f) (order-agreed o (finished-order r′ f′))
 
-one-run : (r : Run) → OneRun r
+one-run : (r : Run) → OneRun (viewOf r)
 one-run r =
     record {
       steps = λ f. omega (arith, accepted-word r, finished-count r (finished-full r f), tasks-reached r, edges-reached r);

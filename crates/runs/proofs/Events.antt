@@ -16,7 +16,7 @@ use Rattle.memory.specs.Field as list
 use Rattle.rules.specs.Memory.{Mem, tasks, entriesIn, acceptedIn}
 use Rattle.rules.specs.Sizes.{Fits}
 use Rattle.algorithm1.specs.Reading.{entryIn, recordIn}
-use Rattle.runs.specs.Calls.{Run, memoryOf, eventsOf}
+use Rattle.runs.specs.Calls.{Run, memoryOf, eventsOf, viewOf}
 use Rattle.runs.specs.Demand.{acceptedCompletes, taskWord, workerWord, acceptedSteps}
 use Rattle.runs.specs.RunWords.{entriesOf, wordsOf, RunWords}
 use Rattle.runs.proofs.Invariant.{tasksOf, Words}
@@ -113,7 +113,7 @@ module _ (r : Run) where
   pub entries-word : entriesIn (memoryOf r) ≡ acceptedCompletes (eventsOf r)
   entries-word = recounts .entries
 
-  pub run-words : RunWords r
+  pub run-words : RunWords (viewOf r)
   run-words =
       record {
         run = two-words (now .run) (fits .lengths .list list.run) ∙ rw (entries-word, accepted-word);
@@ -140,7 +140,7 @@ module _ (r : Run) where
       record-word (2 * x) (nil .0) (omega (arith, h)) ∙ words-task (recordIn now) x (nil .0) (omega (arith, h, length-record))
 
   pub recorded-workers : (x : ℕ) → x < acceptedCompletes (eventsOf r) → workerWord (memoryOf r) x < r .workers
-  recorded-workers x h = rw word (recounts .workers x (omega (arith, below, size)))
+  recorded-workers x h = rw word (recounts .workers none x (omega (arith, below, size)))
     where
       below : x < entriesIn now
       below = omega (arith, h, recounts .entries)

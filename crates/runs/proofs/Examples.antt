@@ -8,7 +8,7 @@ use mathlib.Core.List.{[]}
 use Rattle.task.specs.Types.{engine}
 use Rattle.task.specs.Refusals.{accepted}
 use Rattle.rules.proofs.Examples.{beginSays, nothing, Examples, examples}
-use Rattle.runs.specs.Calls.{Run, eventsOf}
+use Rattle.runs.specs.Calls.{Run, eventsOf, viewOf}
 use Rattle.runs.specs.Demand.{acceptedSteps, Finished}
 use Rattle.runs.proofs.Corollaries.{nothing-finished}
 
@@ -22,7 +22,7 @@ pub record WholeTable : Type 0 where
   -- steps and begin answer
   pub rows : Examples
   -- N 0: "0 steps, begun is finished"
-  pub begunFinished : Finished (begunAlone (rows .noTasks .begins))
+  pub begunFinished : Finished (viewOf (begunAlone (rows .noTasks .begins)))
   pub noSteps : _≡_ {A = ℕ} (acceptedSteps (eventsOf (begunAlone (rows .noTasks .begins)))) 0
 
 pub whole-table : WholeTable

@@ -31,7 +31,7 @@ use Rattle.algorithm1.specs.Reading.{stateOf}
 use Rattle.algorithm1.proofs.Accepted.{step-does}
 use Rattle.system.specs.System as system
 use Rattle.system.proofs.Rules.{reached-invariant}
-use Rattle.runs.specs.Calls.{Call, reached, Run, KeptBy, memoryOf}
+use Rattle.runs.specs.Calls.{Call, reached, Run, KeptBy, memoryOf, viewOf}
 use Rattle.runs.specs.Counters.{AddsUp}
 use Rattle.runs.proofs.Invariant.{itemsOf, meaning, Sane, Words}
 use Rattle.runs.proofs.Calls.{always, kept-now, begun-within}
@@ -153,7 +153,7 @@ pub ends-sound : {limits : Limits} {p k : ℕ} {m : Mem} → Honest limits p k m
 ends-sound {p = p} h i worker j l = h .words .ends (ringNumber p i j) (place-lt p p i j worker l)
 
 -- what is known of the memory after a run's calls, under all limits that the run keeps, and under begin's
-pub honest-under : (r : Run) (limits : Limits) → KeptBy limits r → Honest limits (r .workers) (r .slots) (memoryOf r)
+pub honest-under : (r : Run) (limits : Limits) → KeptBy limits (viewOf r) → Honest limits (r .workers) (r .slots) (memoryOf r)
 honest-under r limits w = honest-as (kept-now r limits w) (honest (r .limits) (r .workers) (r .slots) (r .lent) (r .accepts) (r .calls))
 
 pub honest-run : (r : Run) → Honest (r .limits) (r .workers) (r .slots) (memoryOf r)

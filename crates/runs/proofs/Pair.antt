@@ -34,7 +34,7 @@ use Rattle.rules.specs.Plans.{counted, carriedOut}
 use Rattle.rules.specs.Steps.{scan, fetchTask, fetchFrom, fetchRule, startRule, completeSink, completeInner, completeRule, advanced, findRoom, releaseTo, releaseReady, releaseWaiting, releaseRule, ruleOf, stepPlan, step}
 use Rattle.rules.specs.Begin.{cleared, rootsLaid, begun, rootsAnswer, beginAnswer, begin}
 use Rattle.rules.proofs.Examples.{lent, beginSays}
-use Rattle.runs.specs.Calls.{Call, stepCall, beginCall, says, leaves, plain, Event, begunMemory, Run, memoryOf, eventsOf}
+use Rattle.runs.specs.Calls.{Call, stepCall, beginCall, says, leaves, plain, Event, begunMemory, Run, memoryOf, eventsOf, viewOf}
 use Rattle.runs.specs.Demand.{acceptedOf, acceptedSteps, Finished, orderOf, OneGraph}
 use Rattle.runs.proofs.Demand.{demand-3}
 
@@ -94,14 +94,14 @@ answersIn [] = []
 answersIn (e ∷ es) = e .said ∷ answersIn es
 
 record Pair : Type 0 where
-  finished : Finished threeWorkers × Finished oneWorker
-  agree : OneGraph threeWorkers oneWorker
+  finished : Finished (viewOf threeWorkers) × Finished (viewOf oneWorker)
+  agree : OneGraph (viewOf threeWorkers) (viewOf oneWorker)
   -- 15 accepted steps, and the three calls that were refused
   answers : answersIn (eventsOf threeWorkers)
       ≡ refused 10 0 ∷ accepted ∷ accepted ∷ taskFetched 1 ∷ accepted ∷ accepted ∷ taskFetched 2 ∷ accepted ∷ accepted ∷ taskFetched 3
       ∷ taskPlaced 3 2 ∷ refused 1 0 ∷ taskPlaced 2 1 ∷ taskPlaced 1 0 ∷ refused 1 0 ∷ accepted ∷ accepted ∷ taskFetched 0 ∷ []
   steps : (acceptedSteps (eventsOf threeWorkers) ≡ 15) × (acceptedSteps (eventsOf oneWorker) ≡ 15)
-  orders : (orderOf threeWorkers ≡ 0 ∷ 3 ∷ 2 ∷ 1 ∷ []) × (orderOf oneWorker ≡ 0 ∷ 1 ∷ 2 ∷ 3 ∷ [])
+  orders : (orderOf (viewOf threeWorkers) ≡ 0 ∷ 3 ∷ 2 ∷ 1 ∷ []) × (orderOf (viewOf oneWorker) ≡ 0 ∷ 1 ∷ 2 ∷ 3 ∷ [])
   -- 3 before 2, 3 before 1, 2 before 1
   differing : pairsDiffering 4 (0 ∷ 3 ∷ 2 ∷ 1 ∷ []) (0 ∷ 1 ∷ 2 ∷ 3 ∷ []) ≡ 3
 
@@ -157,7 +157,7 @@ mixed =
     }
 
 pub record Mixed : Type 0 where
-  pub finished : Finished mixed
+  pub finished : Finished (viewOf mixed)
   -- the second begin is accepted, and the events are those since it
   pub begunAgain : says (beginCall engine 3 2) (leaves (byPreview 0 Fetch) (begunMemory preview 3 2 wide)) ≡ accepted
   -- 15 accepted steps, six calls with other numbers, and on the finished run a Fetch by the preview, 10, and a Start by the engine, 9
@@ -165,7 +165,7 @@ pub record Mixed : Type 0 where
       ≡ refused 9 0 ∷ refused 10 0 ∷ accepted ∷ accepted ∷ taskFetched 1 ∷ accepted ∷ accepted ∷ taskFetched 2 ∷ accepted ∷ accepted ∷ taskFetched 3
       ∷ taskPlaced 3 2 ∷ taskPlaced 2 1 ∷ taskPlaced 1 0 ∷ refused 1 0 ∷ refused 2 0 ∷ refused 1 0 ∷ refused 2 0 ∷ refused 1 0 ∷ refused 2 0
       ∷ accepted ∷ accepted ∷ taskFetched 0 ∷ []
-  pub order : orderOf mixed ≡ 0 ∷ 3 ∷ 2 ∷ 1 ∷ []
+  pub order : orderOf (viewOf mixed) ≡ 0 ∷ 3 ∷ 2 ∷ 1 ∷ []
   pub recorded : memoryOf mixed .executed ≡ 0 ∷ 0 ∷ 3 ∷ 2 ∷ 2 ∷ 1 ∷ 1 ∷ 0 ∷ []
   pub counted : memoryOf mixed .run ≡ 4 ∷ 15 ∷ []
 
@@ -206,13 +206,13 @@ beyond =
     }
 
 pub record BeyondRun : Type 0 where
-  pub finished : Finished beyond
+  pub finished : Finished (viewOf beyond)
   -- 15 accepted steps, seven calls by the preview, and at the end, when it is finished, the engine's own Fetch
   pub answers : answersIn (eventsOf beyond)
       ≡ refused 10 0 ∷ refused 2 0 ∷ accepted ∷ accepted ∷ refused 2 0 ∷ taskFetched 1 ∷ accepted ∷ accepted ∷ taskFetched 2 ∷ accepted ∷ accepted ∷ taskFetched 3
       ∷ taskPlaced 3 2 ∷ refused 2 0 ∷ taskPlaced 2 1 ∷ taskPlaced 1 0 ∷ refused 2 0 ∷ accepted ∷ refused 2 0 ∷ accepted ∷ refused 2 0 ∷ taskFetched 0
       ∷ refused 2 0 ∷ []
-  pub order : orderOf beyond ≡ 0 ∷ 3 ∷ 2 ∷ 1 ∷ []
+  pub order : orderOf (viewOf beyond) ≡ 0 ∷ 3 ∷ 2 ∷ 1 ∷ []
   pub recorded : memoryOf beyond .executed ≡ 0 ∷ 0 ∷ 3 ∷ 2 ∷ 2 ∷ 1 ∷ 1 ∷ 0 ∷ []
   pub counted : memoryOf beyond .run ≡ 4 ∷ 15 ∷ []
 

@@ -29,7 +29,7 @@ use Rattle.rules.proofs.Numbers.{TwoOrOne, other-step}
 use Rattle.algorithm1.specs.State.{threadOf, Thread}
 use Rattle.algorithm1.specs.Reading.{stateOf, threadIn}
 use Rattle.algorithm1.proofs.Readings.{phase-at, thread-at}
-use Rattle.runs.specs.Calls.{Call, stepCall, beginCall, lookupCall, says, plain, Event, eventOf, began, recalled, eventsAfter, Run, memoryOf, eventsOf}
+use Rattle.runs.specs.Calls.{Call, stepCall, beginCall, lookupCall, says, plain, Event, eventOf, began, recalled, eventsAfter, Run, memoryOf, eventsOf, viewOf}
 use Rattle.runs.specs.Demand.{Finished}
 use Rattle.runs.specs.Undamaged.{NoDamage, NoDamageIn, Undamaged}
 use Rattle.runs.proofs.Invariant.{pendingOf}
@@ -101,7 +101,7 @@ module _ (r : Run) where
   h = honest-run r
 
   -- where something is left to do, the accepted word is below 3N + E
-  open-low : ¬ (Finished r) → acceptedIn now < 3 * tasks now + edges now
+  open-low : ¬ (Finished (viewOf r)) → acceptedIn now < 3 * tasks now + edges now
   open-low n = low r (unfinished-free r n)
 
   module _ (i : ℕ) (worker : i < p) where
@@ -246,13 +246,13 @@ held-is r i worker n =
       tasks-reached r,
     )
 
-pub undamaged : Undamaged
-undamaged =
+pub undamaged : (r : Run) → Undamaged (viewOf r)
+undamaged r =
     record {
-      next = next-undamaged;
-      events = events-undamaged;
-      places = λ r i h. (honest-run r .words .places i h, omega (arith, few-places (honest-run r) i h, tasks-reached r));
-      entries = λ r. omega (arith, honest-run r .words .entries, tasks-reached r);
-      phases = λ r i h. rw (phase-at (r .workers) (r .slots) (memoryOf r) i h) at (honest-run r .sane .phases i);
-      hands = held-is;
+      next = next-undamaged r;
+      events = events-undamaged r;
+      places = λ i h. (honest-run r .words .places i h, omega (arith, few-places (honest-run r) i h, tasks-reached r));
+      entries = omega (arith, honest-run r .words .entries, tasks-reached r);
+      phases = λ i h. rw (phase-at (r .workers) (r .slots) (memoryOf r) i h) at (honest-run r .sane .phases i);
+      hands = held-is r;
     }

@@ -21,6 +21,7 @@ use Rattle.algorithm1.specs.State.{Thread, State, weightOf, queueOf, counterOf,
 use Rattle.algorithm1.specs.Reading.{queueIn, threadIn, stateOf}
 use Rattle.algorithm1.proofs.Readings.{queue-at, counter-at, thread-at, phase-at}
 use Rattle.system.specs.Stages.{Hand, inHand}
+use Rattle.runs.specs.Calls.{Run, viewOf}
 use Rattle.runs.specs.Items.{handOf}
 use Rattle.runs.specs.Counters.{Within, inHandOf, CountersAddUp}
 use Rattle.runs.proofs.Invariant.{itemsOf, meaning}
@@ -77,11 +78,11 @@ module _ {limits : Limits} {p k : ℕ} {m : Mem} (h : Honest limits p k m) where
       (charged-items (nil .0) p state i
       ∙ rw (joined-same p (queueIn p k m i) (queueOf state i) (λ j lj. queue-at p k m i j l lj), hand-words i l) refl)
 
-pub counters-add-up : CountersAddUp
-counters-add-up =
+pub counters-add-up : (r : Run) → CountersAddUp (viewOf r)
+counters-add-up r =
     record {
-      ends = λ r i j hi. ends-sound (honest-run r) i hi j;
-      addsUp = λ r. honest-run r .addsUp;
-      words = λ r i h. honest-words (honest-run r) i h ∙ rw (weights-reached r);
-      within = λ r. honest-within (honest-run r);
+      ends = λ i j hi. ends-sound (honest-run r) i hi j;
+      addsUp = honest-run r .addsUp;
+      words = λ i h. honest-words (honest-run r) i h ∙ rw (weights-reached r);
+      within = honest-within (honest-run r);
     }

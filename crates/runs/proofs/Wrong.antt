@@ -52,7 +52,7 @@ use Rattle.rules.specs.Plans.{Plan, refuse, accept, counted, Result, carriedOut
 use Rattle.rules.specs.Steps.{scan, fetchTask, fetchFrom, fetchRule, startRule, completeSink, completeInner, completeRule, advanced, advance, findRoom, releaseTo, releaseReady, releaseWaiting, releaseRule, ruleOf, stepPlan, step}
 use Rattle.rules.specs.Begin.{cleared, rootsLaid, rootsPlaced, begun, rootsAnswer, beginAnswer, begin}
 use Rattle.rules.proofs.Examples.{lent, Call, by, single, twoRoots, fork}
-use Rattle.runs.specs.Calls.{stepCall, beginCall, lookupCall, isStep, says, leaves, kindOf, plain, Event, Run, memoryOf, eventsOf}
+use Rattle.runs.specs.Calls.{stepCall, beginCall, lookupCall, isStep, says, leaves, kindOf, plain, Event, Run, memoryOf, eventsOf, viewOf}
 use Rattle.runs.specs.Calls as calls
 use Rattle.runs.specs.Demand.{acceptedOf, acceptedSteps, acceptedCompletes, Finished, taskWord, workerWord, orderOf, AllowedOrder, OneRun, Agree, Demand3}
 use Rattle.runs.proofs.Demand.{order-agreed, demand-3}
@@ -162,14 +162,14 @@ module _ (r : Trial) (b : BeginAccepted rules r) where
   events-are : eventsOf (asRun r b) ≡ eventsIn rules r
   events-are = alike-events plain (machineOf rules) alike (r .calls) (begunBy rules r) []
 
-  order-is : orderOf (asRun r b) ≡ orderIn rules r
+  order-is : orderOf (viewOf (asRun r b)) ≡ orderIn rules r
   unfolding orderOf
   order-is = ap (λ (m : Mem). tabulate (tasks (r .memory)) (taskWord m)) memory-is
 
-  finished-as : FinishedBy rules r → Finished (asRun r b)
+  finished-as : FinishedBy rules r → Finished (viewOf (asRun r b))
   finished-as f = record { completes = rw events-are f }
 
-  one-kept : OneRun (asRun r b) → OneTrial rules r
+  one-kept : OneRun (viewOf (asRun r b)) → OneTrial rules r
   unfolding answerBy
   one-kept kept =
       record {

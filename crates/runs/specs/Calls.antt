@@ -8,13 +8,14 @@ use Rattle.task.specs.declared.Limits.{Limits}
 use Rattle.machine.specs.Machine.{Machine}
 use Rattle.machine.specs.Machine as machine
 pub use Rattle.machine.specs.Machine.{acceptedSaid}
+pub use Rattle.machine.specs.Runs.{View}
 use Rattle.machine.specs.Jobs as jobs
 pub use Rattle.machine.specs.Jobs.{Call, stepCall, beginCall, lookupCall, isStep, isFetch, fetchBy, isCompletion, isComplete, workerOf, kindOf}
 use Rattle.graph.specs.Lookup.{lentOf, judgeAnswer}
-use Rattle.rules.specs.Memory.{Mem, tasks, edges}
-use Rattle.rules.specs.Sizes.{KeepsLimits}
+use Rattle.rules.specs.Memory.{Mem}
 use Rattle.rules.specs.Steps.{step}
 use Rattle.rules.specs.Begin.{begin}
+pub use Rattle.views.specs.Graphs.{KeptBy}
 
 -- what begin and the steps answer and leave, and the judging call of a lookup
 abbrev pub plainCalls : jobs.Engine Mem
@@ -77,10 +78,6 @@ reached limits p k m cs = memoryAfter cs (begunMemory limits p k m)
 abbrev pub Run : Type 0
 Run = jobs.Run plainCalls
 
--- N, E, P and K of the run keep these limits
-abbrev pub KeptBy : Limits → Run → Type 0
-KeptBy limits r = KeepsLimits limits (r .workers) (r .slots) (tasks (r .lent)) (edges (r .lent))
-
 -- the memory after the run's calls
 abbrev pub memoryOf : Run → Mem
 memoryOf r = reached (r .limits) (r .workers) (r .slots) (r .lent) (r .calls)
@@ -88,6 +85,10 @@ memoryOf r = reached (r .limits) (r .workers) (r .slots) (r .lent) (r .calls)
 -- the calls of the run that then goes on, with their answers, the latest first: those since the last accepted begin
 abbrev pub eventsOf : Run → List Event
 eventsOf r = eventsAfter (r .calls) (begunMemory (r .limits) (r .workers) (r .slots) (r .lent)) []
+
+-- what the run shows, of which the promises speak
+abbrev pub viewOf : Run → View Mem Call
+viewOf = jobs.viewOf plainCalls
 
 -- the run with further calls
 abbrev pub longer : Run → List Call → Run

@@ -6,8 +6,7 @@ use mathlib.Core.Bool.{cond}
 use mathlib.Core.List.{List, [], _∷_, _++_}
 use lib.Dec.{eqb}
 use lib.ListN.{getD}
-use lib.IntN.{ℤ, pos, negsuc}
-use lib.Signed.{_≤ℤ_}
+use lib.IntN.{pos}
 use Rattle.lists.specs.Lists.{joined}
 use Rattle.lists.specs.Sums.{sumToZ, sumOf}
 use Rattle.task.specs.Types.{nil}
@@ -15,30 +14,26 @@ use Rattle.ring.specs.Ring.{Sound}
 use Rattle.rules.specs.Memory.{Mem, ringNumber, endsIn, weightIn, rowIn, held}
 use Rattle.algorithm1.specs.State.{State, weightOf}
 use Rattle.algorithm1.specs.Reading.{queueIn, stateOf}
-use Rattle.runs.specs.Calls.{Run, memoryOf}
+pub use Rattle.views.specs.Range.{Within}
+use Rattle.runs.specs.Calls.{Call, View}
 use Rattle.runs.specs.Items as items
 
 -- each worker's counters add up to the weight of its tasks at the charged stages; a task weighs what the state says
 abbrev pub AddsUp : ℕ → State → Type 0
 AddsUp p s = items.AddsUp (nil .0) (weightOf s) p s
 
--- "within ±67,107,840"
-pub record Within (c : ℤ) : Type 0 where
-  pub low : negsuc 67107839 ≤ℤ c
-  pub high : c ≤ℤ pos 67107840
-
 -- the task in worker i's hand, if any: phases 1 and 2 have one (in a run there is no other phase, and it is a task: `Undamaged`)
 unfoldable pub inHandOf : Mem → ℕ → List ℕ
 inHandOf m i = cond (eqb (rowIn m i .phase) 0) [] (held m i ∷ [])
 
 -- PROMISE: after every list of a run's calls
-pub record CountersAddUp : Type 0 where
+pub record CountersAddUp (v : View Mem Call) : Type 0 where
   -- no ring's list is read from damaged ends, as an empty one
-  pub ends : (r : Run) (i j : ℕ) → i < r .workers → j < r .workers → Sound (r .slots) (endsIn (memoryOf r) (ringNumber (r .workers) i j))
-  pub addsUp : (r : Run) → AddsUp (r .workers) (stateOf (r .workers) (r .slots) (memoryOf r))
+  pub ends : (i j : ℕ) → i < v .workers → j < v .workers → Sound (v .slots) (endsIn (v .memory) (ringNumber (v .workers) i j))
+  pub addsUp : AddsUp (v .workers) (stateOf (v .workers) (v .slots) (v .memory))
   -- the same in the lent words: the counters at places i·P .. i·P + P−1, and begin's weights of the tasks in the rings of owner i and of the one in its
   -- hand
-  pub words : (r : Run) (i : ℕ) → i < r .workers
-      → sumToZ (r .workers) (λ j. getD (memoryOf r .counters) (i * r .workers + j) (pos 0))
-      ≡ pos (sumOf (weightIn (r .lent)) (joined (r .workers) (queueIn (r .workers) (r .slots) (memoryOf r) i) ++ inHandOf (memoryOf r) i))
-  pub within : (r : Run) (i j : ℕ) → i < r .workers → j < r .workers → Within (getD (memoryOf r .counters) (i * r .workers + j) (pos 0))
+  pub words : (i : ℕ) → i < v .workers
+      → sumToZ (v .workers) (λ j. getD (v .memory .counters) (i * v .workers + j) (pos 0))
+      ≡ pos (sumOf (weightIn (v .lent)) (joined (v .workers) (queueIn (v .workers) (v .slots) (v .memory) i) ++ inHandOf (v .memory) i))
+  pub within : (i j : ℕ) → i < v .workers → j < v .workers → Within (getD (v .memory .counters) (i * v .workers + j) (pos 0))

@@ -2,33 +2,24 @@
 -- find "N entries recorded".
 use Prim.Native.Nat.{ℕ, _≤_, _<_}
 use mathlib.Core.Path.{_≡_}
-use mathlib.Core.List.{List, [], _∷_}
-use Rattle.task.specs.Refusals.{Said, refused, damaged, recordFull, stepSays}
+use Rattle.task.specs.Refusals.{stepSays}
 use Rattle.task.specs.declared.Limits.{Limits}
 use Rattle.task.specs.declared.Step.{Step}
-use Rattle.rules.specs.Memory.{tasks, rowIn, held, entriesIn}
+use Rattle.rules.specs.Memory.{Mem, tasks, rowIn, held, entriesIn}
 use Rattle.rules.specs.Steps.{step}
-use Rattle.runs.specs.Calls.{Event, Run, memoryOf, eventsOf}
-
--- an answer that is neither, whatever the detail
-pub record NoDamage (said : Said) : Type 0 where
-  pub notDamaged : (d : ℕ) → ¬ (said ≡ refused damaged d)
-  pub notFull : (d : ℕ) → ¬ (said ≡ refused recordFull d)
-
-abbrev pub NoDamageIn : List Event → Type 0
-NoDamageIn [] = Unit {0}
-NoDamageIn (e ∷ es) = NoDamage (e .said) × NoDamageIn es
+pub use Rattle.views.specs.Damage.{NoDamage, NoDamageIn}
+use Rattle.runs.specs.Calls.{Call, View}
 
 -- PROMISE: after every list of a run's calls
-pub record Undamaged : Type 0 where
+pub record Undamaged (v : View Mem Call) : Type 0 where
   -- any step that may come next, with any limits, P, K and worker number
-  pub next : (r : Run) (limits : Limits) (p k i : ℕ) (s : Step) → NoDamage (stepSays (step limits p k i s (memoryOf r) .answer))
+  pub next : (limits : Limits) (p k i : ℕ) (s : Step) → NoDamage (stepSays (step limits p k i s (v .memory) .answer))
   -- the answers so far, those of begins and lookups too
-  pub events : (r : Run) → NoDamageIn (eventsOf r)
+  pub events : NoDamageIn (v .events)
   -- "buffer places .. read ≤ write ≤ N", and no more than N entries
-  pub places : (r : Run) (i : ℕ) → i < r .workers
-      → (rowIn (memoryOf r) i .read ≤ rowIn (memoryOf r) i .write) × (rowIn (memoryOf r) i .write ≤ tasks (r .lent))
-  pub entries : (r : Run) → entriesIn (memoryOf r) ≤ tasks (r .lent)
+  pub places : (i : ℕ) → i < v .workers
+      → (rowIn (v .memory) i .read ≤ rowIn (v .memory) i .write) × (rowIn (v .memory) i .write ≤ tasks (v .lent))
+  pub entries : entriesIn (v .memory) ≤ tasks (v .lent)
   -- "phase over 2", "held .. word ≥ N": a worker that isn't idle holds a task
-  pub phases : (r : Run) (i : ℕ) → i < r .workers → rowIn (memoryOf r) i .phase ≤ 2
-  pub hands : (r : Run) (i : ℕ) → i < r .workers → ¬ (_≡_ {A = ℕ} (rowIn (memoryOf r) i .phase) 0) → held (memoryOf r) i < tasks (r .lent)
+  pub phases : (i : ℕ) → i < v .workers → rowIn (v .memory) i .phase ≤ 2
+  pub hands : (i : ℕ) → i < v .workers → ¬ (_≡_ {A = ℕ} (rowIn (v .memory) i .phase) 0) → held (v .memory) i < tasks (v .lent)

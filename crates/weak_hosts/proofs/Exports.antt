@@ -7,7 +7,7 @@ use lib.IntN.{pos}
 use lib.ListN.{getD, take}
 use Rattle.lists.specs.Sums.{sumOf, sumToZ}
 use Rattle.weak_rules.specs.Memory.{Mem, weightIn}
-use Rattle.weak_runs.specs.Calls.{weak, Run, memoryOf, eventsOf}
+use Rattle.weak_runs.specs.Calls.{weak, Run, memoryOf, eventsOf, viewOf}
 use Rattle.weak_runs.specs.Counters.{openOf}
 use Rattle.weak_runs.specs.Demand.{Finished, OneRun, OneGraph, Exchanges}
 use Rattle.weak_runs.specs.Hosted.{Hosting, eventsSeen, Hosted}
@@ -55,11 +55,11 @@ pub record ExportsRun (e : Exporting) : Type 0 where
   pub counters : (n i : ℕ) → i < e .workers
       → sumToZ (e .workers) (λ j. getD (leftBy e n .counters) (i * e .workers + j) (pos 0)) ≡ pos (sumOf (weightIn (e .lent)) (openOf (leftBy e n) i))
   -- the run words and the record
-  pub record-words : (n : ℕ) → RunWords (runMade e n)
+  pub record-words : (n : ℕ) → RunWords (viewOf (runMade e n))
   -- demand 3
-  pub one : (n : ℕ) → OneRun (runMade e n)
-  pub two : (e′ : Exporting) (n n′ : ℕ) → OneGraph (runMade e n) (runMade e′ n′) → Finished (runMade e n) → Finished (runMade e′ n′)
-      → Exchanges (runMade e n) (runMade e′ n′)
+  pub one : (n : ℕ) → OneRun (viewOf (runMade e n))
+  pub two : (e′ : Exporting) (n n′ : ℕ) → OneGraph (viewOf (runMade e n)) (viewOf (runMade e′ n′)) → Finished (viewOf (runMade e n)) → Finished (viewOf (runMade e′ n′))
+      → Exchanges (viewOf (runMade e n)) (viewOf (runMade e′ n′))
 
 module _ (e : Exporting) where
   words-left : (n : ℕ) → memoryOf (runMade e n) ≡ leftBy e n
@@ -67,7 +67,7 @@ module _ (e : Exporting) where
 
   counters-left : (n i : ℕ) → i < e .workers
       → sumToZ (e .workers) (λ j. getD (leftBy e n .counters) (i * e .workers + j) (pos 0)) ≡ pos (sumOf (weightIn (e .lent)) (openOf (leftBy e n) i))
-  counters-left n i h = rw (words-left n) at (counters-add-up .words (runMade e n) i h)
+  counters-left n i h = rw (words-left n) at (counters-add-up (runMade e n) .words i h)
 
   pub exports-run : ExportsRun e
   exports-run =

@@ -12,7 +12,7 @@ use Rattle.plans.specs.Sizes.{Fits}
 use Rattle.weak_rules.specs.Memory.{Mem, edges, rowIn, rootsWord, entriesIn}
 use Rattle.weak_rules.proofs.Follows.{step-follows}
 use Rattle.runs.proofs.Idle.{unsuited, own-row}
-use Rattle.weak_runs.specs.Calls.{Run, KeptBy, memoryOf}
+use Rattle.weak_runs.specs.Calls.{Run, KeptBy, memoryOf, viewOf}
 use Rattle.weak_runs.specs.Demand.{Finished, nextSays}
 use Rattle.weak_runs.specs.AtRest.{AtRest}
 use Rattle.weak_runs.proofs.Honest.{honest-under, honest-run}
@@ -22,7 +22,7 @@ use Rattle.weak_runs.proofs.Full.{rest-phase, rest-buffer, rest-scan, r
 use Rattle.weak_runs.proofs.Ranges.{ranges-run}
 use Rattle.weak_runs.proofs.Demand.{record-full}
 
-module _ (r : Run) (f : Finished r) where
+module _ (r : Run) (f : Finished (viewOf r)) where
   abbrev p : ℕ
   p = r .workers
 
@@ -35,7 +35,7 @@ module _ (r : Run) (f : Finished r) where
   full : entriesIn now ≡ edges now + rootsWord now
   full = record-full r f
 
-  pub rests : AtRest r
+  pub rests : AtRest (viewOf r)
   rests = rests-from r (honest-run r) (ranges-run r) full
 
   module _ (i : ℕ) (worker : i < p) where
@@ -43,9 +43,9 @@ module _ (r : Run) (f : Finished r) where
     free = rest-phase (honest-run r) full i worker
 
     -- with all limits that the run keeps
-    pub finished-says : (limits : Limits) → KeptBy limits r
-        → (nextSays limits r i Fetch ≡ refused 10 0) × (nextSays limits r i Start ≡ refused 9 0)
-        × (nextSays limits r i Complete ≡ refused 9 0) × (nextSays limits r i Release ≡ refused 10 0)
+    pub finished-says : (limits : Limits) → KeptBy limits (viewOf r)
+        → (nextSays limits (viewOf r) i Fetch ≡ refused 10 0) × (nextSays limits (viewOf r) i Start ≡ refused 9 0)
+        × (nextSays limits (viewOf r) i Complete ≡ refused 9 0) × (nextSays limits (viewOf r) i Release ≡ refused 10 0)
     finished-says limits w = (
       own-row limits p k i Fetch now (step-follows limits p k i Fetch now) fits worker free refl nothingThere 0
           (inr (

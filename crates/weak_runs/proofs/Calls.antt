@@ -30,7 +30,7 @@ use Rattle.weak_rules.proofs.Kept.{same-graph, step-keeps, SameGraph}
 use Rattle.weak_rules.proofs.Begin.{begin-accepted}
 use Rattle.weak_rules.proofs.Begun.{laid-graph, laid-down}
 use Rattle.weak_rules.proofs.Limits.{within-engine}
-use Rattle.weak_runs.specs.Calls.{Call, stepCall, weakCalls, weak, Event, memoryAfter, Run, memoryOf, eventsOf, KeptBy}
+use Rattle.weak_runs.specs.Calls.{Call, stepCall, weakCalls, weak, Event, memoryAfter, Run, memoryOf, eventsOf, KeptBy, viewOf}
 
 -- what is accepted meets neither 2 nor 1
 pub accepted-fits : {A : Type 0} (said : Said) → Acceptance said → TwoOrOne said → A
@@ -106,15 +106,15 @@ module _ (r : Run) where
   edges-reached = ap length preds-reached
 
   -- so N, E, P and K that kept some limits at begin still keep them
-  pub kept-now : (limits : Limits) → KeptBy limits r → KeepsLimits limits (r .workers) (r .slots) (tasks (memoryOf r)) (edges (memoryOf r))
+  pub kept-now : (limits : Limits) → KeptBy limits (viewOf r) → KeepsLimits limits (r .workers) (r .slots) (tasks (memoryOf r)) (edges (memoryOf r))
   kept-now limits w = rw (tasks-reached, edges-reached) w
 
   -- begin's own limits are such
-  pub begun-within : KeptBy (r .limits) r
+  pub begun-within : KeptBy (r .limits) (viewOf r)
   begun-within = begin-accepted (r .limits) (r .workers) (r .slots) (r .lent) .0 (r .accepts) .0 .limits
 
   -- and so are the engine's
-  pub engine-kept : KeptBy engine r
+  pub engine-kept : KeptBy engine (viewOf r)
   engine-kept = within-engine begun-within
 
 -- the memory that the run's last accepted begin left

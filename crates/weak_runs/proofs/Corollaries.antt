@@ -52,7 +52,7 @@ use Rattle.weak_rules.proofs.Numbers.{TwoOrOne, other-step, other-begin}
 use Rattle.runs.proofs.Waiting.{list-waits}
 use Rattle.weak_algorithm.specs.Reading.{stateOf}
 use Rattle.weak_algorithm.proofs.Readings.{queue-at}
-use Rattle.weak_runs.specs.Calls.{stepCall, beginCall, says, leaves, acceptedSteps, acceptedCompletes, Run, KeptBy, memoryOf, eventsOf, graphOf, rootsOf}
+use Rattle.weak_runs.specs.Calls.{stepCall, beginCall, says, leaves, acceptedSteps, acceptedCompletes, Run, KeptBy, memoryOf, eventsOf, graphOf, rootsOf, viewOf}
 use Rattle.weak_runs.specs.Counters.{openOf}
 use Rattle.weak_runs.specs.Demand.{Finished, copyWords, orderOf, OneGraph}
 use Rattle.weak_runs.specs.Fairness.{queueIn}
@@ -77,7 +77,7 @@ module _ (r : Run) where
   pub one-holder : (i j : ℕ) → i < r .workers → j < r .workers → ¬ (_≡_ {A = ℕ} (rowIn (memoryOf r) i .phase) 0)
       → ¬ (_≡_ {A = ℕ} (rowIn (memoryOf r) j .phase) 0) → held (memoryOf r) i .task ≡ held (memoryOf r) j .task → i ≡ j
   one-holder i j hi hj bi bj e =
-      omega (arith, fixed-workers .inHand r i hi bi, fixed-workers .inHand r j hj bj, ap (λ (t : ℕ). getD (now .fixed) t 0) e)
+      omega (arith, fixed-workers r .inHand i hi bi, fixed-workers r .inHand j hj bj, ap (λ (t : ℕ). getD (now .fixed) t 0) e)
 
   abbrev done : List Copy
   done = systemIn (r .workers) (r .slots) now .stages .done
@@ -89,12 +89,12 @@ module _ (r : Run) where
   words : done ≡ tabulate (acceptedCompletes (eventsOf r)) (copyWords now)
   words = recorded-words r ∙ ap (λ (n : ℕ). tabulate n (copyWords now)) (entries-word r)
 
-  before-here : (b c : Copy) → Before (graphOf r) b c → 0 < occOf sameCopy b (copiesOf (graphIn now) .preds c)
+  before-here : (b c : Copy) → Before (graphOf (viewOf r)) b c → 0 < occOf sameCopy b (copiesOf (graphIn now) .preds c)
   before-here b c e = before-preds (graphIn now) (run-sound r) (before-as (graph-reached r) e)
 
   -- "A seam can be corrected with each finished neighbour alone": a copy waits, and a worker holds it, only behind all copies of its predecessor
   pub waiting-behind : (i j : ℕ) (c b : Copy) → i < r .workers → j < r .workers → 0 < occOf sameCopy c (queueIn (r .workers) (r .slots) (memoryOf r) i j)
-      → Before (graphOf r) b c → Recorded b
+      → Before (graphOf (viewOf r)) b c → Recorded b
   unfolding meaning stateOf
   waiting-behind i j c b hi hj h e =
       recorded-word sameCopy _ (copyWords now) done words b
@@ -102,7 +102,7 @@ module _ (r : Run) where
       (honest-invariant (honest-run r)) i c b hi
       (list-waits (r .workers) (stateOf (r .workers) (r .slots) now .lists) i sameCopy c j hj (rw (queue-at (r .workers) (r .slots) now i j hi hj) h)) (before-here b c e))
 
-  pub held-behind : (i : ℕ) (b : Copy) → i < r .workers → ¬ (_≡_ {A = ℕ} (rowIn (memoryOf r) i .phase) 0) → Before (graphOf r) b (held (memoryOf r) i)
+  pub held-behind : (i : ℕ) (b : Copy) → i < r .workers → ¬ (_≡_ {A = ℕ} (rowIn (memoryOf r) i .phase) 0) → Before (graphOf (viewOf r)) b (held (memoryOf r) i)
       → Recorded b
   unfolding meaning
   held-behind i b hi busy e =
@@ -111,11 +111,11 @@ module _ (r : Run) where
       (honest-invariant (honest-run r)) i (held now i) b hi (in-hand (honest-run r) i hi busy) (before-here b (held now i) e))
 
 -- finished runs of one graph record the same copies
-pub same-copies : (r r′ : Run) → OneGraph r r′ → Finished r → Finished r′ → (c : Copy) → occOf sameCopy c (orderOf r) ≡ occOf sameCopy c (orderOf r′)
+pub same-copies : (r r′ : Run) → OneGraph (viewOf r) (viewOf r′) → Finished (viewOf r) → Finished (viewOf r′) → (c : Copy) → occOf sameCopy c (orderOf (viewOf r)) ≡ occOf sameCopy c (orderOf (viewOf r′))
 same-copies r r′ o f f′ c = finished-order r f .once c ∙ sym (order-agreed r r′ o (finished-order r′ f′) .once c)
 
 -- in an unfinished run too, the record has every copy behind all copies of its predecessor
-pub never-early : (r : Run) (x : ℕ) (b : Copy) → x < acceptedCompletes (eventsOf r) → Before (graphOf r) b (copyWords (memoryOf r) x)
+pub never-early : (r : Run) (x : ℕ) (b : Copy) → x < acceptedCompletes (eventsOf r) → Before (graphOf (viewOf r)) b (copyWords (memoryOf r) x)
     → (y : ℕ) × (y < x) × (copyWords (memoryOf r) y ≡ b)
 never-early r x b h e =
     earlier-word sameCopy _ (copyWords (memoryOf r)) (done r) (words r) x b h
@@ -123,30 +123,30 @@ never-early r x b h e =
     (word-recorded sameCopy _ (copyWords (memoryOf r)) (done r) (words r) x h))
 
 -- "copies of one task may pass each other": the graph doesn't order them
-pub copies-pass : (r : Run) (b c : Copy) → b .task ≡ c .task → Unordered (Before (graphOf r)) b c
+pub copies-pass : (r : Run) (b c : Copy) → b .task ≡ c .task → Unordered (Before (graphOf (viewOf r))) b c
 copies-pass r b c e = rw (sym (graph-reached r)) (copies-unordered (graphIn (memoryOf r)) (run-sound r) (honest-run r .graph .graph) b c e)
 
 -- a finished run accepts no further step, whatever the limits, P, K and worker
-pub no-more : (r : Run) → Finished r → (limits : Limits) (p k i : ℕ) (s : Step) → ¬ (Acceptance (stepSays (step limits p k i s (memoryOf r) .answer)))
+pub no-more : (r : Run) → Finished (viewOf r) → (limits : Limits) (p k i : ℕ) (s : Step) → ¬ (Acceptance (stepSays (step limits p k i s (memoryOf r) .answer)))
 no-more r f limits p k i s a =
     omega (arith, accepted-step limits p k i s (memoryOf r) a .allowed .low, finished-count r f, edges-reached r, roots-word r)
 
 -- N 0: "0 steps, begun is finished", whatever is called
-pub nothing-finished : (r : Run) → _≡_ {A = ℕ} (tasks (r .lent)) 0 → Finished r × (_≡_ {A = ℕ} (acceptedSteps (eventsOf r)) 0)
+pub nothing-finished : (r : Run) → _≡_ {A = ℕ} (tasks (r .lent)) 0 → Finished (viewOf r) × (_≡_ {A = ℕ} (acceptedSteps (eventsOf r)) 0)
 nothing-finished r none = (finished, omega (arith, no-edges, no-roots, demand-3 .one r .steps finished))
   where
-    ends : EndsFit (graphOf r)
+    ends : EndsFit (graphOf (viewOf r))
     ends = rw (graph-reached r) at (run-sound r .ends)
 
     no-edges : _≡_ {A = ℕ} (edges (r .lent)) 0
     no-edges = omega (arith, rw none at (ends .last), ends .first)
 
-    no-roots : _≡_ {A = ℕ} (rootsOf r) 0
+    no-roots : _≡_ {A = ℕ} (rootsOf (viewOf r)) 0
     no-roots =
-        length-roots (graphOf r)
-        ∙ sum-zero (tasks (r .lent)) (λ t. tally (ℕ-discrete (length (predsOf (graphOf r) t)) 0)) (λ t h. absurd (omega (arith, h, none)))
+        length-roots (graphOf (viewOf r))
+        ∙ sum-zero (tasks (r .lent)) (λ t. tally (ℕ-discrete (length (predsOf (graphOf (viewOf r)) t)) 0)) (λ t h. absurd (omega (arith, h, none)))
 
-    finished : Finished r
+    finished : Finished (viewOf r)
     finished = record { completes = omega (arith, no-edges, no-roots) }
 
 -- "A call with another P or K than begin's meets 2 or 1.", a step or a begin, at any time of the run and whatever its limits
@@ -173,15 +173,15 @@ beyond-limits r limits p k n = (
 
 -- so the run keeps the limits of every step and begin that is accepted, whatever its P and K
 pub accepted-kept : (r : Run) (limits : Limits) (p k : ℕ)
-    → ((i : ℕ) (s : Step) → Acceptance (says (stepCall limits p k i s) (memoryOf r)) → KeptBy limits r)
-    × (Acceptance (says (beginCall limits p k) (memoryOf r)) → KeptBy limits r)
+    → ((i : ℕ) (s : Step) → Acceptance (says (stepCall limits p k i s) (memoryOf r)) → KeptBy limits (viewOf r))
+    × (Acceptance (says (beginCall limits p k) (memoryOf r)) → KeptBy limits (viewOf r))
 accepted-kept r limits p k = (
   λ i s a. keeps _ a (λ n. beyond-limits r limits p k n .0 i s .0) (λ n. other-numbers r limits p k n .0 i s),
   λ a. keeps _ a (λ n. beyond-limits r limits p k n .1 .0) (λ n. other-numbers r limits p k n .1),
 )
   where
     keeps : (said : Said) → Acceptance said → (¬ (KeepsLimits limits p k (tasks (r .lent)) (edges (r .lent))) → said ≡ refused 2 0)
-        → (¬ ((p ≡ r .workers) × (k ≡ r .slots)) → TwoOrOne said) → KeptBy limits r
+        → (¬ ((p ≡ r .workers) × (k ≡ r .slots)) → TwoOrOne said) → KeepsLimits limits (r .workers) (r .slots) (tasks (r .lent)) (edges (r .lent))
     keeps said a beyond other =
         let (ep, ek) = stable (both? p k (r .workers) (r .slots)) (λ n. accepted-fits said a (other n)) in
         rw (sym ep, sym ek, sym (tasks-reached r), sym (edges-reached r))
@@ -189,16 +189,16 @@ accepted-kept r limits p k = (
         (λ b. accepted-fits said a (inl (beyond (λ w. not-beyond limits p k (memoryOf r) (rw (tasks-reached r, edges-reached r) w) b)))))
 
 -- while a worker holds a copy, an entry is free for it
-pub holding-open : (r : Run) (i : ℕ) → i < r .workers → ¬ (_≡_ {A = ℕ} (rowIn (memoryOf r) i .phase) 0) → entriesIn (memoryOf r) < edges (r .lent) + rootsOf r
+pub holding-open : (r : Run) (i : ℕ) → i < r .workers → ¬ (_≡_ {A = ℕ} (rowIn (memoryOf r) i .phase) 0) → entriesIn (memoryOf r) < edges (r .lent) + rootsOf (viewOf r)
 holding-open r i worker busy = omega (arith, entry-free (honest-run r) i worker busy, edges-reached r, roots-word r)
 
 -- in memory begun and stepped by the engine Complete never meets 12, whatever the limits, P, K and worker
 pub never-full : (r : Run) (limits : Limits) (p k i d : ℕ) → ¬ (stepSays (step limits p k i Complete (memoryOf r) .answer) ≡ refused recordFull d)
-never-full r limits p k i d = undamaged .next r limits p k i Complete .notFull d
+never-full r limits p k i d = undamaged r .next limits p k i Complete .notFull d
 
 -- "target j is the worker with the least sum of its P counters": in a run that is the least weight of the tasks fixed to it and not complete. Of
 -- every Release that makes a task's first copy.
 pub lightest : (r : Run) (i : ℕ) (o : WeakOutcome) (us : List Update) (f : ReleasesFirst (own (r .workers) (memoryOf r)) (r .workers) (r .slots) i (memoryOf r) o us)
     → Least (λ h. h < r .workers) (λ h. pos (sumOf (weightIn (r .lent)) (openOf (memoryOf r) h))) (f .target)
 unfolding load
-lightest r i o us f = least-same (λ h l. sym (counters-add-up .words r h l)) (f .least)
+lightest r i o us f = least-same (λ h l. sym (counters-add-up r .words h l)) (f .least)

@@ -20,7 +20,7 @@ use Rattle.copies.proofs.Copies.{one-copy}
 use Rattle.copies.proofs.Agree.{same-copies, same-before}
 use Rattle.weak_rules.specs.Memory.{Mem, edges, graphIn, rootsWord, entriesIn, acceptedIn}
 use Rattle.weak_algorithm.specs.Reading.{stateOf}
-use Rattle.weak_runs.specs.Calls.{Run, KeptBy, memoryOf, rootsOf, graphOf, copiesIn}
+use Rattle.weak_runs.specs.Calls.{Run, KeptBy, memoryOf, rootsOf, graphOf, copiesIn, viewOf}
 use Rattle.weak_runs.specs.Demand.{Finished, copyWords, orderOf, AllowedOrder, nextSays, OneRun, OneGraph, Exchanges, Demand3}
 use Rattle.weak_runs.proofs.Invariant.{doneOf, meaning, systemIn}
 use Rattle.weak_runs.proofs.Calls.{graph-reached, edges-reached, begun-within}
@@ -56,64 +56,64 @@ module _ (r : Run) where
   recorded-words = recorded-copies r
 
   -- "finished once E + R of its Completes are accepted": then the record is full
-  module _ (f : Finished r) where
-    pub finished-full : entriesIn (memoryOf r) ≡ copiesIn r
+  module _ (f : Finished (viewOf r)) where
+    pub finished-full : entriesIn (memoryOf r) ≡ copiesIn (viewOf r)
     finished-full = omega (arith, f .completes, entries-word r, entries-few r)
 
     pub record-full : entriesIn (memoryOf r) ≡ edges (memoryOf r) + rootsWord (memoryOf r)
     record-full = omega (arith, finished-full, edges-reached r, roots-word r)
 
-    pub finished-order : AllowedOrder (r .lent) (orderOf r)
+    pub finished-order : AllowedOrder (r .lent) (orderOf (viewOf r))
     unfolding orderOf stateOf
     finished-order = allowed-as (sym (graph-reached r)) order-is (full.finished-allowed (honest-run r) record-full)
       where
-        order-is : tabulate (copiesIn r) (copyWords now) ≡ doneOf (stateOf p k now)
+        order-is : tabulate (copiesIn (viewOf r)) (copyWords now) ≡ doneOf (stateOf p k now)
         order-is = ap (λ (n : ℕ). tabulate n (copyWords now)) (sym finished-full) ∙ sym (recorded-copies r)
 
-    pub finished-count : acceptedIn (memoryOf r) ≡ 4 * edges (r .lent) + 3 * rootsOf r
+    pub finished-count : acceptedIn (memoryOf r) ≡ 4 * edges (r .lent) + 3 * rootsOf (viewOf r)
     finished-count = omega (arith, full.finished-count (honest-run r) record-full, edges-reached r, roots-word r)
 
-  unfinished-free : ¬ (Finished r) → entriesIn now < edges now + rootsWord now
+  unfinished-free : ¬ (Finished (viewOf r)) → entriesIn now < edges now + rootsWord now
   unfinished-free n =
       stable (decLt (entriesIn now) (edges now + rootsWord now))
       (λ m. n (record { completes = omega (arith, m, entries-word r, edges-reached r, roots-word r) }))
 
-  accepted-next : ¬ (Finished r) → (limits : Limits) → KeptBy limits r → (i : ℕ) × (s : Step) × (i < p) × Acceptance (nextSays limits r i s)
+  accepted-next : ¬ (Finished (viewOf r)) → (limits : Limits) → KeptBy limits (viewOf r) → (i : ℕ) × (s : Step) × (i < p) × Acceptance (nextSays limits (viewOf r) i s)
   accepted-next n limits within = some-step (honest-under r limits within) (ranges-run r) (unfinished-free n)
 
 -- of the graph that begin was lent
-lent-sound : (r : Run) → Sound (graphOf r)
+lent-sound : (r : Run) → Sound (graphOf (viewOf r))
 lent-sound r = rw (graph-reached r) at (run-sound r)
 
-lent-once : (r : Run) → NoneTwice (graphOf r)
+lent-once : (r : Run) → NoneTwice (graphOf (viewOf r))
 lent-once r = subst NoneTwice (graph-reached r) (run-once r)
 
 -- what one graph allows the same graph in other tables allows
-pub order-agreed : (r r′ : Run) {l : List Copy} → OneGraph r r′ → AllowedOrder (r′ .lent) l → AllowedOrder (r .lent) l
+pub order-agreed : (r r′ : Run) {l : List Copy} → OneGraph (viewOf r) (viewOf r′) → AllowedOrder (r′ .lent) l → AllowedOrder (r .lent) l
 order-agreed r r′ o a =
     record {
       once = λ c. a .once c ∙ sym (same-copies sound sound′ once once′ (o .sameTasks) (o .sameEdges) c);
       after = λ b c e. a .after b c (same-before sound sound′ once once′ (o .sameTasks) (o .sameEdges) e);
     }
   where
-    sound : Sound (graphOf r)
+    sound : Sound (graphOf (viewOf r))
     sound = lent-sound r
 
-    sound′ : Sound (graphOf r′)
+    sound′ : Sound (graphOf (viewOf r′))
     sound′ = lent-sound r′
 
-    once : NoneTwice (graphOf r)
+    once : NoneTwice (graphOf (viewOf r))
     once = lent-once r
 
-    once′ : NoneTwice (graphOf r′)
+    once′ : NoneTwice (graphOf (viewOf r′))
     once′ = lent-once r′
 
-two-runs : (r r′ : Run) → OneGraph r r′ → Finished r → Finished r′ → Exchanges r r′
+two-runs : (r r′ : Run) → OneGraph (viewOf r) (viewOf r′) → Finished (viewOf r) → Finished (viewOf r′) → Exchanges (viewOf r) (viewOf r′)
 two-runs r r′ o f f′ =
-    exchange sameCopy (isCopy (graphOf r)) (Before (graphOf r)) (one-copy (graphOf r) (lent-sound r) (lent-once r)) (orderOf r) (orderOf r′)
+    exchange sameCopy (isCopy (graphOf (viewOf r))) (Before (graphOf (viewOf r))) (one-copy (graphOf (viewOf r)) (lent-sound r) (lent-once r)) (orderOf (viewOf r)) (orderOf (viewOf r′))
     (finished-order r f) (order-agreed r r′ o (finished-order r′ f′))
 
-one-run : (r : Run) → OneRun r
+one-run : (r : Run) → OneRun (viewOf r)
 one-run r =
     record {
       steps = λ f. omega (arith, accepted-word r, finished-count r f);

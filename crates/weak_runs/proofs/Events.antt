@@ -19,16 +19,18 @@ use Rattle.plans.specs.Sizes.{Lengths}
 use Rattle.weak_task.specs.Types.{Copy, copy}
 use Rattle.weak_rules.specs.Memory.{Mem, tasks, edges, rootsWord, entriesIn, acceptedIn}
 use Rattle.weak_rules.proofs.Kept.{step-keeps}
-use Rattle.weak_rules.proofs.Begun.{laid-down}
+use Rattle.weak_rules.proofs.Begun.{laid-roots-few, laid-down}
+use Rattle.weak_rules.proofs.Moved.{roots-kept}
 use Rattle.weak_algorithm.specs.State.{noItem}
 use Rattle.weak_algorithm.specs.Reading.{entryIn, recordIn}
 use Rattle.runs.proofs.Invariant.{tasksOf}
 use Rattle.runs.proofs.Meaning.{length-tasks}
-use Rattle.weak_runs.specs.Calls.{acceptedSteps, acceptedCompletes, Run, memoryOf, eventsOf, rootsOf, copiesIn}
+use Rattle.weak_runs.specs.Calls.{acceptedSteps, acceptedCompletes, Run, memoryOf, eventsOf, rootsOf, copiesIn, viewOf}
 use Rattle.weak_runs.specs.Demand.{copyWords, workerWord}
 use Rattle.weak_runs.specs.RunWords.{entriesOf, wordsOf, RunWords}
-use Rattle.weak_runs.proofs.Invariant.{none}
+use Rattle.weak_runs.proofs.Invariant.{none, Words}
 use Rattle.weak_runs.proofs.Calls.{always, weights-reached, starts-reached, preds-reached, graph-reached, tasks-reached, edges-reached}
+use Rattle.weak_runs.proofs.Honest.{honest-run}
 use Rattle.weak_runs.proofs.Recounts.{Recounts, recounted}
 
 -- The words of a list of entries: each entry's task, then its predecessor, then its worker.
@@ -101,9 +103,17 @@ module _ (r : Run) where
 
   -- every list has its length
   pub lengths-reached : Lengths (r .workers) (r .slots) (memoryOf r)
-  lengths-reached =
-      always (r .workers) (r .slots) (Lengths (r .workers) (r .slots)) (λ limits m e. laid-down limits (r .workers) (r .slots) m e .lengths)
-      (λ limits m i s a. step-keeps limits (r .workers) (r .slots) i s m .lengths (r .workers) (r .slots)) (r .limits) (r .lent) (r .accepts) (r .calls)
+  lengths-reached = honest-run r .fits .lengths
+
+  words : Words (r .workers) (r .slots) now
+  words = honest-run r .words
+
+  -- R is at most N
+  roots-few : rootsWord now ≤ tasks now
+  roots-few =
+      always (r .workers) (r .slots) (λ m. rootsWord m ≤ tasks m) (λ limits m e. laid-roots-few (laid-down limits (r .workers) (r .slots) m e))
+      (λ limits m i s a h. rw (roots-kept limits (r .workers) (r .slots) i s m, step-keeps limits (r .workers) (r .slots) i s m .graph .weights) h)
+      (r .limits) (r .lent) (r .accepts) (r .calls)
 
   recounts : Recounts (r .workers) now (eventsOf r)
   recounts = recounted r
@@ -111,7 +121,7 @@ module _ (r : Run) where
   -- the record's words stand first, three for each of its entries, and others follow
   recorded : recordIn now ≡ tabulate (entriesIn now) (entryIn now)
   unfolding recordIn
-  recorded = rw (le-leb (entriesIn now) (edges now + rootsWord now) (recounts .few))
+  recorded = rw (le-leb (entriesIn now) (edges now + rootsWord now) (words .entries))
 
   abbrev others : List ℕ
   others = drop (3 * entriesIn now) (now .executed)
@@ -122,7 +132,7 @@ module _ (r : Run) where
       ∙ ap (λ (l : List ℕ). l ++ others) (sym (ap wordsOf recorded ∙ words-triples (entriesIn now) (now .executed) inside))
     where
       inside : 3 * entriesIn now ≤ length (now .executed)
-      inside = omega (arith, recounts .few, recounts .tasked, lengths-reached .list list.executed)
+      inside = omega (arith, words .entries, roots-few, lengths-reached .list list.executed)
 
   record-length : length (now .executed) ≡ 3 * (edges (r .lent) + tasks (r .lent))
   record-length = lengths-reached .list list.executed ∙ rw (tasks-reached r, edges-reached r) refl
@@ -137,10 +147,10 @@ module _ (r : Run) where
   pub entries-word : entriesIn (memoryOf r) ≡ acceptedCompletes (eventsOf r)
   entries-word = recounts .entries
 
-  pub roots-word : rootsWord (memoryOf r) ≡ rootsOf r
-  roots-word = recounts .roots ∙ ap (λ (g : Graph). length (roots g)) (graph-reached r)
+  pub roots-word : rootsWord (memoryOf r) ≡ rootsOf (viewOf r)
+  roots-word = words .roots ∙ ap (λ (g : Graph). length (roots g)) (graph-reached r)
 
-  pub run-words : RunWords r
+  pub run-words : RunWords (viewOf r)
   run-words =
       record {
         run = three-words (now .run) (lengths-reached .list list.run) ∙ rw (entries-word, accepted-word, roots-word);
@@ -185,7 +195,7 @@ module _ (r : Run) where
 
   -- one of the workers
   pub recorded-workers : (x : ℕ) → x < acceptedCompletes (eventsOf r) → workerWord (memoryOf r) x < r .workers
-  recorded-workers x h = rw word (recounts .workers x (omega (arith, below, size)))
+  recorded-workers x h = rw word (recounts .workers none x (omega (arith, below, size)))
     where
       below : x < entriesIn now
       below = omega (arith, h, recounts .entries)
@@ -197,8 +207,8 @@ module _ (r : Run) where
       word = record-workers x below ∙ ap (λ (es : List (Entry Copy)). getD es x none .worker) (recounts .executed)
 
   -- no run has more than E + R accepted Completes
-  pub entries-few : entriesIn (memoryOf r) ≤ copiesIn r
-  entries-few = omega (arith, recounts .few, roots-word, edges-reached r)
+  pub entries-few : entriesIn (memoryOf r) ≤ copiesIn (viewOf r)
+  entries-few = omega (arith, words .entries, roots-word, edges-reached r)
 
-  pub at-most-all : acceptedCompletes (eventsOf r) ≤ copiesIn r
+  pub at-most-all : acceptedCompletes (eventsOf r) ≤ copiesIn (viewOf r)
   at-most-all = omega (arith, entries-few, entries-word)

@@ -37,7 +37,7 @@ use Rattle.weak_rules.specs.Plans.{counted, carriedOut}
 use Rattle.weak_rules.specs.Steps.{scan, fetchCopy, fetchFrom, fetchRule, startRule, completeCopy, completeSink, completeInner, completeLast, completeRule, advanced, findRoom, releaseTo, releaseFirst, releaseLater, releaseRule, ruleOf, stepPlan, step}
 use Rattle.weak_rules.specs.Begin.{weakDegrees, cleared, begun, rootsAnswer, beginAnswer, begin}
 use Rattle.weak_rules.proofs.Examples.{lent, beginSays, diamond, crowded}
-use Rattle.weak_runs.specs.Calls.{Call, stepCall, acceptedSteps, Run, memoryOf, eventsOf}
+use Rattle.weak_runs.specs.Calls.{Call, stepCall, acceptedSteps, Run, memoryOf, eventsOf, viewOf}
 use Rattle.weak_runs.specs.Demand.{Finished, orderOf, OneGraph, nextSays}
 use Rattle.weak_runs.proofs.Demand.{demand-3}
 
@@ -109,20 +109,20 @@ abbrev pub risingOrder : List Copy
 risingOrder = copy 0 65535 ∷ copy 1 0 ∷ copy 2 0 ∷ copy 3 1 ∷ copy 3 2 ∷ []
 
 pub record Examples : Type 0 where
-  pub finished : Finished deskTurns × Finished oneWorker
-  pub agree : OneGraph deskTurns oneWorker
+  pub finished : Finished (viewOf deskTurns) × Finished (viewOf oneWorker)
+  pub agree : OneGraph (viewOf deskTurns) (viewOf oneWorker)
   -- "4E + 3R accepted steps", "E + R copies used", nine words of the record unused
   pub steps : (acceptedSteps (eventsOf deskTurns) ≡ 19) × (acceptedSteps (eventsOf oneWorker) ≡ 19)
   pub counted : (memoryOf deskTurns .run ≡ 5 ∷ 19 ∷ 1 ∷ []) × (memoryOf oneWorker .run ≡ 5 ∷ 19 ∷ 1 ∷ [])
   pub recorded : memoryOf deskTurns .executed ≡ 0 ∷ 65535 ∷ 0 ∷ 2 ∷ 0 ∷ 1 ∷ 1 ∷ 0 ∷ 0 ∷ 3 ∷ 2 ∷ 0 ∷ 3 ∷ 1 ∷ 0 ∷ replicate 9 0
   pub recordedAlone : memoryOf oneWorker .executed ≡ 0 ∷ 65535 ∷ 0 ∷ 1 ∷ 0 ∷ 0 ∷ 2 ∷ 0 ∷ 0 ∷ 3 ∷ 1 ∷ 0 ∷ 3 ∷ 2 ∷ 0 ∷ replicate 9 0
-  pub orders : (orderOf deskTurns ≡ deskOrder) × (orderOf oneWorker ≡ risingOrder)
+  pub orders : (orderOf (viewOf deskTurns) ≡ deskOrder) × (orderOf (viewOf oneWorker) ≡ risingOrder)
   -- the copies of tasks 1 and 2, and the two copies of task 3: "copies of one task may pass each other"
   pub differing : differ sameCopy deskOrder risingOrder ≡ 2
   -- an unfinished run: worker 1's Release is refused with 11, and worker 0 may fetch
-  pub unfinished : ¬ (Finished crowdedRun)
-  pub full : nextSays engine crowdedRun 1 Release ≡ refused 11 4
-  pub goesOn : nextSays engine crowdedRun 0 Fetch ≡ copyFetched (copy 2 1)
+  pub unfinished : ¬ (Finished (viewOf crowdedRun))
+  pub full : nextSays engine (viewOf crowdedRun) 1 Release ≡ refused 11 4
+  pub goesOn : nextSays engine (viewOf crowdedRun) 0 Fetch ≡ copyFetched (copy 2 1)
 
 pub examples : Examples
 unfolding ℕ-discrete decLe decLt firstBelow occOf joined tabulate allOf sumTo after around capped nextPhase part sizesFit firstBad firstTwice firstOnCycle tablesAnswer checkAnswer below? among? light? good? bad? endsFit? twice? twiceIn? find-twice edge? thru? path? leads? onCycle? succsBelow succStart succStarts succWords roots capacity slotAt endsAt storeEnds sound empty full headOn tailOn sumToZ load leastFrom least search allSteps allEntries numbersFit allFit othersFit lengthsFit countersFit storeWords updated written counted carriedOut scan fetchCopy fetchFrom fetchRule startRule completeCopy completeSink completeInner completeLast completeRule advanced findRoom releaseTo releaseFirst releaseLater releaseRule ruleOf stepPlan step weakDegrees rootsLaid cleared begun rootsAnswer beginAnswer begin machine.began machine.memoryAfter machine.recalled machine.eventsAfter machine.acceptedOf orderOf placeOf ahead differ sameCopy

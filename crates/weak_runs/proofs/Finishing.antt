@@ -1,8 +1,6 @@
 -- PROMISE: every weak run can be finished, with any limits that it keeps. While it isn't, some step is accepted next, and each adds 1 to the accepted
 -- word, which never passes 4E + 3R.
-use Prim.Native.Nat.{ℕ, suc, _+_, _*_, _≤_, _<_}
-use mathlib.Core.Path.{_≡_, refl, sym, ap, _∙_, subst}
-use mathlib.Core.List.{[], _∷_}
+use Prim.Native.Nat.{ℕ, _+_, _*_, _≤_, _<_}
 use native.Mathlib.Omega.{arith}
 use native.Mathlib.Decide.{decLe}
 use lib.ListN.{length}
@@ -10,23 +8,19 @@ use Rattle.task.specs.Rows.{Acceptance}
 use Rattle.task.specs.declared.Limits.{Limits}
 use Rattle.task.specs.declared.Step.{Step}
 use Rattle.graph.specs.Successors.{roots}
-use Rattle.machine.specs.Jobs as jobs
-use Rattle.machine.specs.Machine as machine
-use Rattle.machine.proofs.Lists.{memory-on}
-use Rattle.machine.proofs.Finishing.{longer-none, longer-longer, to-the-end}
-use Rattle.weak_rules.specs.Memory.{Mem, edges, graphIn, acceptedIn}
+use Rattle.weak_rules.specs.Memory.{Mem, edges, graphIn}
 use Rattle.weak_rules.proofs.Moves.{accepted-step}
-use Rattle.weak_rules.proofs.Moved.{counts}
-use Rattle.weak_runs.specs.Calls.{Call, stepCall, weakCalls, weak, acceptedSteps, acceptedCompletes, Run, memoryOf, eventsOf, longer, copiesIn, KeptBy}
+use Rattle.views.proofs.Finishing as finishing
+use Rattle.weak_runs.specs.Calls.{Call, weakCalls, acceptedSteps, acceptedCompletes, View, KeptBy, Run, memoryOf, eventsOf, viewOf, copiesIn}
 use Rattle.weak_runs.specs.Demand.{Finished, nextSays, CanFinish}
 use Rattle.weak_runs.proofs.Calls.{edges-reached}
 use Rattle.weak_runs.proofs.Events.{accepted-word, roots-word}
 use Rattle.weak_runs.proofs.Demand.{demand-3}
 
-finished? : (r : Run) → Dec (Finished r)
-finished? r = go (decLe (copiesIn r) (acceptedCompletes (eventsOf r)))
+finished? : (v : View Mem Call) → Dec (Finished v)
+finished? v = go (decLe (copiesIn v) (acceptedCompletes (v .events)))
   where
-    go : Dec (copiesIn r ≤ acceptedCompletes (eventsOf r)) → Dec (Finished r)
+    go : Dec (copiesIn v ≤ acceptedCompletes (v .events)) → Dec (Finished v)
     go (yes h) = yes (record { completes = h })
     go (no n) = no (λ f. n (f .completes))
 
@@ -34,56 +28,15 @@ finished? r = go (decLe (copiesIn r) (acceptedCompletes (eventsOf r)))
 abbrev allSteps : Mem → ℕ
 allSteps m = 4 * edges m + 3 * length (roots (graphIn m))
 
-module _ (limits : Limits) (r : Run) where
-  module _ (i : ℕ) (s : Step) (a : Acceptance (nextSays limits r i s)) where
-    abbrev c : Call
-    c = stepCall limits (r .workers) (r .slots) i s
+below-all : (limits : Limits) (r : Run) (i : ℕ) (s : Step) → Acceptance (nextSays limits (viewOf r) i s) → acceptedSteps (eventsOf r) < allSteps (r .lent)
+below-all limits r i s a =
+    omega (
+      arith,
+      accepted-step limits (r .workers) (r .slots) i s (memoryOf r) a .allowed .low,
+      edges-reached r,
+      roots-word r,
+      accepted-word r,
+    )
 
-    -- the run with one more accepted step counts one more
-    one-more : acceptedSteps (eventsOf (longer r (c ∷ []))) ≡ suc (acceptedSteps (eventsOf r))
-    unfolding machine.memoryAfter
-    one-more =
-        sym (accepted-word (longer r (c ∷ [])))
-        ∙ ap acceptedIn (memory-on weak (r .calls) (c ∷ []) (jobs.begunOf weakCalls r))
-        ∙ counts limits (r .workers) (r .slots) i s (memoryOf r) a
-        ∙ ap suc (accepted-word r)
-
-    below-all : acceptedSteps (eventsOf r) < allSteps (r .lent)
-    below-all =
-        omega (
-          arith,
-          accepted-step limits (r .workers) (r .slots) i s (memoryOf r) a .allowed .low,
-          edges-reached r,
-          roots-word r,
-          accepted-word r,
-        )
-
-    -- a step, and then the others
-    step-first : CanFinish limits (longer r (c ∷ [])) → CanFinish limits r
-    step-first rest =
-        record {
-          further = c ∷ rest .further;
-          alike = ((i, s, refl), rest .alike);
-          taken = omega (arith, ap (λ (x : Run). acceptedSteps (eventsOf x)) same, rest .taken, one-more);
-          finishes = subst Finished same (rest .finishes);
-        }
-      where
-        same : longer (longer r (c ∷ [])) (rest .further) ≡ longer r (c ∷ rest .further)
-        same = longer-longer weakCalls r (c ∷ []) (rest .further)
-
-  at-end : Finished r → CanFinish limits r
-  at-end f =
-      record {
-        further = [];
-        alike = tt;
-        taken = omega (arith, ap (λ (x : Run). acceptedSteps (eventsOf x)) (longer-none weakCalls r));
-        finishes = subst Finished (sym (longer-none weakCalls r)) f;
-      }
-
-  next-step : KeptBy limits r → ¬ (Finished r) → (i : ℕ) × (s : Step) × Acceptance (nextSays limits r i s)
-  next-step w u = let (i, s, _, a) = demand-3 .one r .nextBy u limits w in (i, s, a)
-
-pub can-finish : (limits : Limits) (r : Run) → KeptBy limits r → CanFinish limits r
-can-finish limits r w =
-    to-the-end weakCalls limits allSteps Finished (KeptBy limits) (CanFinish limits) finished? (λ r cs w. w) (next-step limits) (one-more limits)
-    (below-all limits) (at-end limits) (step-first limits) r w
+pub can-finish : (limits : Limits) (r : Run) → KeptBy limits (viewOf r) → CanFinish limits r
+can-finish = finishing.can-finish weakCalls Finished finished? allSteps (λ r. demand-3 .one r .nextBy) below-all

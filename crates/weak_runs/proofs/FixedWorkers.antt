@@ -15,9 +15,9 @@ use Rattle.weak_rules.specs.Memory.{Mem, tasks, graphIn, degreeIn, fixedIn, row
 use Rattle.weak_algorithm.specs.State.{Thread, State, threadOf}
 use Rattle.weak_algorithm.specs.Reading.{stateOf}
 use Rattle.weak_algorithm.proofs.Readings.{tid-at, queue-at, thread-at, phase-at}
-use Rattle.weak_runs.specs.Calls.{acceptedCompletes, Run, memoryOf, eventsOf, graphOf}
+use Rattle.weak_runs.specs.Calls.{acceptedCompletes, Run, memoryOf, eventsOf, graphOf, viewOf}
 use Rattle.weak_runs.specs.Demand.{copyWords, workerWord}
-use Rattle.weak_runs.specs.Fixed.{NoCopy, FixedWorkers}
+use Rattle.weak_runs.specs.Fixed.{NoCopy, FixedWorkers, StaysFixed}
 use Rattle.weak_runs.proofs.Invariant.{Fixed}
 use Rattle.weak_runs.proofs.Calls.{graph-reached, tasks-reached}
 use Rattle.weak_runs.proofs.Events.{entries-word, length-record, record-items, record-workers, recorded-copies}
@@ -64,7 +64,7 @@ module _ (r : Run) where
       ∙ sym (tid-at p k now (threadOf state i .held .task))
       ∙ fixed .inHand i worker (λ e. busy (sym (phase-at p k now i worker) ∙ e))
 
-  fixed-before : (t : ℕ) → t < tasks (r .lent) → NoCopy r t → fixedIn now t ≡ nil .0
+  fixed-before : (t : ℕ) → t < tasks (r .lent) → NoCopy (viewOf r) t → fixedIn now t ≡ nil .0
   unfolding stateOf threadIn
   fixed-before t h n =
       rw (tid-at p k now t) at (kept-run r .unmade .before t (omega (arith, h, tasks-reached r)) (record {
@@ -83,14 +83,16 @@ module _ (r : Run) where
       ∙ ap (λ (l : List Copy). missing sameCopy (taskCopies (graphIn now) t) l) (recorded-copies r)
       ∙ rw (e, q) refl
 
-pub fixed-workers : FixedWorkers
-fixed-workers =
+pub fixed-workers : (r : Run) → FixedWorkers (viewOf r)
+fixed-workers r =
     record {
-      words = fixed-words;
-      before = fixed-before;
-      stays = fixed-stays;
-      recorded = fixed-recorded;
-      waiting = fixed-waiting;
-      inHand = fixed-in-hand;
-      degrees = λ r t h. left-of r (graphOf r) (graph-reached r) (acceptedCompletes (eventsOf r)) (entries-word r) t (omega (arith, h, tasks-reached r));
+      words = fixed-words r;
+      before = fixed-before r;
+      recorded = fixed-recorded r;
+      waiting = fixed-waiting r;
+      inHand = fixed-in-hand r;
+      degrees = λ t h. left-of r (graphOf (viewOf r)) (graph-reached r) (acceptedCompletes (eventsOf r)) (entries-word r) t (omega (arith, h, tasks-reached r));
     }
+
+pub stays-fixed : (r : Run) → StaysFixed r
+stays-fixed r = record { stays = fixed-stays r }

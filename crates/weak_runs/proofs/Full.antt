@@ -25,7 +25,7 @@ use Rattle.copies.proofs.Runs.{weak-steps, finished-copies, finished-order}
 use Rattle.runs.proofs.Waiting.{waiting-none}
 use Rattle.weak_algorithm.specs.Reading.{stateOf}
 use Rattle.weak_algorithm.proofs.Readings.{queue-at, degree-at}
-use Rattle.weak_runs.specs.Calls.{Run, memoryOf}
+use Rattle.weak_runs.specs.Calls.{Run, memoryOf, viewOf}
 use Rattle.weak_runs.specs.AtRest.{AtRest}
 use Rattle.weak_runs.specs.Fairness.{queueIn}
 use Rattle.weak_runs.proofs.Invariant.{meaning, systemIn, Honest, doneOf}
@@ -98,7 +98,7 @@ module _ {limits : Limits} {p k : ℕ} {m : Mem} (h : Honest limits p k m) (full
 
 -- of a run whose record is full
 pub rests-from : (r : Run) → Honest (r .limits) (r .workers) (r .slots) (memoryOf r) → Ranges (r .workers) (memoryOf r)
-    → entriesIn (memoryOf r) ≡ edges (memoryOf r) + rootsWord (memoryOf r) → AtRest r
+    → entriesIn (memoryOf r) ≡ edges (memoryOf r) + rootsWord (memoryOf r) → AtRest (viewOf r)
 rests-from r h w full =
     record {
       queues = λ i j hi hj. rest-queue h full i hi j hj;

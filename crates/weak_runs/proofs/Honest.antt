@@ -29,7 +29,7 @@ use Rattle.weak_algorithm.specs.State.{State}
 use Rattle.weak_algorithm.specs.Algorithm.{Does}
 use Rattle.weak_algorithm.specs.Reading.{stateOf}
 use Rattle.weak_algorithm.proofs.Accepted.{step-does}
-use Rattle.weak_runs.specs.Calls.{Call, memoryAfter, Run, memoryOf, KeptBy}
+use Rattle.weak_runs.specs.Calls.{Call, memoryAfter, Run, memoryOf, KeptBy, viewOf}
 use Rattle.weak_runs.proofs.Invariant.{Honest}
 use Rattle.weak_runs.proofs.Calls.{always, kept-now, begun-within}
 use Rattle.weak_runs.proofs.Begun.{weak-as, begun-sane, begun-weak}
@@ -158,13 +158,13 @@ pub ends-sound : {limits : Limits} {p k : ℕ} {m : Mem} → Honest limits p k m
 ends-sound {p = p} h i worker j l = h .words .ends (ringNumber p i j) (place-lt p p i j worker l)
 
 -- what is known of the memory after a run's calls, under all limits that the run keeps, and under begin's
-pub kept-under : (r : Run) (limits : Limits) → KeptBy limits r → Kept-by limits (r .workers) (r .slots) (memoryOf r)
+pub kept-under : (r : Run) (limits : Limits) → KeptBy limits (viewOf r) → Kept-by limits (r .workers) (r .slots) (memoryOf r)
 kept-under r limits w = honest-as (kept-now r limits w) (honest (r .limits) (r .workers) (r .slots) (r .lent) (r .accepts) (r .calls))
 
 pub kept-run : (r : Run) → Kept-by (r .limits) (r .workers) (r .slots) (memoryOf r)
 kept-run r = kept-under r (r .limits) (begun-within r)
 
-pub honest-under : (r : Run) (limits : Limits) → KeptBy limits r → Honest limits (r .workers) (r .slots) (memoryOf r)
+pub honest-under : (r : Run) (limits : Limits) → KeptBy limits (viewOf r) → Honest limits (r .workers) (r .slots) (memoryOf r)
 honest-under r limits w = kept-under r limits w .honest
 
 pub honest-run : (r : Run) → Honest (r .limits) (r .workers) (r .slots) (memoryOf r)

@@ -10,6 +10,7 @@ use Rattle.split_lists.specs.Items.{counterOf}
 use Rattle.weak_rules.specs.Memory.{Mem, graphIn, ringNumber, counterIn, weightIn}
 use Rattle.weak_algorithm.specs.Reading.{stateOf}
 use Rattle.weak_algorithm.proofs.Readings.{counter-at}
+use Rattle.weak_runs.specs.Calls.{Run, viewOf}
 use Rattle.weak_runs.specs.Counters.{openOf, CountersAddUp}
 use Rattle.weak_runs.proofs.Invariant.{openIn, Honest}
 use Rattle.weak_runs.proofs.Calls.{weights-reached}
@@ -29,10 +30,10 @@ module _ {limits : Limits} {p k : ℕ} {m : Mem} (h : Honest limits p k m) where
       ∙ h .addsUp .worker i l
       ∙ rw (open-words p k m i) refl
 
-pub counters-add-up : CountersAddUp
-counters-add-up =
+pub counters-add-up : (r : Run) → CountersAddUp (viewOf r)
+counters-add-up r =
     record {
-      ends = λ r i j hi. ends-sound (honest-run r) i hi j;
-      words = λ r i h. honest-words (honest-run r) i h ∙ rw (weights-reached r);
-      within = λ r. memory-within (r .workers) (r .slots) _ (honest-run r .graph) (kept-run r .bounded);
+      ends = λ i j hi. ends-sound (honest-run r) i hi j;
+      words = λ i h. honest-words (honest-run r) i h ∙ rw (weights-reached r);
+      within = memory-within (r .workers) (r .slots) _ (honest-run r .graph) (kept-run r .bounded);
     }

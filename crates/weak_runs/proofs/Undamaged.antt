@@ -35,7 +35,7 @@ use Rattle.weak_rules.proofs.Numbers.{TwoOrOne, other-step}
 use Rattle.copies.specs.Copies.{isCopy, copiesOf}
 use Rattle.runs.proofs.Undamaged.{Ordinary, Harmless, harmless-end, ordinary-row, failing-row}
 use Rattle.weak_algorithm.proofs.Readings.{phase-at}
-use Rattle.weak_runs.specs.Calls.{Call, stepCall, beginCall, lookupCall, says, weak, Event, Run, memoryOf, eventsOf, graphOf}
+use Rattle.weak_runs.specs.Calls.{Call, stepCall, beginCall, lookupCall, says, weak, Event, Run, memoryOf, eventsOf, graphOf, viewOf}
 use Rattle.weak_runs.specs.Undamaged.{NoDamage, NoDamageIn, Undamaged}
 use Rattle.weak_runs.proofs.Invariant.{Honest}
 use Rattle.weak_runs.proofs.Calls.{graph-reached, tasks-reached, edges-reached}
@@ -203,21 +203,21 @@ module _ (honest : (r : Run) → Honest (r .limits) (r .workers) (r .slots) (mem
   unfolding machine.memoryAfter
   events-undamaged r = further-undamaged (withCalls r []) (r .calls) [] tt
 
-  held-is : (r : Run) (i : ℕ) → i < r .workers → ¬ (_≡_ {A = ℕ} (rowIn (memoryOf r) i .phase) 0) → 0 < isCopy (graphOf r) (held (memoryOf r) i)
+  held-is : (r : Run) (i : ℕ) → i < r .workers → ¬ (_≡_ {A = ℕ} (rowIn (memoryOf r) i .phase) 0) → 0 < isCopy (graphOf (viewOf r)) (held (memoryOf r) i)
   unfolding copiesOf
   held-is r i worker n =
       omega (arith, held-copy (honest r) i worker n, ap (λ (g : Graph). isCopy g (held (memoryOf r) i)) (graph-reached r))
 
-  copies-reached : (r : Run) → rootsWord (memoryOf r) ≡ length (roots (graphOf r))
+  copies-reached : (r : Run) → rootsWord (memoryOf r) ≡ length (roots (graphOf (viewOf r)))
   copies-reached r = honest r .words .roots ∙ ap (λ (g : Graph). length (roots g)) (graph-reached r)
 
-  pub undamaged-from : Undamaged
-  undamaged-from =
+  pub undamaged-from : (r : Run) → Undamaged (viewOf r)
+  undamaged-from r =
       record {
-        next = λ r. undamaged-step (honest r) (ranges r);
-        events = events-undamaged;
-        places = λ r i h. (honest r .words .places i h, omega (arith, few-places (ranges r) i h, tasks-reached r));
-        entries = λ r. omega (arith, honest r .words .entries, edges-reached r, copies-reached r);
-        phases = λ r i h. rw (phase-at (r .workers) (r .slots) (memoryOf r) i h) at (honest r .sane .phases i);
-        hands = held-is;
+        next = undamaged-step (honest r) (ranges r);
+        events = events-undamaged r;
+        places = λ i h. (honest r .words .places i h, omega (arith, few-places (ranges r) i h, tasks-reached r));
+        entries = omega (arith, honest r .words .entries, edges-reached r, copies-reached r);
+        phases = λ i h. rw (phase-at (r .workers) (r .slots) (memoryOf r) i h) at (honest r .sane .phases i);
+        hands = held-is r;
       }

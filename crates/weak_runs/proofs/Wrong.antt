@@ -86,7 +86,7 @@ rules-keep-them =
       order = λ r f. demand-3 .one r .order (record { completes = f });
       named = λ r f. demand-3 .one r .named (record { completes = f });
       next = λ r n. demand-3 .one r .nextBy (λ f. n (f .completes));
-      recorded = fixed-workers .recorded;
+      recorded = λ r. fixed-workers r .recorded;
     }
 
 -- How a run contradicts them.

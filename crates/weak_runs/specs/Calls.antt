@@ -3,19 +3,19 @@
 use Prim.Native.Nat.{ℕ, _+_}
 use mathlib.Core.List.{List}
 use Rattle.task.specs.Refusals.{Said, answerSays}
-use Rattle.task.specs.declared.Limits.{Limits}
 use Rattle.machine.specs.Machine.{Machine}
 use Rattle.machine.specs.Machine as machine
+pub use Rattle.machine.specs.Runs.{View}
 use Rattle.machine.specs.Jobs as jobs
 pub use Rattle.machine.specs.Jobs.{Call, stepCall, beginCall, lookupCall, isStep, isFetch, fetchBy, isComplete, workerOf, acceptedSteps, acceptedCompletes}
 use Rattle.graph.specs.Graph.{Graph}
 use Rattle.graph.specs.Lookup.{lentOf, judgeAnswer}
 use Rattle.graph.specs.Successors.{roots}
-use Rattle.plans.specs.Sizes.{KeepsLimits}
 use Rattle.weak_task.specs.Says.{stepSays}
-use Rattle.weak_rules.specs.Memory.{Mem, tasks, edges, graphIn}
+use Rattle.weak_rules.specs.Memory.{Mem, edges, graphIn}
 use Rattle.weak_rules.specs.Steps.{step}
 use Rattle.weak_rules.specs.Begin.{begin}
+pub use Rattle.views.specs.Graphs.{KeptBy}
 use lib.ListN.{length}
 
 -- what begin and the steps answer and leave, and the judging call of a lookup
@@ -60,16 +60,16 @@ eventsOf = jobs.eventsOf weakCalls
 abbrev pub longer : Run → List Call → Run
 longer = jobs.longer weakCalls
 
+-- what the run shows, of which the promises speak
+abbrev pub viewOf : Run → View Mem Call
+viewOf = jobs.viewOf weakCalls
+
 -- the graph that begin was lent, and how many roots and copies it has: "With R roots", "E + R copies used"
-abbrev pub graphOf : Run → Graph
-graphOf r = graphIn (r .lent)
+abbrev pub graphOf : View Mem Call → Graph
+graphOf v = graphIn (v .lent)
 
-abbrev pub rootsOf : Run → ℕ
-rootsOf r = length (roots (graphOf r))
+abbrev pub rootsOf : View Mem Call → ℕ
+rootsOf v = length (roots (graphOf v))
 
-abbrev pub copiesIn : Run → ℕ
-copiesIn r = edges (r .lent) + rootsOf r
-
--- N, E, P and K of the run keep these limits
-abbrev pub KeptBy : Limits → Run → Type 0
-KeptBy limits r = KeepsLimits limits (r .workers) (r .slots) (tasks (r .lent)) (edges (r .lent))
+abbrev pub copiesIn : View Mem Call → ℕ
+copiesIn v = edges (v .lent) + rootsOf v

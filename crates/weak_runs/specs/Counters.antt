@@ -5,18 +5,13 @@ use mathlib.Core.Bool.{cond, not, _&&_}
 use mathlib.Core.List.{List, [], _∷_}
 use lib.Dec.{eqb}
 use lib.ListN.{getD}
-use lib.IntN.{ℤ, pos, negsuc}
-use lib.Signed.{_≤ℤ_}
+use lib.IntN.{pos}
 use Rattle.lists.specs.Lists.{joined}
 use Rattle.lists.specs.Sums.{sumToZ, sumOf}
 use Rattle.ring.specs.Ring.{Sound}
 use Rattle.weak_rules.specs.Memory.{Mem, tasks, ringNumber, endsIn, weightIn, degreeIn, fixedIn}
-use Rattle.weak_runs.specs.Calls.{Run, memoryOf}
-
--- "within ±67,107,840"
-pub record Within (c : ℤ) : Type 0 where
-  pub low : negsuc 67107839 ≤ℤ c
-  pub high : c ≤ℤ pos 67107840
+pub use Rattle.views.specs.Range.{Within}
+use Rattle.weak_runs.specs.Calls.{Call, View}
 
 -- the tasks fixed to worker i and not complete: a task is complete with its last copy, whose Complete brings its degree to 0 (`Fixed.degrees` tells the
 -- degree from the record)
@@ -24,10 +19,10 @@ unfoldable pub openOf : Mem → ℕ → List ℕ
 openOf m i = joined (tasks m) (λ t. cond (eqb (fixedIn m t) i && not (eqb (degreeIn m t) 0)) (t ∷ []) [])
 
 -- PROMISE: after every list of a run's calls
-pub record CountersAddUp : Type 0 where
+pub record CountersAddUp (v : View Mem Call) : Type 0 where
   -- no ring's list is read from damaged ends, as an empty one
-  pub ends : (r : Run) (i j : ℕ) → i < r .workers → j < r .workers → Sound (r .slots) (endsIn (memoryOf r) (ringNumber (r .workers) i j))
+  pub ends : (i j : ℕ) → i < v .workers → j < v .workers → Sound (v .slots) (endsIn (v .memory) (ringNumber (v .workers) i j))
   -- in the lent words: the counters at places i·P .. i·P + P−1, and begin's weights
-  pub words : (r : Run) (i : ℕ) → i < r .workers
-      → sumToZ (r .workers) (λ j. getD (memoryOf r .counters) (i * r .workers + j) (pos 0)) ≡ pos (sumOf (weightIn (r .lent)) (openOf (memoryOf r) i))
-  pub within : (r : Run) (i j : ℕ) → i < r .workers → j < r .workers → Within (getD (memoryOf r .counters) (i * r .workers + j) (pos 0))
+  pub words : (i : ℕ) → i < v .workers
+      → sumToZ (v .workers) (λ j. getD (v .memory .counters) (i * v .workers + j) (pos 0)) ≡ pos (sumOf (weightIn (v .lent)) (openOf (v .memory) i))
+  pub within : (i j : ℕ) → i < v .workers → j < v .workers → Within (getD (v .memory .counters) (i * v .workers + j) (pos 0))
