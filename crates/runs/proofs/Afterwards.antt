@@ -7,8 +7,7 @@ use mathlib.Core.List.{[]}
 use native.Mathlib.Omega.{arith}
 use native.Mathlib.Decide.{ℕ-discrete}
 use native.Mathlib.Nat.{mod-lt}
-use Rattle.task.specs.Refusals.{refused, nothingThere}
-use Rattle.task.specs.declared.Limits.{Limits}
+use Rattle.task.specs.Refusals.{nothingThere}
 use Rattle.task.specs.declared.Step.the-variants.{Fetch, Start, Complete, Release}
 use Rattle.ring.specs.Ring.{Sound, Empty}
 use Rattle.ring.proofs.Queues.{queue-empty}
@@ -21,8 +20,9 @@ use Rattle.algorithm1.specs.Reading.{queueIn, stateOf}
 use Rattle.algorithm1.proofs.Readings.{degree-at, queue-at}
 use Rattle.system.specs.Stages.{idle}
 use Rattle.system.proofs.Finished.{finished-waiting, finished-hand, finished-degree, finished-pending}
-use Rattle.runs.specs.Calls.{Run, KeptBy, memoryOf, viewOf}
-use Rattle.runs.specs.Demand.{Finished, nextSays}
+use Rattle.runs.specs.Calls.{Run, memoryOf, viewOf}
+use Rattle.runs.specs.Demand.{Finished}
+use Rattle.runs.specs.Corollaries.{FinishedSays}
 use Rattle.runs.specs.AtRest.{AtRest}
 use Rattle.runs.proofs.Invariant.{meaning}
 use Rattle.runs.proofs.Begun.{all-listed}
@@ -81,26 +81,22 @@ module _ (r : Run) (f : Finished (viewOf r)) where
   pub rests : AtRest (viewOf r)
   rests = record { queues = queue-none; rings = ring-empty; phases = phase-idle; buffers = buffer-empty; degrees = degree-none }
 
-  module _ (i : ℕ) (worker : i < p) where
-    free : _≡_ {A = ℕ} (rowIn now i .phase) 0
-    free = phase-idle i worker
+  -- the scan finds all P rings empty
+  pub scan-none : (i : ℕ) → i < p → GoesOn k Empty (scannedEnds p i now) p
+  scan-none i worker d h = ring-empty i ((pointerIn now i + d) % p) worker (mod-lt (pointerIn now i + d) (honest-run r .fits .limits .oneWorker))
 
-    -- the scan finds all P rings empty
-    pub scan-none : GoesOn k Empty (scannedEnds p i now) p
-    scan-none d h = ring-empty i ((pointerIn now i + d) % p) worker (mod-lt (pointerIn now i + d) (honest-run r .fits .limits .oneWorker))
+  pub finished-says : FinishedSays (viewOf r)
+  finished-says i worker limits w = (
+    own-row limits p k i Fetch now (step-follows limits p k i Fetch now) fits worker free refl nothingThere 0
+        (inr (λ d c. omega (arith, row-pointer (honest-run r) i worker, c .1), inr (λ d c. scan-sound (honest-run r) i worker (c .1), inl (refl, (refl, scan-none i worker))))),
+    unsuited limits p k i Start now (step-follows limits p k i Start now) fits worker free (λ e. omega (arith, e)),
+    unsuited limits p k i Complete now (step-follows limits p k i Complete now) fits worker free (λ e. omega (arith, e)),
+    own-row limits p k i Release now (step-follows limits p k i Release now) fits worker free refl nothingThere 0
+        (inr (λ d c. places-good (honest-run r) i worker (c .1), inl (refl, (refl, buffer-empty i worker)))),
+  )
+    where
+      free : _≡_ {A = ℕ} (rowIn now i .phase) 0
+      free = phase-idle i worker
 
-    -- with all limits that the run keeps
-    pub finished-says : (limits : Limits) → KeptBy limits (viewOf r)
-        → (nextSays limits (viewOf r) i Fetch ≡ refused 10 0) × (nextSays limits (viewOf r) i Start ≡ refused 9 0)
-        × (nextSays limits (viewOf r) i Complete ≡ refused 9 0) × (nextSays limits (viewOf r) i Release ≡ refused 10 0)
-    finished-says limits w = (
-      own-row limits p k i Fetch now (step-follows limits p k i Fetch now) fits worker free refl nothingThere 0
-          (inr (λ d c. omega (arith, row-pointer (honest-run r) i worker, c .1), inr (λ d c. scan-sound (honest-run r) i worker (c .1), inl (refl, (refl, scan-none))))),
-      unsuited limits p k i Start now (step-follows limits p k i Start now) fits worker free (λ e. omega (arith, e)),
-      unsuited limits p k i Complete now (step-follows limits p k i Complete now) fits worker free (λ e. omega (arith, e)),
-      own-row limits p k i Release now (step-follows limits p k i Release now) fits worker free refl nothingThere 0
-          (inr (λ d c. places-good (honest-run r) i worker (c .1), inl (refl, (refl, buffer-empty i worker)))),
-    )
-      where
-        fits : Fits limits p k now
-        fits = honest-under r limits w .fits
+      fits : Fits limits p k now
+      fits = honest-under r limits w .fits

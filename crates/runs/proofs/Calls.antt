@@ -2,7 +2,6 @@
 -- neither writes, as the graph, stays as begin was lent it.
 use Prim.Native.Nat.{ℕ}
 use mathlib.Core.Path.{_≡_, refl, ap}
-use mathlib.Core.Logic.{inl, inr}
 use mathlib.Core.List.{List, [], _∷_}
 use lib.ListN.{length}
 use Rattle.lists.proofs.Decided.{both?}
@@ -23,19 +22,15 @@ use Rattle.rules.specs.Begin.{begin}
 use Rattle.rules.specs.Begun.{LaidDown}
 use Rattle.rules.specs.Moves.{AcceptedStep}
 use Rattle.rules.proofs.Untouched.{refused-step, refused-begin}
-use Rattle.rules.proofs.Numbers.{TwoOrOne, other-step, other-begin}
+use Rattle.rules.proofs.Numbers.{other-step, other-begin}
 use Rattle.rules.proofs.Moves.{accepted-step}
 use Rattle.rules.proofs.Kept.{same-graph, step-keeps, SameGraph}
 use Rattle.rules.proofs.Begin.{begin-accepted}
 use Rattle.rules.proofs.Begun.{laid-graph, laid-down}
 use Rattle.rules.proofs.Limits.{within-engine}
+use Rattle.views.proofs.Numbers.{accepted-fits}
 use Rattle.runs.specs.Calls.{Call, stepCall, plainCalls, plain, Event, eventOf, memoryAfter, eventsAfter, begunMemory, reached, Run, KeptBy, memoryOf, eventsOf, viewOf}
 use Rattle.runs.specs.Demand.{acceptedSteps}
-
--- what is accepted meets neither 2 nor 1
-pub accepted-fits : {A : Type 0} (said : Said) → Acceptance said → TwoOrOne said → A
-accepted-fits said a (inl e) = absurd (rw e at a)
-accepted-fits said a (inr e) = absurd (rw e at a)
 
 pub plain-laws : jobs.Laws plainCalls Lengths
 plain-laws =

@@ -2,52 +2,41 @@
 -- a finished one: it records the same tasks as any other of its graph, and accepts no further step. With N 0 begun is finished.
 use Prim.Native.Nat.{ℕ, _<_}
 use mathlib.Core.Path.{_≡_, refl, sym, ap, _∙_}
-use mathlib.Core.Logic.{inl}
-use mathlib.Core.List.{List, [], _++_}
+use mathlib.Core.List.{[]}
 use native.Mathlib.Omega.{arith}
 use native.Mathlib.Decide.{ℕ-discrete}
-use lib.IntN.{pos}
-use Rattle.lists.specs.Lists.{occ, joined, tabulate}
-use Rattle.lists.proofs.Decided.{stable, both?}
+use Rattle.lists.specs.Lists.{occ, tabulate}
 use Rattle.lists.proofs.Occurrences.{occ-hit}
-use Rattle.lists.specs.Sums.{sumOf}
-use Rattle.task.specs.Refusals.{Said, answerSays, stepSays, refused, recordFull}
-use Rattle.task.specs.Rows.{Acceptance}
-use Rattle.task.specs.declared.Limits.{Limits}
+use Rattle.task.specs.Refusals.{answerSays, stepSays}
 use Rattle.task.specs.declared.Answer.{Answer}
 use Rattle.task.specs.declared.Answer.the-variants as answer
 use Rattle.task.specs.declared.Step.{Step}
 use Rattle.task.specs.declared.Step.the-variants.{Complete}
-use Rattle.task.specs.declared.StepOutcome.{StepOutcome}
 use Rattle.task.specs.declared.StepAnswer.{StepAnswer}
 use Rattle.task.specs.declared.StepAnswer.the-variants.{Refused}
 use Rattle.graph.specs.Graph.{Graph, predsOf, Edge}
 use Rattle.graph.specs.Conditions.{EndsFit}
-use Rattle.choice.specs.Least.{load, Least}
+use Rattle.choice.specs.Least.{load}
 use Rattle.choice.proofs.Least.{least-same}
 use Rattle.exchange.specs.Pairs.{eachOnce}
-use Rattle.rules.specs.Memory.{Mem, tasks, edges, graphIn, weightIn, rowIn, held}
-use Rattle.rules.specs.Sizes.{KeepsLimits}
-use Rattle.rules.specs.Updates.{Update}
+use Rattle.rules.specs.Memory.{Mem, tasks, graphIn, rowIn, held}
 use Rattle.rules.specs.Plans.{Result, resultOf}
 use Rattle.rules.specs.Steps.{step}
 use Rattle.rules.specs.Begin.{begin}
-use Rattle.plans.specs.Forms.{own}
-use Rattle.rules.specs.Moves.{ReleasesPlaced}
-use Rattle.plans.proofs.Headers.{kept, not-beyond}
 use Rattle.rules.proofs.Limits.{beyond-2}
 use Rattle.rules.proofs.Moves.{accepted-step}
-use Rattle.rules.proofs.Numbers.{TwoOrOne, other-step, other-begin}
-use Rattle.algorithm1.specs.Reading.{queueIn, threadIn, stateOf}
+use Rattle.rules.proofs.Numbers.{other-step, other-begin}
+use Rattle.algorithm1.specs.Reading.{threadIn, stateOf}
 use Rattle.algorithm1.proofs.Readings.{queue-at, thread-at}
 use Rattle.system.specs.Stages.{inHand}
 use Rattle.system.proofs.Records.{word-recorded, recorded-word, earlier-word}
 use Rattle.system.proofs.Progress as progress
-use Rattle.runs.specs.Calls.{stepCall, beginCall, says, leaves, Run, KeptBy, memoryOf, eventsOf, viewOf}
-use Rattle.runs.specs.Counters.{inHandOf}
+use Rattle.views.proofs.Numbers as numbers
+use Rattle.runs.specs.Calls.{plainCalls, Run, memoryOf, eventsOf, viewOf}
+use Rattle.runs.specs.Corollaries.{OneHolder, WaitingBehind, HeldBehind, NeverEarly, NoMore, OtherNumbers, BeyondLimits, AcceptedKept, NeverFull, Lightest}
 use Rattle.runs.specs.Demand.{acceptedSteps, acceptedCompletes, Finished, taskWord, orderOf, OneGraph}
 use Rattle.runs.proofs.Invariant.{itemsOf, meaning}
-use Rattle.runs.proofs.Calls.{accepted-fits, graph-reached, tasks-reached, edges-reached}
+use Rattle.runs.proofs.Calls.{graph-reached, tasks-reached, edges-reached}
 use Rattle.runs.proofs.Begun.{items-reversed}
 use Rattle.runs.proofs.Hands.{hand-holds}
 use Rattle.runs.proofs.Waiting.{list-waits}
@@ -76,15 +65,10 @@ module _ (r : Run) where
       rw (thread-at p (r .slots) now i worker, hand-holds (threadIn now i) busy) (omega (arith, occ-hit ℕ-discrete (held now i) (held now i) [] refl))
 
   -- no two workers hold one task
-  pub one-holder : (i j : ℕ) → i < p → j < p → ¬ (_≡_ {A = ℕ} (rowIn now i .phase) 0) → ¬ (_≡_ {A = ℕ} (rowIn now j .phase) 0)
-      → held now i ≡ held now j → i ≡ j
+  pub one-holder : OneHolder (viewOf r)
   one-holder i j hi hj bi bj e =
       progress.one-holder ℕ-discrete (itemsOf graph) (items-reversed graph (run-sound r)) p {s = systemIn p (r .slots) now} (invariant-run r) i j (held now i) hi hj
       (in-hand i hi bi) (rw e (in-hand j hj bj))
-
-  -- the task is recorded
-  abbrev pub Recorded : ℕ → Type 0
-  Recorded u = (y : ℕ) × (y < acceptedCompletes (eventsOf r)) × (taskWord (memoryOf r) y ≡ u)
 
   words : recorded r ≡ tabulate (acceptedCompletes (eventsOf r)) (taskWord now)
   words = recorded-words r ∙ ap (λ (n : ℕ). tabulate n (taskWord now)) (entries-word r)
@@ -93,16 +77,14 @@ module _ (r : Run) where
   edge-here u t e = edge-as (graph-reached r) e .predecessor
 
   -- a task waits, and a worker holds it, only behind all its predecessors
-  pub waiting-behind : (i j t u : ℕ) → i < r .workers → j < r .workers → 0 < occ t (queueIn (r .workers) (r .slots) (memoryOf r) i j)
-      → Edge (graphIn (r .lent)) u t → Recorded u
+  pub waiting-behind : WaitingBehind (viewOf r)
   unfolding meaning
   waiting-behind i j t u hi hj h e =
       recorded-word ℕ-discrete _ (taskWord now) (recorded r) words u
       (progress.waiting-behind ℕ-discrete (itemsOf graph) (items-reversed graph (run-sound r)) p {s = systemIn p (r .slots) now} (invariant-run r) i t u hi
       (list-waits p (stateOf p (r .slots) now) i ℕ-discrete t j hj (rw (queue-at p (r .slots) now i j hi hj) h)) (edge-here u t e))
 
-  pub held-behind : (i u : ℕ) → i < r .workers → ¬ (_≡_ {A = ℕ} (rowIn (memoryOf r) i .phase) 0) → Edge (graphIn (r .lent)) u (held (memoryOf r) i)
-      → Recorded u
+  pub held-behind : HeldBehind (viewOf r)
   held-behind i u hi busy e =
       recorded-word ℕ-discrete _ (taskWord now) (recorded r) words u
       (progress.held-behind ℕ-discrete (itemsOf graph) (items-reversed graph (run-sound r)) p {s = systemIn p (r .slots) now} (invariant-run r) i (held now i) u hi
@@ -114,15 +96,14 @@ same-tasks r r′ o f f′ t =
     finished-order r f .once t ∙ ap (λ (n : ℕ). eachOnce n t) (o .sameTasks) ∙ sym (finished-order r′ f′ .once t)
 
 -- in an unfinished run too, the record has every task after all its predecessors
-pub never-early : (r : Run) (x u : ℕ) → x < acceptedCompletes (eventsOf r) → Edge (graphIn (r .lent)) u (taskWord (memoryOf r) x)
-    → (y : ℕ) × (y < x) × (taskWord (memoryOf r) y ≡ u)
+pub never-early : (r : Run) → NeverEarly (viewOf r)
 never-early r x u h e =
     earlier-word ℕ-discrete _ (taskWord (memoryOf r)) (recorded r) (words r) x u h
     (invariant-run r .order u (taskWord (memoryOf r) x) (edge-here r u (taskWord (memoryOf r) x) e)
     (word-recorded ℕ-discrete _ (taskWord (memoryOf r)) (recorded r) (words r) x h))
 
 -- a finished run accepts no further step, whatever the limits, P, K and worker
-pub no-more : (r : Run) → Finished (viewOf r) → (limits : Limits) (p k i : ℕ) (s : Step) → ¬ (Acceptance (stepSays (step limits p k i s (memoryOf r) .answer)))
+pub no-more : (r : Run) → Finished (viewOf r) → NoMore (viewOf r)
 no-more r f limits p k i s a =
     omega (arith, accepted-step limits p k i s (memoryOf r) a .allowed .low, finished-count r (finished-full r f))
 
@@ -137,18 +118,14 @@ nothing-finished r none = (finished, omega (arith, none, demand-3 .one r .steps 
     ends = rw (graph-reached r) at (run-sound r .ends)
 
 -- "A call with another P or K than begin's meets 2 or 1.", a step or a begin, at any time of the run and whatever its limits
-pub other-numbers : (r : Run) (limits : Limits) (p k : ℕ) → ¬ ((p ≡ r .workers) × (k ≡ r .slots))
-    → ((i : ℕ) (s : Step) → TwoOrOne (stepSays (step limits p k i s (memoryOf r) .answer)))
-    × TwoOrOne (answerSays (begin limits p k (memoryOf r) .answer))
+pub other-numbers : (r : Run) → OtherNumbers (viewOf r)
 other-numbers r limits p k n = (
   other-step limits (r .workers) (r .slots) p k (memoryOf r) (honest-run r .fits .lengths) n,
   other-begin limits (r .workers) (r .slots) p k (memoryOf r) (honest-run r .fits .lengths) n,
 )
 
 -- a call beyond its limits is refused with 2 and leaves all words, a step or a begin, at any time of the run
-pub beyond-limits : (r : Run) (limits : Limits) (p k : ℕ) → ¬ (KeepsLimits limits p k (tasks (r .lent)) (edges (r .lent)))
-    → ((i : ℕ) (s : Step) → (says (stepCall limits p k i s) (memoryOf r) ≡ refused 2 0) × (leaves (stepCall limits p k i s) (memoryOf r) ≡ memoryOf r))
-    × ((says (beginCall limits p k) (memoryOf r) ≡ refused 2 0) × (leaves (beginCall limits p k) (memoryOf r) ≡ memoryOf r))
+pub beyond-limits : (r : Run) → BeyondLimits (viewOf r)
 beyond-limits r limits p k n = (
   λ i s. (ap (λ (x : Result StepAnswer). stepSays (x .answer)) (two .1 i s), ap (λ (x : Result StepAnswer). x .memory) (two .1 i s)),
   (ap (λ (x : Result Answer). answerSays (x .answer)) (two .0), ap (λ (x : Result Answer). x .memory) (two .0)),
@@ -159,31 +136,13 @@ beyond-limits r limits p k n = (
     two = beyond-2 limits p k (memoryOf r) (λ w. n (rw (sym (tasks-reached r), sym (edges-reached r)) w))
 
 -- so the run keeps the limits of every step and begin that is accepted, whatever its P and K
-pub accepted-kept : (r : Run) (limits : Limits) (p k : ℕ)
-    → ((i : ℕ) (s : Step) → Acceptance (says (stepCall limits p k i s) (memoryOf r)) → KeptBy limits (viewOf r))
-    × (Acceptance (says (beginCall limits p k) (memoryOf r)) → KeptBy limits (viewOf r))
-accepted-kept r limits p k = (
-  λ i s a. keeps _ a (λ n. beyond-limits r limits p k n .0 i s .0) (λ n. other-numbers r limits p k n .0 i s),
-  λ a. keeps _ a (λ n. beyond-limits r limits p k n .1 .0) (λ n. other-numbers r limits p k n .1),
-)
-  where
-    keeps : (said : Said) → Acceptance said → (¬ (KeepsLimits limits p k (tasks (r .lent)) (edges (r .lent))) → said ≡ refused 2 0)
-        → (¬ ((p ≡ r .workers) × (k ≡ r .slots)) → TwoOrOne said) → KeepsLimits limits (r .workers) (r .slots) (tasks (r .lent)) (edges (r .lent))
-    keeps said a beyond other =
-        let (ep, ek) = stable (both? p k (r .workers) (r .slots)) (λ n. accepted-fits said a (other n)) in
-        rw (sym ep, sym ek, sym (tasks-reached r), sym (edges-reached r))
-        (kept limits p k (memoryOf r)
-        (λ b. accepted-fits said a (inl (beyond (λ w. not-beyond limits p k (memoryOf r) (rw (tasks-reached r, edges-reached r) w) b)))))
+pub accepted-kept : (r : Run) → AcceptedKept (viewOf r)
+accepted-kept r = numbers.accepted-kept plainCalls (viewOf r) (other-numbers r) (beyond-limits r)
 
 -- in memory begun and stepped by the engine Complete never meets 12, whatever the limits, P, K and worker
-pub never-full : (r : Run) (limits : Limits) (p k i d : ℕ) → ¬ (stepSays (step limits p k i Complete (memoryOf r) .answer) ≡ refused recordFull d)
+pub never-full : (r : Run) → NeverFull (viewOf r)
 never-full r limits p k i d = undamaged r .next limits p k i Complete .notFull d
 
--- "target j is the worker with the least sum of its P counters": in a run that is the least weight waiting and in hand, so a lane with a long tile isn't
--- taken for an empty one. Of every Release that places its successor.
-pub lightest : (r : Run) (i : ℕ) (o : StepOutcome) (us : List Update) (f : ReleasesPlaced (own (r .workers) (memoryOf r)) (r .workers) (r .slots) i (memoryOf r) o us)
-    → Least (λ h. h < r .workers)
-    (λ h. pos (sumOf (weightIn (r .lent)) (joined (r .workers) (queueIn (r .workers) (r .slots) (memoryOf r) h) ++ inHandOf (memoryOf r) h)))
-    (f .target)
+pub lightest : (r : Run) → Lightest (viewOf r)
 unfolding load
 lightest r i o us f = least-same (λ h l. sym (counters-add-up r .words h l)) (f .least)

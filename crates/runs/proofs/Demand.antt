@@ -24,7 +24,7 @@ use Rattle.graph.proofs.Reversed.{all-edges}
 use Rattle.exchange.specs.Exchange.{Allows}
 use Rattle.exchange.specs.Pairs.{eachOnce}
 use Rattle.exchange.proofs.Theorem.{exchange-tasks}
-use Rattle.rules.specs.Memory.{Mem, tasks, edges, graphIn, degreeIn, rowIn, entriesIn, acceptedIn}
+use Rattle.rules.specs.Memory.{Mem, tasks, edges, graphIn, degreeIn, entriesIn, acceptedIn}
 use Rattle.algorithm1.specs.State.{State, threadOf, waitingFor}
 use Rattle.algorithm1.specs.Reading.{recordIn, stateOf}
 use Rattle.algorithm1.proofs.Readings.{degree-at, phase-at}
@@ -39,6 +39,7 @@ use Rattle.system.proofs.Progress.{progress, held-wanted, waiting-wanted, pendi
 use Rattle.runs.specs.Calls.{Run, KeptBy, memoryOf, viewOf}
 use Rattle.runs.specs.Items.{handOf}
 use Rattle.runs.specs.Demand.{Finished, taskWord, orderOf, AllowedOrder, nextSays, OneRun, Agree, OneGraph, Exchanges, Demand3}
+use Rattle.runs.specs.Corollaries.{HoldingOpen}
 use Rattle.runs.proofs.Invariant.{itemsOf, pendingOf, meaning}
 use Rattle.runs.proofs.Calls.{graph-reached, tasks-reached, edges-reached, begun-within}
 use Rattle.runs.proofs.Begun.{all-listed, items-reversed}
@@ -124,7 +125,7 @@ module _ (r : Run) where
       )
 
   -- While a worker holds a task, an entry is free for it: in memory begun and stepped by the engine Complete never meets 12.
-  pub holding-open : (i : ℕ) → i < p → ¬ (_≡_ {A = ℕ} (rowIn now i .phase) 0) → entriesIn now < tasks now
+  pub holding-open : HoldingOpen (viewOf r)
   unfolding meaning
   holding-open i worker busy =
       omega (

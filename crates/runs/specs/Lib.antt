@@ -8,3 +8,4 @@ pub mod AtRest
 pub mod Undamaged
 pub mod Hosted
 pub mod HostedFair
+pub mod Corollaries

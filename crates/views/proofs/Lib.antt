@@ -1,2 +1,3 @@
 pub mod Recounts
 pub mod Finishing
+pub mod Numbers

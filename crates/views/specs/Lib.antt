@@ -4,3 +4,4 @@ pub mod Recorded
 pub mod Graphs
 pub mod AtRest
 pub mod Finishing
+pub mod Numbers

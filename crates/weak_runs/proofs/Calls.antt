@@ -2,7 +2,6 @@
 -- neither writes, as the graph, stays as begin was lent it.
 use Prim.Native.Nat.{ℕ}
 use mathlib.Core.Path.{_≡_, refl, ap}
-use mathlib.Core.Logic.{inl, inr}
 use mathlib.Core.List.{List, [], _∷_}
 use lib.ListN.{length}
 use Rattle.lists.proofs.Decided.{both?}
@@ -24,18 +23,14 @@ use Rattle.weak_rules.specs.Begin.{begin}
 use Rattle.weak_rules.specs.Begun.{LaidDown}
 use Rattle.weak_rules.specs.Moves.{AcceptedStep}
 use Rattle.weak_rules.proofs.Untouched.{refused-step, refused-begin}
-use Rattle.weak_rules.proofs.Numbers.{TwoOrOne, other-step, other-begin}
+use Rattle.weak_rules.proofs.Numbers.{other-step, other-begin}
 use Rattle.weak_rules.proofs.Moves.{accepted-step}
 use Rattle.weak_rules.proofs.Kept.{same-graph, step-keeps, SameGraph}
 use Rattle.weak_rules.proofs.Begin.{begin-accepted}
 use Rattle.weak_rules.proofs.Begun.{laid-graph, laid-down}
 use Rattle.weak_rules.proofs.Limits.{within-engine}
+use Rattle.views.proofs.Numbers.{accepted-fits}
 use Rattle.weak_runs.specs.Calls.{Call, stepCall, weakCalls, weak, Event, memoryAfter, Run, memoryOf, eventsOf, KeptBy, viewOf}
-
--- what is accepted meets neither 2 nor 1
-pub accepted-fits : {A : Type 0} (said : Said) → Acceptance said → TwoOrOne said → A
-accepted-fits said a (inl e) = absurd (rw e at a)
-accepted-fits said a (inr e) = absurd (rw e at a)
 
 pub weak-laws : jobs.Laws weakCalls Lengths
 weak-laws =

@@ -1,34 +1,27 @@
 -- What follows for a weak run at any time: no copy is recorded, held or waits before the copies of its predecessor are recorded, copies of one task are
 -- in no order, no two workers hold copies of one task; and for a finished one: it records the same copies as any other of its graph, and accepts no
 -- further step. With N 0 begun is finished.
-use Prim.Native.Nat.{ℕ, _+_, _<_}
+use Prim.Native.Nat.{ℕ, _<_}
 use mathlib.Core.Path.{_≡_, sym, ap, _∙_}
-use mathlib.Core.Logic.{inl}
 use mathlib.Core.List.{List}
 use native.Mathlib.Omega.{arith}
 use native.Mathlib.Decide.{ℕ-discrete}
 use lib.ListN.{length, getD}
-use lib.IntN.{pos}
 use Rattle.lists.specs.Decided.{tally}
 use Rattle.lists.specs.Lists.{tabulate, occOf}
-use Rattle.lists.specs.Sums.{sumOf}
-use Rattle.lists.proofs.Decided.{stable, both?}
 use Rattle.lists.proofs.Sums.{sum-zero}
-use Rattle.task.specs.Refusals.{Said, answerSays, refused, recordFull}
-use Rattle.task.specs.Rows.{Acceptance}
-use Rattle.task.specs.declared.Limits.{Limits}
+use Rattle.task.specs.Refusals.{answerSays}
 use Rattle.task.specs.declared.Answer.{Answer}
 use Rattle.task.specs.declared.Answer.the-variants as answer
 use Rattle.task.specs.declared.Step.{Step}
 use Rattle.task.specs.declared.Step.the-variants.{Complete}
 use Rattle.weak_task.specs.Says.{stepSays}
-use Rattle.weak_task.specs.declared.WeakOutcome.{WeakOutcome}
 use Rattle.weak_task.specs.declared.WeakAnswer.{WeakAnswer}
 use Rattle.weak_task.specs.declared.WeakAnswer.the-variants.{Refused}
 use Rattle.graph.specs.Graph.{Graph, predsOf}
 use Rattle.graph.specs.Conditions.{EndsFit}
 use Rattle.graph.proofs.Reversed.{length-roots}
-use Rattle.choice.specs.Least.{load, Least}
+use Rattle.choice.specs.Least.{load}
 use Rattle.choice.proofs.Least.{least-same}
 use Rattle.exchange.specs.Exchange.{Unordered}
 use Rattle.system.proofs.Records.{word-recorded, recorded-word, earlier-word}
@@ -37,27 +30,22 @@ use Rattle.copies.specs.Copies.{Copy, sameCopy, copiesOf, Before}
 use Rattle.copies.proofs.Copies.{before-preds}
 use Rattle.copies.proofs.Runs.{weak-order}
 use Rattle.copies.proofs.Unordered.{copies-unordered}
-use Rattle.plans.specs.Sizes.{KeepsLimits}
-use Rattle.plans.proofs.Headers.{kept, not-beyond}
-use Rattle.weak_rules.specs.Memory.{Mem, tasks, edges, graphIn, weightIn, rowIn, held, entriesIn}
-use Rattle.weak_rules.specs.Updates.{Update}
+use Rattle.weak_rules.specs.Memory.{Mem, tasks, edges, graphIn, held}
 use Rattle.weak_rules.specs.Plans.{Result, resultOf}
 use Rattle.weak_rules.specs.Steps.{step}
 use Rattle.weak_rules.specs.Begin.{begin}
-use Rattle.plans.specs.Forms.{own}
-use Rattle.weak_rules.specs.Moves.{ReleasesFirst}
 use Rattle.weak_rules.proofs.Limits.{beyond-2}
 use Rattle.weak_rules.proofs.Moves.{accepted-step}
-use Rattle.weak_rules.proofs.Numbers.{TwoOrOne, other-step, other-begin}
+use Rattle.weak_rules.proofs.Numbers.{other-step, other-begin}
 use Rattle.runs.proofs.Waiting.{list-waits}
 use Rattle.weak_algorithm.specs.Reading.{stateOf}
 use Rattle.weak_algorithm.proofs.Readings.{queue-at}
-use Rattle.weak_runs.specs.Calls.{stepCall, beginCall, says, leaves, acceptedSteps, acceptedCompletes, Run, KeptBy, memoryOf, eventsOf, graphOf, rootsOf, viewOf}
-use Rattle.weak_runs.specs.Counters.{openOf}
+use Rattle.views.proofs.Numbers as numbers
+use Rattle.weak_runs.specs.Calls.{weakCalls, acceptedSteps, acceptedCompletes, Run, memoryOf, eventsOf, graphOf, rootsOf, viewOf}
+use Rattle.weak_runs.specs.Corollaries.{OneHolder, WaitingBehind, HeldBehind, NeverEarly, NoMore, OtherNumbers, BeyondLimits, AcceptedKept, HoldingOpen, NeverFull, Lightest}
 use Rattle.weak_runs.specs.Demand.{Finished, copyWords, orderOf, OneGraph}
-use Rattle.weak_runs.specs.Fairness.{queueIn}
 use Rattle.weak_runs.proofs.Invariant.{meaning, systemIn}
-use Rattle.weak_runs.proofs.Calls.{accepted-fits, graph-reached, tasks-reached, edges-reached}
+use Rattle.weak_runs.proofs.Calls.{graph-reached, tasks-reached, edges-reached}
 use Rattle.weak_runs.proofs.Events.{entries-word, roots-word}
 use Rattle.weak_runs.proofs.Honest.{honest-run}
 use Rattle.weak_runs.proofs.Live.{honest-laws, honest-invariant, in-hand, entry-free}
@@ -74,17 +62,12 @@ module _ (r : Run) where
   now = memoryOf r
 
   -- no two workers hold copies of one task: they are all its worker's
-  pub one-holder : (i j : ℕ) → i < r .workers → j < r .workers → ¬ (_≡_ {A = ℕ} (rowIn (memoryOf r) i .phase) 0)
-      → ¬ (_≡_ {A = ℕ} (rowIn (memoryOf r) j .phase) 0) → held (memoryOf r) i .task ≡ held (memoryOf r) j .task → i ≡ j
+  pub one-holder : OneHolder (viewOf r)
   one-holder i j hi hj bi bj e =
       omega (arith, fixed-workers r .inHand i hi bi, fixed-workers r .inHand j hj bj, ap (λ (t : ℕ). getD (now .fixed) t 0) e)
 
   abbrev done : List Copy
   done = systemIn (r .workers) (r .slots) now .stages .done
-
-  -- the copy is recorded
-  abbrev pub Recorded : Copy → Type 0
-  Recorded b = (y : ℕ) × (y < acceptedCompletes (eventsOf r)) × (copyWords (memoryOf r) y ≡ b)
 
   words : done ≡ tabulate (acceptedCompletes (eventsOf r)) (copyWords now)
   words = recorded-words r ∙ ap (λ (n : ℕ). tabulate n (copyWords now)) (entries-word r)
@@ -92,9 +75,8 @@ module _ (r : Run) where
   before-here : (b c : Copy) → Before (graphOf (viewOf r)) b c → 0 < occOf sameCopy b (copiesOf (graphIn now) .preds c)
   before-here b c e = before-preds (graphIn now) (run-sound r) (before-as (graph-reached r) e)
 
-  -- "A seam can be corrected with each finished neighbour alone": a copy waits, and a worker holds it, only behind all copies of its predecessor
-  pub waiting-behind : (i j : ℕ) (c b : Copy) → i < r .workers → j < r .workers → 0 < occOf sameCopy c (queueIn (r .workers) (r .slots) (memoryOf r) i j)
-      → Before (graphOf (viewOf r)) b c → Recorded b
+  -- a copy waits, and a worker holds it, only behind all copies of its predecessor
+  pub waiting-behind : WaitingBehind (viewOf r)
   unfolding meaning stateOf
   waiting-behind i j c b hi hj h e =
       recorded-word sameCopy _ (copyWords now) done words b
@@ -102,8 +84,7 @@ module _ (r : Run) where
       (honest-invariant (honest-run r)) i c b hi
       (list-waits (r .workers) (stateOf (r .workers) (r .slots) now .lists) i sameCopy c j hj (rw (queue-at (r .workers) (r .slots) now i j hi hj) h)) (before-here b c e))
 
-  pub held-behind : (i : ℕ) (b : Copy) → i < r .workers → ¬ (_≡_ {A = ℕ} (rowIn (memoryOf r) i .phase) 0) → Before (graphOf (viewOf r)) b (held (memoryOf r) i)
-      → Recorded b
+  pub held-behind : HeldBehind (viewOf r)
   unfolding meaning
   held-behind i b hi busy e =
       recorded-word sameCopy _ (copyWords now) done words b
@@ -115,8 +96,7 @@ pub same-copies : (r r′ : Run) → OneGraph (viewOf r) (viewOf r′) → Finis
 same-copies r r′ o f f′ c = finished-order r f .once c ∙ sym (order-agreed r r′ o (finished-order r′ f′) .once c)
 
 -- in an unfinished run too, the record has every copy behind all copies of its predecessor
-pub never-early : (r : Run) (x : ℕ) (b : Copy) → x < acceptedCompletes (eventsOf r) → Before (graphOf (viewOf r)) b (copyWords (memoryOf r) x)
-    → (y : ℕ) × (y < x) × (copyWords (memoryOf r) y ≡ b)
+pub never-early : (r : Run) → NeverEarly (viewOf r)
 never-early r x b h e =
     earlier-word sameCopy _ (copyWords (memoryOf r)) (done r) (words r) x b h
     (weak-order (graphIn (memoryOf r)) (run-sound r) (run-once r) (r .workers) (honest-run r .weak) b (copyWords (memoryOf r) x) (before-as (graph-reached r) e)
@@ -127,7 +107,7 @@ pub copies-pass : (r : Run) (b c : Copy) → b .task ≡ c .task → Unordered (
 copies-pass r b c e = rw (sym (graph-reached r)) (copies-unordered (graphIn (memoryOf r)) (run-sound r) (honest-run r .graph .graph) b c e)
 
 -- a finished run accepts no further step, whatever the limits, P, K and worker
-pub no-more : (r : Run) → Finished (viewOf r) → (limits : Limits) (p k i : ℕ) (s : Step) → ¬ (Acceptance (stepSays (step limits p k i s (memoryOf r) .answer)))
+pub no-more : (r : Run) → Finished (viewOf r) → NoMore (viewOf r)
 no-more r f limits p k i s a =
     omega (arith, accepted-step limits p k i s (memoryOf r) a .allowed .low, finished-count r f, edges-reached r, roots-word r)
 
@@ -150,18 +130,14 @@ nothing-finished r none = (finished, omega (arith, no-edges, no-roots, demand-3 
     finished = record { completes = omega (arith, no-edges, no-roots) }
 
 -- "A call with another P or K than begin's meets 2 or 1.", a step or a begin, at any time of the run and whatever its limits
-pub other-numbers : (r : Run) (limits : Limits) (p k : ℕ) → ¬ ((p ≡ r .workers) × (k ≡ r .slots))
-    → ((i : ℕ) (s : Step) → TwoOrOne (stepSays (step limits p k i s (memoryOf r) .answer)))
-    × TwoOrOne (answerSays (begin limits p k (memoryOf r) .answer))
+pub other-numbers : (r : Run) → OtherNumbers (viewOf r)
 other-numbers r limits p k n = (
   other-step limits (r .workers) (r .slots) p k (memoryOf r) (honest-run r .fits .lengths) n,
   other-begin limits (r .workers) (r .slots) p k (memoryOf r) (honest-run r .fits .lengths) n,
 )
 
 -- a call beyond its limits is refused with 2 and leaves all words, a step or a begin, at any time of the run
-pub beyond-limits : (r : Run) (limits : Limits) (p k : ℕ) → ¬ (KeepsLimits limits p k (tasks (r .lent)) (edges (r .lent)))
-    → ((i : ℕ) (s : Step) → (says (stepCall limits p k i s) (memoryOf r) ≡ refused 2 0) × (leaves (stepCall limits p k i s) (memoryOf r) ≡ memoryOf r))
-    × ((says (beginCall limits p k) (memoryOf r) ≡ refused 2 0) × (leaves (beginCall limits p k) (memoryOf r) ≡ memoryOf r))
+pub beyond-limits : (r : Run) → BeyondLimits (viewOf r)
 beyond-limits r limits p k n = (
   λ i s. (ap (λ (x : Result WeakAnswer). stepSays (x .answer)) (two .1 i s), ap (λ (x : Result WeakAnswer). x .memory) (two .1 i s)),
   (ap (λ (x : Result Answer). answerSays (x .answer)) (two .0), ap (λ (x : Result Answer). x .memory) (two .0)),
@@ -172,33 +148,17 @@ beyond-limits r limits p k n = (
     two = beyond-2 limits p k (memoryOf r) (λ w. n (rw (sym (tasks-reached r), sym (edges-reached r)) w))
 
 -- so the run keeps the limits of every step and begin that is accepted, whatever its P and K
-pub accepted-kept : (r : Run) (limits : Limits) (p k : ℕ)
-    → ((i : ℕ) (s : Step) → Acceptance (says (stepCall limits p k i s) (memoryOf r)) → KeptBy limits (viewOf r))
-    × (Acceptance (says (beginCall limits p k) (memoryOf r)) → KeptBy limits (viewOf r))
-accepted-kept r limits p k = (
-  λ i s a. keeps _ a (λ n. beyond-limits r limits p k n .0 i s .0) (λ n. other-numbers r limits p k n .0 i s),
-  λ a. keeps _ a (λ n. beyond-limits r limits p k n .1 .0) (λ n. other-numbers r limits p k n .1),
-)
-  where
-    keeps : (said : Said) → Acceptance said → (¬ (KeepsLimits limits p k (tasks (r .lent)) (edges (r .lent))) → said ≡ refused 2 0)
-        → (¬ ((p ≡ r .workers) × (k ≡ r .slots)) → TwoOrOne said) → KeepsLimits limits (r .workers) (r .slots) (tasks (r .lent)) (edges (r .lent))
-    keeps said a beyond other =
-        let (ep, ek) = stable (both? p k (r .workers) (r .slots)) (λ n. accepted-fits said a (other n)) in
-        rw (sym ep, sym ek, sym (tasks-reached r), sym (edges-reached r))
-        (kept limits p k (memoryOf r)
-        (λ b. accepted-fits said a (inl (beyond (λ w. not-beyond limits p k (memoryOf r) (rw (tasks-reached r, edges-reached r) w) b)))))
+pub accepted-kept : (r : Run) → AcceptedKept (viewOf r)
+accepted-kept r = numbers.accepted-kept weakCalls (viewOf r) (other-numbers r) (beyond-limits r)
 
 -- while a worker holds a copy, an entry is free for it
-pub holding-open : (r : Run) (i : ℕ) → i < r .workers → ¬ (_≡_ {A = ℕ} (rowIn (memoryOf r) i .phase) 0) → entriesIn (memoryOf r) < edges (r .lent) + rootsOf (viewOf r)
+pub holding-open : (r : Run) → HoldingOpen (viewOf r)
 holding-open r i worker busy = omega (arith, entry-free (honest-run r) i worker busy, edges-reached r, roots-word r)
 
 -- in memory begun and stepped by the engine Complete never meets 12, whatever the limits, P, K and worker
-pub never-full : (r : Run) (limits : Limits) (p k i d : ℕ) → ¬ (stepSays (step limits p k i Complete (memoryOf r) .answer) ≡ refused recordFull d)
+pub never-full : (r : Run) → NeverFull (viewOf r)
 never-full r limits p k i d = undamaged r .next limits p k i Complete .notFull d
 
--- "target j is the worker with the least sum of its P counters": in a run that is the least weight of the tasks fixed to it and not complete. Of
--- every Release that makes a task's first copy.
-pub lightest : (r : Run) (i : ℕ) (o : WeakOutcome) (us : List Update) (f : ReleasesFirst (own (r .workers) (memoryOf r)) (r .workers) (r .slots) i (memoryOf r) o us)
-    → Least (λ h. h < r .workers) (λ h. pos (sumOf (weightIn (r .lent)) (openOf (memoryOf r) h))) (f .target)
+pub lightest : (r : Run) → Lightest (viewOf r)
 unfolding load
 lightest r i o us f = least-same (λ h l. sym (counters-add-up r .words h l)) (f .least)
