@@ -18,11 +18,7 @@ abbrev pub taskIn : Said → ℕ → ℕ
 taskIn (refused n d) t = t
 taskIn (answered k vs) t = cond (eqb k 1) (getD vs 0 0) t
 
--- the task that the worker's last accepted Fetch answered
-abbrev pub lastFetched : ℕ → List Event → ℕ
-lastFetched = told.lastFetched taskIn (nil .0)
-
--- one entry for each accepted Complete, in their order: that task, and the worker
+-- one entry for each accepted Complete, in their order: the task that the worker's last accepted Fetch before it answered, and that worker
 abbrev pub entriesOf : List Event → List (Entry ℕ)
 entriesOf = told.entriesOf taskIn (nil .0)
 

@@ -1,3 +1,4 @@
 pub mod Recounts
 pub mod Finishing
 pub mod Numbers
+pub mod Examples

@@ -18,11 +18,7 @@ abbrev pub copyIn : Said → Copy → Copy
 copyIn (refused n d) c = c
 copyIn (answered k vs) c = cond (eqb k 6) (copy (getD vs 0 0) (getD vs 1 0)) c
 
--- the copy that the worker's last accepted Fetch answered
-abbrev pub lastFetched : ℕ → List Event → Copy
-lastFetched = told.lastFetched copyIn (copy (nil .0) (nil .0))
-
--- one entry for each accepted Complete, in their order: that copy, and the worker
+-- one entry for each accepted Complete, in their order: the copy that the worker's last accepted Fetch before it answered, and that worker
 abbrev pub entriesOf : List Event → List (Entry Copy)
 entriesOf = told.entriesOf copyIn (copy (nil .0) (nil .0))
 
