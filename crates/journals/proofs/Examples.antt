@@ -9,11 +9,11 @@ use lib.Dec.{eqb, ltb}
 use borrow.Author.Tests.{eq-eqb, ltb-true}
 use Rattle.lists.proofs.Apart.{unequal}
 use Rattle.task.specs.Refusals.{Said, refused, answered, accepted}
-use Rattle.machine.specs.Machine.{beginning, forward, back, aside, lookup, Event, acceptedSaid, acceptedOf, began, memoryAfter, recalled, eventsAfter}
+use Rattle.machine.specs.Machine.{beginning, forward, back, aside, lookup, Event, acceptedSaid, acceptedOf, began, memoryAfter, recalled, eventsAfter, begunIn}
 use Rattle.machine.specs.Standing.{callsOf, withoutLast, standing, stepsIn, backsIn}
 use Rattle.machine.proofs.Examples.{Store, storeOf, Call, clear, write, setMark, read, answer, kindOf, store}
 use Rattle.memory.specs.Updates.{storeWords, wordsFrom}
-use Rattle.journals.specs.Journal.{Journaled, journaledOf, WithBack, made, backCall, groupAt, Keeping, Accepts, fits, last, says, moves, leaves, journaled, TakesBack, Laws}
+use Rattle.journals.specs.Journal.{Journaled, journaledOf, WithBack, made, backCall, Keeping, Accepts, fits, says, moves, leaves, journaled, Laws}
 use Rattle.journals.specs.Net.{below, standsOf, Net, own}
 use Rattle.journals.proofs.Net.{net}
 
@@ -109,8 +109,9 @@ store-laws =
 
 -- so of any list of its calls, from its begun memory on
 pub store-net : (cs : List (WithBack Call ℕ)) (j : List ℕ) → length j ≡ 24
-    → Net store keeping (storeOf 0 0 0) (memoryAfter (journaled store keeping) cs (journaledOf (storeOf 0 0 0) j))
-    (eventsAfter (journaled store keeping) cs (journaledOf (storeOf 0 0 0) j) [])
+    → let x = journaledOf (storeOf 0 0 0) j in
+    Net store keeping (storeOf 0 0 0) (begunIn (journaled store keeping) cs x x .memory) (memoryAfter (journaled store keeping) cs x)
+    (eventsAfter (journaled store keeping) cs x [])
 store-net cs j e = net store keeping store-laws (storeOf 0 0 0) j e cs refl
 
 -- Lists of calls, from memory on that no begin left.

@@ -9,11 +9,11 @@ use borrow.Author.Tests.{eqb-true}
 use Rattle.lists.proofs.Apart.{unequal}
 use Rattle.task.specs.Refusals.{Said, refused, answered, accepted, beyondLimit}
 use Rattle.task.specs.declared.Limits.{Limits}
-use Rattle.machine.specs.Machine.{beginning, Machine, Event, acceptedSaid, memoryAfter, eventsAfter}
-use Rattle.machine.specs.Runs.{View, Run, begunOf, memoryOf, eventsOf, viewOf}
-use Rattle.journals.specs.Journal.{Journaled, journaledOf, WithBack, made, Keeping, Accepts, lentToo, fits, saysBy, says, journalBy, moves, leaves, journaled, Laws}
-use Rattle.journals.specs.Net.{standsOf, Net, LastStep}
-use Rattle.journals.specs.Runs.{beginKept, KeptRun, listsOf, standingView}
+use Rattle.machine.specs.Machine.{beginning, Machine, acceptedSaid, memoryAfter, eventsAfter, begunIn}
+use Rattle.machine.specs.Runs.{View, Run, begunOf, eventsOf, viewOf}
+use Rattle.journals.specs.Journal.{Journaled, journaledOf, made, Keeping, Accepts, lentToo, fits, says, moves, leaves, journaled, Laws}
+use Rattle.journals.specs.Net.{Net, LastStep}
+use Rattle.journals.specs.Runs.{beginKept, KeptRun, listsOf, lastBegun, standingView}
 use Rattle.journals.proofs.Net.{left-moved, net, last-step}
 
 -- what is accepted with a journal, is so without, and the journal has its length
@@ -63,8 +63,10 @@ module _ {M C B : Type 0} (on : Machine M C) (beginBy : Limits → (p k : ℕ) �
     none-begun : _≡_ {A = ℕ} (by .count begun) 0
     none-begun = laws .begun call (r .lent .memory) begin-accepts
 
-    pub run-net : Net on by begun (listsOf on beginBy by r) (eventsOf (journaled on by) (beginKept on beginBy by) r)
-    run-net = rw begun-is (net on by laws begun blank blank-long (r .calls) none-begun)
+    pub run-net : Net on by begun (lastBegun on beginBy by r) (listsOf on beginBy by r) (eventsOf (journaled on by) (beginKept on beginBy by) r)
+    run-net =
+        subst (λ (x : Journaled M). Net on by begun (begunIn (journaled on by) (r .calls) x x .memory) (memoryAfter (journaled on by) (r .calls) x)
+        (eventsAfter (journaled on by) (r .calls) x [])) (sym begun-is) (net on by laws begun blank blank-long (r .calls) none-begun)
 
     -- the last step of a run: the calls before it are a run too
     pub run-last : ¬ (_≡_ {A = ℕ} (by .count (listsOf on beginBy by r .memory)) 0) → LastStep on by begun (listsOf on beginBy by r)

@@ -3,11 +3,11 @@
 use Prim.Native.Nat.{ℕ, suc, _+_, _*_, _-_, _≤_}
 use mathlib.Core.Path.{_≡_}
 use mathlib.Core.Bool.{Bool, true, false, cond}
-use mathlib.Core.List.{List, [], _∷_}
+use mathlib.Core.List.{List}
 use lib.ListN.{length, replicate}
 use lib.Dec.{eqb}
 use Rattle.task.specs.Refusals.{Said, refused, answered, wrongLength, beyondLimit}
-use Rattle.machine.specs.Machine.{Kind, beginning, forward, back, aside, lookup, Machine, Event, acceptedSaid}
+use Rattle.machine.specs.Machine.{Kind, beginning, forward, back, aside, lookup, Machine, acceptedSaid}
 use Rattle.memory.specs.Updates.{storeWords, wordsFrom}
 
 -- the lent lists of a call: those without the journal, and the journal

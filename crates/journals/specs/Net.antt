@@ -1,6 +1,6 @@
 -- What stands of calls with steps back among them, as calls without: "runs are judged from then on by their final records and by accepted steps, Completes
 -- among them, less those taken back".
-use Prim.Native.Nat.{ℕ, _+_}
+use Prim.Native.Nat.{_+_}
 use mathlib.Core.Path.{_≡_}
 use mathlib.Core.Bool.{Bool, true, false, _&&_}
 use mathlib.Core.List.{List, [], _∷_, _++_}
@@ -8,7 +8,7 @@ use lib.ListN.{length}
 use lib.Dec.{ltb}
 use Rattle.task.specs.Refusals.{Said}
 use Rattle.machine.specs.Machine.{Kind, beginning, forward, back, aside, lookup, Machine, Event, acceptedSaid, eventOf, recalled, memoryAfter, eventsAfter}
-use Rattle.machine.specs.Standing.{standing, stepsIn, backsIn}
+use Rattle.machine.specs.Standing.{callsOf, standing, stepsIn, backsIn}
 use Rattle.journals.specs.Journal.{Journaled, journaledOf, WithBack, made, backCall, Keeping, says, leaves, kindOf, journaled, Accepts}
 
 -- the events below the journal: those of the calls without it
@@ -29,12 +29,14 @@ module _ {M C B : Type 0} (on : Machine M C) (by : Keeping M C B) where
   abbrev pub standsOf : List (Event (WithBack C B)) → List (Event C)
   standsOf past = below (standing (journaled on by) past)
 
-  -- After calls from b on the lists are x, and the events `past`. The calls that stand, begins among them, made on b without a journal, leave the same
-  -- memory and answer there what they answered.
-  pub record Net (b : M) (x : Journaled M) (past : List (Event (WithBack C B))) : Type 0 where
+  -- After calls from b on the lists are x, and the events `past`; the last accepted begin left `begun`. The calls that stand, begins among them, made on b
+  -- without a journal, leave the same memory and answer there what they answered.
+  pub record Net (b begun : M) (x : Journaled M) (past : List (Event (WithBack C B))) : Type 0 where
     pub calls : List C
     pub memory : x .memory ≡ memoryAfter on calls b
     pub events : standsOf past ≡ eventsAfter on calls b []
+    -- "down to the begun state": so do those since that begin, made on what it left
+    pub since : x .memory ≡ memoryAfter on (callsOf (standsOf past)) begun
     -- "accepted steps .. less those taken back"
     pub steps : stepsIn (journaled on by) past ≡ stepsIn on (standsOf past) + backsIn (journaled on by) past
     pub long : length (x .journal) ≡ by .size (x .memory)

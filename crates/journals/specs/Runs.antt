@@ -2,8 +2,8 @@
 -- records and by accepted steps, Completes among them, less those taken back."
 use Prim.Native.Nat.{ℕ}
 use Rattle.task.specs.declared.Limits.{Limits}
-use Rattle.machine.specs.Machine.{Machine}
-use Rattle.machine.specs.Runs.{View, Run, memoryOf, eventsOf}
+use Rattle.machine.specs.Machine.{Machine, begunIn}
+use Rattle.machine.specs.Runs.{View, Run, begunOf, memoryOf, eventsOf}
 use Rattle.journals.specs.Journal.{Journaled, WithBack, made, Keeping, journaled}
 use Rattle.journals.specs.Net.{standsOf}
 
@@ -17,6 +17,10 @@ module _ {M C B : Type 0} (on : Machine M C) (beginBy : Limits → (p k : ℕ) �
   -- the lists after its calls, the journal among them
   abbrev pub listsOf : KeptRun → Journaled M
   listsOf = memoryOf (journaled on by) beginKept
+
+  -- the lists outside the journal that its last accepted begin left
+  abbrev pub lastBegun : KeptRun → M
+  lastBegun r = begunIn (journaled on by) (r .calls) (begunOf (journaled on by) beginKept r) (begunOf (journaled on by) beginKept r) .memory
 
   -- what stands of it: the lists outside the journal, and the steps and calls aside less the steps taken back
   abbrev pub standingView : KeptRun → View M C
