@@ -7,7 +7,7 @@ use lib.ListN.{length, replicate, length-replicate}
 use lib.Dec.{eqb}
 use borrow.Author.Tests.{eqb-true}
 use Rattle.lists.proofs.Apart.{unequal}
-use Rattle.task.specs.Refusals.{Said, refused, answered, accepted, beyondLimit}
+use Rattle.task.specs.Refusals.{Said, refused, answered, accepted, wrongLength, beyondLimit}
 use Rattle.task.specs.declared.Limits.{Limits}
 use Rattle.machine.specs.Machine.{beginning, Machine, acceptedSaid, memoryAfter, eventsAfter, begunIn}
 use Rattle.machine.specs.Runs.{View, Run, begunOf, eventsOf, viewOf}
@@ -21,7 +21,7 @@ accepted-lent : (f : Bool) (said : Said) → lentToo f said ≡ accepted → (f 
 accepted-lent true said e = (refl, e)
 accepted-lent false (refused n d) e = go (eqb n beyondLimit) e
   where
-    go : (b : Bool) → cond b (refused n d) (refused 1 0) ≡ accepted → (false ≡ true) × (refused n d ≡ accepted)
+    go : (b : Bool) → cond b (refused n d) (refused wrongLength 0) ≡ accepted → (false ≡ true) × (refused n d ≡ accepted)
     go true e = unequal cc
     go false e = unequal cc
 accepted-lent false (answered k vs) e = unequal cc
