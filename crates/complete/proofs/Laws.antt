@@ -1,16 +1,15 @@
 -- The cases of Complete's plan, in the order of its rule; what its reads and writes ask; the step's result in each case.
 use Prim.Native.Nat.{ℕ, _+_, _-_, _*_, _≤_, _<_}
 use mathlib.Core.Path.{_≡_, refl, sym, ap, _∙_}
-use mathlib.Core.Bool.{Bool, true, false, cond, not, _&&_, _||_}
+use mathlib.Core.Bool.{Bool, true, false, cond, not, _&&_}
 use mathlib.Core.List.{List}
 use native.Mathlib.Omega.{arith}
 use lib.Dec.{ltb, leb, eqb}
 use lib.ListN.{length, getD, set}
 use lib.IntN.{ℤ, pos, _-ℤ_}
-use borrow.Author.Tests.{ltb-true, lt-ltb, le-ltb, le-leb, lt-leb, eq-eqb, ne-eqb, not-true, not-false}
-use Rattle.lists.proofs.Apart.{unequal}
+use borrow.Author.Tests.{lt-ltb, le-ltb, le-leb, lt-leb, eq-eqb, ne-eqb, not-true, not-false}
 use Rattle.lists.proofs.Places.{place-lt}
-use Rattle.lists.proofs.Told.{and-true, or-false, cond-either}
+use Rattle.lists.proofs.Told.{and-false}
 use Rattle.task.specs.Types.{nil, idle, engine}
 use Rattle.task.specs.Refusals.{recordFull}
 use Rattle.task.specs.declared.Limits.{Limits}
@@ -34,7 +33,7 @@ use Rattle.admission.specs.declared.Admitted.the-variants as admitted
 use Rattle.admission.proofs.Laws.{few-places}
 use Rattle.admission.proofs.Rows.{admission-entered, admission-refused, admission-enters, refused-result, rule-refused, rule-accepted}
 use Rattle.complete.specs.Complete.{lent, Completes, HandAndWrite}
-use Rattle.complete.specs.Planned.{planOf, Plans, Room, Decides, Recordable, Records}
+use Rattle.complete.specs.Planned.{planOf, Plans, Room, Decides, Recordable, Records, leftRow, Leavable, Joinable}
 use Rattle.complete.specs.declared.CompletePlan.{CompletePlan}
 use Rattle.complete.specs.declared.CompletePlan.the-variants.{Refused, Sink, Inner}
 
@@ -43,11 +42,6 @@ unplaced : (a b c : Bool) (rest : Plan) → a && c ≡ false → checked (a && b
 unplaced true true c rest e = rw e
 unplaced true false c rest e = refl
 unplaced false b c rest e = refl
-
--- one of two tests passed, and not the first
-other : (a b : Bool) → not (a || b) ≡ false → a ≡ false → b ≡ true
-other true b e q = unequal cc
-other false b e q = not-false b e
 
 module _ (e own : ℕ) (row : Row) (weights succStarts : List ℕ) (counters : List ℤ) (run : List ℕ) where
   abbrev n : ℕ
@@ -115,68 +109,105 @@ module _ (e own : ℕ) (row : Row) (weights succStarts : List ℕ) (counters : L
   pub plan-over : n < getD run 0 0 → Planned (Refused 8 0)
   plan-over h = planned (Refused 8 0) (λ p i m. simp (lt-leb _ _ h))
 
-  module _ (a : getD run 0 0 ≤ n) where
-    pub plan-full : getD run 0 0 ≡ n → Planned (Refused 12 0)
-    plan-full h = planned (Refused 12 0) (λ p i m. simp (le-leb _ _ a, eq-eqb _ _ h))
+  pub plan-full : getD run 0 0 ≡ n → Planned (Refused 12 0)
+  plan-full h = let a : getD run 0 0 ≤ n = omega arith in planned (Refused 12 0) (λ p i m. simp (le-leb _ _ a, eq-eqb _ _ h))
 
-    module _ (b : ¬ (getD run 0 0 ≡ n)) where
-      pub plan-held : n ≤ row .held .0 → Planned (Refused 8 0)
-      plan-held h = planned (Refused 8 0) (λ p i m. simp (le-leb _ _ a, ne-eqb _ _ b, le-ltb _ _ h))
+  module _ (a : getD run 0 0 < n) where
+    fits : getD run 0 0 ≤ n
+    fits = omega arith
 
-      module _ (c : row .held .0 < n) where
-        -- what the tests up to here leave of the rule
-        heldKnown : (plan : CompletePlan) → ((p i : ℕ) (m : Mem) → weighed (alone p i m) (joined p i m) ≡ planOf p i m plan) → Planned plan
-        heldKnown plan f = planned plan (λ p i m. rw (le-leb _ _ a, ne-eqb _ _ b, lt-ltb _ _ c) (f p i m))
+    unfilled : ¬ (getD run 0 0 ≡ n)
+    unfilled q = absurd (omega arith)
 
-        pub plan-heavy : 65535 < weight → Planned (Refused 8 0)
-        plan-heavy h = heldKnown (Refused 8 0) (λ p i m. rw (lt-leb weight 65535 h) refl)
+    pub plan-held : n ≤ row .held .0 → Planned (Refused 8 0)
+    plan-held h = planned (Refused 8 0) (λ p i m. simp (le-leb _ _ fits, ne-eqb _ _ unfilled, le-ltb _ _ h))
 
-        module _ (l : weight ≤ 65535) (fits : Bool) (hf : fits ≡ counterFits counter) where
-          pub plan-counter : not fits ≡ true → Planned (Refused 8 0)
-          plan-counter h = heldKnown (Refused 8 0) (λ p i m. rw (le-leb weight 65535 l, sym hf ∙ not-true fits h) refl)
+    module _ (c : row .held .0 < n) where
+      -- what the tests up to here leave of the rule
+      heldKnown : (plan : CompletePlan) → ((p i : ℕ) (m : Mem) → weighed (alone p i m) (joined p i m) ≡ planOf p i m plan) → Planned plan
+      heldKnown plan f = planned plan (λ p i m. rw (le-leb _ _ fits, ne-eqb _ _ unfilled, lt-ltb _ _ c) (f p i m))
 
-          module _ (x : not fits ≡ false) where
-            counter-fits : counterFits counter ≡ true
-            counter-fits = sym hf ∙ not-false fits x
+      pub plan-heavy : 65535 < weight → Planned (Refused 8 0)
+      plan-heavy h = heldKnown (Refused 8 0) (λ p i m. rw (lt-leb weight 65535 h) refl)
 
-            pub plan-range : not ranged ≡ true → Planned (Refused 8 0)
-            plan-range h = heldKnown (Refused 8 0) (λ p i m. rw (le-leb weight 65535 l, counter-fits, not-true ranged h) refl)
+      module _ (l : weight ≤ 65535) (counts : Bool) (hf : counts ≡ counterFits counter) where
+        pub plan-counter : not counts ≡ true → Planned (Refused 8 0)
+        plan-counter h = heldKnown (Refused 8 0) (λ p i m. rw (le-leb weight 65535 l, sym hf ∙ not-true counts h) refl)
 
-            module _ (d : not ranged ≡ false) where
-              later : (plan : CompletePlan) → ((p i : ℕ) (m : Mem) → cond sink (steady (alone p i m)) (joins (joined p i m)) ≡ planOf p i m plan)
-                  → Planned plan
-              later plan f = heldKnown plan (λ p i m. rw (le-leb weight 65535 l, counter-fits, not-false ranged d) (f p i m))
+        module _ (x : not counts ≡ false) where
+          counter-fits : counterFits counter ≡ true
+          counter-fits = sym hf ∙ not-false counts x
 
-              pub plan-places : not (sink || placed) ≡ true → Planned (Refused 8 0)
-              plan-places h =
-                  let (s, j) = or-false sink placed (not-true (sink || placed) h) in
-                  later (Refused 8 0) (λ p i m. rw s (unplaced (leb (row .read) (row .write)) (leb (row .write) n) (ltb (row .write) n) _ j))
+          unranged : ranged ≡ false → Planned (Refused 8 0)
+          unranged h = heldKnown (Refused 8 0) (λ p i m. rw (le-leb weight 65535 l, counter-fits, h) refl)
 
-              module _ (f : not (sink || placed) ≡ false) where
+          pub plan-past : e < past → Planned (Refused 8 0)
+          plan-past h = unranged (and-false (leb first past) (leb past e) (λ q. lt-leb past e h))
+
+          pub plan-first : past < first → Planned (Refused 8 0)
+          plan-first h = unranged (rw (lt-leb first past h) refl)
+
+          module _ (d : past ≤ e) where
+            later : (plan : CompletePlan) → first ≤ past
+                → ((p i : ℕ) (m : Mem) → cond sink (steady (alone p i m)) (joins (joined p i m)) ≡ planOf p i m plan)
+                → Planned plan
+            later plan o f = heldKnown plan (λ p i m. rw (le-leb weight 65535 l, counter-fits, le-leb first past o, le-leb past e d) (f p i m))
+
+            room : getD run 1 0 < 3 * n + e → Room e own (row .held .0) weights counters run (getD run 0 0) (getD run 1 0) weight
+            room g = record {
+              entriesWord = refl;
+              acceptedWord = refl;
+              weighs = refl;
+              entry = a;
+              step = g;
+              light = l;
+              counter = counter-fits;
+            }
+
+            -- no successors
+            module _ (s : past ≤ first) (o : first ≤ past) where
+              sinks : sink ≡ true
+              sinks = eq-eqb (past - first) 0 (omega arith)
+
+              pub plan-alone : 3 * n + e ≤ getD run 1 0 → Planned (Refused 8 0)
+              plan-alone h = later (Refused 8 0) o (λ p i m. simp (sinks, le-ltb _ _ h))
+
+              pub plan-sink : getD run 1 0 < 3 * n + e → Decides e own row weights succStarts counters run (Sink (getD run 0 0) (getD run 1 0) weight)
+              plan-sink g = (later (Sink (getD run 0 0) (getD run 1 0) weight) o (λ p i m. simp (sinks, lt-ltb _ _ g)), room g)
+
+            -- some
+            module _ (s : first < past) where
+              ordered : first ≤ past
+              ordered = omega arith
+
+              inner : sink ≡ false
+              inner = ne-eqb (past - first) 0 (λ q. absurd (omega arith))
+
+              unplaces : placed ≡ false → Planned (Refused 8 0)
+              unplaces j =
+                  later (Refused 8 0) ordered
+                  (λ p i m. rw inner (unplaced (leb (row .read) (row .write)) (leb (row .write) n) (ltb (row .write) n) _ j))
+
+              pub plan-write : n ≤ row .write → Planned (Refused 8 0)
+              plan-write h = unplaces (and-false (leb (row .read) (row .write)) (ltb (row .write) n) (λ q. le-ltb (row .write) n h))
+
+              pub plan-places : row .write < row .read → Planned (Refused 8 0)
+              plan-places h = unplaces (rw (lt-leb (row .read) (row .write) h) refl)
+
+              module _ (w : row .write < n) (r : row .read ≤ row .write) where
+                within : row .write ≤ n
+                within = omega arith
+
                 pub plan-counted : 3 * n + e ≤ getD run 1 0 → Planned (Refused 8 0)
-                plan-counted h = later (Refused 8 0) (λ p i m. simp (le-ltb _ _ h, cond-either))
+                plan-counted h = later (Refused 8 0) ordered (λ p i m. simp (inner, le-leb _ _ r, le-leb _ _ within, lt-ltb _ _ w, le-ltb _ _ h))
 
-                module _ (g : getD run 1 0 < 3 * n + e) where
-                  room : Room e own (row .held .0) weights counters run (getD run 0 0) (getD run 1 0) weight
-                  room = record {
-                    entriesWord = refl;
-                    acceptedWord = refl;
-                    weighs = refl;
-                    entry = omega arith;
-                    step = g;
-                    light = l;
-                    counter = counter-fits;
-                  }
-
-                  pub plan-sink : sink ≡ true → Decides e own row weights succStarts counters run (Sink (getD run 0 0) (getD run 1 0) weight)
-                  plan-sink s = (later (Sink (getD run 0 0) (getD run 1 0) weight) (λ p i m. simp (s, lt-ltb _ _ g)), room)
-
-                  pub plan-inner : sink ≡ false → Decides e own row weights succStarts counters run (Inner (getD run 0 0) (getD run 1 0) weight)
-                  plan-inner s =
-                      let (r, w) = and-true (leb (row .read) (row .write)) (ltb (row .write) n) (other sink placed f s) in
-                      let x : row .write < n = ltb-true (row .write) n w in
-                      let y : row .write ≤ n = omega arith in
-                      (later (Inner (getD run 0 0) (getD run 1 0) weight) (λ p i m. simp (s, r, le-leb _ _ y, w, lt-ltb _ _ g)), (room, x))
+                pub plan-inner : getD run 1 0 < 3 * n + e
+                    → Decides e own row weights succStarts counters run (Inner (getD run 0 0) (getD run 1 0) weight)
+                plan-inner g = (
+                  later (Inner (getD run 0 0) (getD run 1 0) weight) ordered
+                      (λ p i m. simp (inner, le-leb _ _ r, le-leb _ _ within, lt-ltb _ _ w, lt-ltb _ _ g)),
+                  (room g, w),
+                )
 
 -- What an admitted step's lengths let the plan read and its writes store.
 module _ (p k i : ℕ) (sizes : Sizes) (f : Measured p k i sizes) where
@@ -194,20 +225,18 @@ module _ (p k i : ℕ) (sizes : Sizes) (f : Measured p k i sizes) where
       ),
     )
 
-    pub buffer-asks : (places write : ℕ) → places ≡ sizes .buffers → write < n → (i * n + write < places) × (places ≤ engine .workers * engine .tasks)
+    pub buffer-asks : (places write : ℕ) → places ≡ sizes .buffers → write < n → Joinable n i write places
     buffer-asks places write b h =
         let few = few-places p k (sizes .weights) (f .fewWorkers, (f .fewSlots, f .fewTasks)) in
-        let lies = place-lt (sizes .weights) p i write (f .worker) (rw (← hn) h) in
-        rw hn (omega (arith, f .lengths .list list.buffers), omega (arith, f .lengths .list list.buffers))
-
-    pub place-asks : (write : ℕ) → write < n → write < engine .tasks
-    place-asks write h = omega (arith, f .fewTasks)
+        let lies = place-lt (sizes .weights) p i write (f .worker) (rw (← hn) h) in (
+          rw hn (omega (arith, f .lengths .list list.buffers)),
+          (omega (arith, f .lengths .list list.buffers), omega (arith, f .fewTasks, h)),
+        )
 
   -- by the words as read
   module _ (own task : ℕ) (weights : List ℕ) (counters : List ℤ) (run : List ℕ) (entries accepted weight : ℕ)
       (room : Room (sizes .preds) own task weights counters run entries accepted weight) where
-    pub counter-asks : own < p * p → length counters ≡ sizes .counters
-        → (own < length counters) × ((counterFits (getD counters own (pos 0)) ≡ true) × (weight ≤ 65535))
+    pub counter-asks : own < p * p → length counters ≡ sizes .counters → Leavable own weight counters
     counter-asks o c = (omega (arith, f .lengths .list list.counters), (room .counter, room .light))
 
     pub record-asks : length weights ≡ sizes .weights → (places words : ℕ) → places ≡ sizes .executed → words ≡ sizes .run
@@ -232,7 +261,7 @@ module _ (e own : ℕ) (row : Row) (weights succStarts : List ℕ) (counters : L
 
 -- an accepted Complete leaves the row's other words
 pub hand-and-write : (row : Row) (judged : Judged) (r : Admitted) → Admits row Complete judged r → (after : Row) → r ≡ admitted.To after → (write : ℕ)
-    → (a : Stepped) → a ≡ stepped.Taken Moved (withHand (after .phase) nil (withPlaces (after .read) write (after .cursor) after)) → HandAndWrite row a
+    → (a : Stepped) → a ≡ stepped.Taken Moved (leftRow write after) → HandAndWrite row a
 hand-and-write row judged r told after v write a o = rw (o, admission-entered row Complete judged r told after v .1) refl
 
 -- The step by value: its admission and its plan, then the result.
@@ -242,11 +271,11 @@ module _ (p k i : ℕ) (sizes : Sizes) (row : Row) (weights succStarts : List �
   before m = lent m weights succStarts counters buffers executed run (m .rows)
 
   -- what it leaves of the lists that it writes
-  abbrev Leaves : List ℤ → List ℕ → List ℕ → List ℕ → Stepped → Type 0
-  Leaves counters' buffers' executed' run' a =
+  abbrev Left : List ℤ → List ℕ → List ℕ → List ℕ → Stepped → Type 0
+  Left counters' buffers' executed' run' a =
       Completes p k i sizes judged row weights succStarts counters counters' buffers buffers' executed executed' run run' a
 
-  pub row-refused : (n d : ℕ) → r ≡ admitted.Refused n d → Leaves counters buffers executed run (stepped.Refused n d)
+  pub row-refused : (n d : ℕ) → r ≡ admitted.Refused n d → Left counters buffers executed run (stepped.Refused n d)
   unfolding Completes
   row-refused n d v limits m j e h =
       refused-result limits p k i Complete (before m) n d
@@ -261,19 +290,15 @@ module _ (p k i : ℕ) (sizes : Sizes) (row : Row) (weights succStarts : List �
       follows : (q : CompletePlan) → plan ≡ q → completeRule p i (before m) ≡ planOf p i (before m) q
       follows q w = rw (← w) (decided .0 p i (before m) (ap (λ (x : Sizes). x .preds) e) ho (enters .leads) refl refl refl refl)
 
-    pub rule-refuses : (n d : ℕ) → plan ≡ Refused n d → Leaves counters buffers executed run (stepped.Refused n d)
+    pub rule-refuses : (n d : ℕ) → plan ≡ Refused n d → Left counters buffers executed run (stepped.Refused n d)
     unfolding Completes ruleOf
     rule-refuses n d w limits m j e h =
         rule-refused limits p k i Complete (before m) after (enters limits m j e h) n d (follows limits m j e h (Refused n d) w)
 
-    -- the row of an accepted Complete
-    abbrev left : ℕ → Row
-    left write = withHand (after .phase) nil (withPlaces (after .read) write (after .cursor) after)
-
     module _ (entries accepted weight : ℕ) (room : Room (sizes .preds) own (after .held .0) weights counters run entries accepted weight)
         (counters' : List ℤ) (lowered : counters' ≡ set counters own (getD counters own (pos 0) -ℤ pos weight)) (executed' run' : List ℕ)
         (records : Records entries accepted (after .held .0) i executed executed' run run') (a : Stepped) where
-      pub sink-made : plan ≡ Sink entries accepted weight → a ≡ stepped.Taken Moved (left (after .write)) → Leaves counters' buffers executed' run' a
+      pub sink-made : plan ≡ Sink entries accepted weight → a ≡ stepped.Taken Moved (leftRow (after .write) after) → Left counters' buffers executed' run' a
       unfolding Completes ruleOf written updated storeWords
       sink-made w o limits m j e h =
           rw (o, lowered, records .0, records .1, room .entriesWord, room .acceptedWord, room .weighs, ho, enters limits m j e h .leads)
@@ -281,8 +306,8 @@ module _ (p k i : ℕ) (sizes : Sizes) (row : Row) (weights succStarts : List �
 
       pub inner-made : plan ≡ Inner entries accepted weight
           → (buffers' : List ℕ) → buffers' ≡ set buffers (i * length weights + after .write) (after .held .0)
-          → a ≡ stepped.Taken Moved (left (after .write + 1))
-          → Leaves counters' buffers' executed' run' a
+          → a ≡ stepped.Taken Moved (leftRow (after .write + 1) after)
+          → Left counters' buffers' executed' run' a
       unfolding Completes ruleOf written updated storeWords
       inner-made w buffers' hb o limits m j e h =
           rw (

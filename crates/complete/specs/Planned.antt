@@ -4,17 +4,19 @@ use mathlib.Core.Path.{_≡_}
 use mathlib.Core.Bool.{true}
 use mathlib.Core.List.{List, _∷_}
 use lib.ListN.{length, getD, set}
-use lib.IntN.{ℤ, pos}
-use Rattle.task.specs.Types.{engine}
+use lib.IntN.{ℤ, pos, _-ℤ_}
+use Rattle.task.specs.Types.{nil, engine}
 use Rattle.task.specs.declared.Row.{Row}
 use Rattle.task.specs.declared.Step.the-variants.{Complete}
 use Rattle.task.specs.declared.StepOutcome.the-variants.{Moved}
-use Rattle.rules.specs.Memory.{Mem, edges, ringNumber, bufferAt, rowIn, held}
+use Rattle.rules.specs.Memory.{Mem, edges, ringNumber, bufferAt, rowIn, held, withHand, withPlaces}
 use Rattle.rules.specs.Words.{counterFits}
 use Rattle.rules.specs.Updates.{putBuffer, putPlaces}
 use Rattle.rules.specs.Plans.{Plan, refuse, accept, withCount}
 use Rattle.rules.specs.Steps.{letGo, leave, recordEntry, completeRule}
 use Rattle.admission.specs.Admission.{entered}
+use Rattle.admission.specs.declared.Stepped.{Stepped}
+use Rattle.admission.specs.declared.Stepped.the-variants.{Taken}
 use Rattle.complete.specs.declared.CompletePlan.{CompletePlan}
 use Rattle.complete.specs.declared.CompletePlan.the-variants.{Refused, Sink, Inner}
 
@@ -69,3 +71,21 @@ Recordable places words entries accepted =
 abbrev pub Records : ℕ → ℕ → ℕ → ℕ → List ℕ → List ℕ → List ℕ → List ℕ → Type 0
 Records entries accepted task worker executed executed' run run' =
     (executed' ≡ set (set executed (2 * entries) task) (2 * entries + 1) worker) × (run' ≡ set (set run 1 (accepted + 1)) 0 (entries + 1))
+
+-- the row of an accepted Complete: "held becomes NIL", and the write place is as given
+abbrev pub leftRow : ℕ → Row → Row
+leftRow write row = withHand (row .phase) nil (withPlaces (row .read) write (row .cursor) row)
+
+-- what lets the weight leave the counter with this number
+abbrev pub Leavable : ℕ → ℕ → List ℤ → Type 0
+Leavable own weight counters = (own < length counters) × ((counterFits (getD counters own (pos 0)) ≡ true) × (weight ≤ 65535))
+
+-- what lets the task join worker i's part of the buffers, each of n places, at the write place
+abbrev pub Joinable : ℕ → ℕ → ℕ → ℕ → Type 0
+Joinable n i write places = (i * n + write < places) × ((places ≤ engine .workers * engine .tasks) × (write < engine .tasks))
+
+-- the held task's weight has left the counter, it stands in the record, and the row has this write place
+abbrev pub Leaves : (own i entries accepted weight : ℕ) → Row → ℕ → List ℤ → List ℤ → (executed executed' run run' : List ℕ) → Stepped → Type 0
+Leaves own i entries accepted weight row write counters counters' executed executed' run run' r =
+    (counters' ≡ set counters own (getD counters own (pos 0) -ℤ pos weight))
+    × (Records entries accepted (row .held .0) i executed executed' run run' × (r ≡ Taken Moved (leftRow write row)))

@@ -2,13 +2,12 @@
 ghost use mathlib.Core.Path.{_≡_};
 ghost use Prim.Native.Nat.{_+_, _*_, _≤_, _<_};
 ghost use lib.ListN.{length, set};
-ghost use Rattle.task.specs.Types.{nil, engine};
+ghost use Rattle.task.specs.Types.{engine};
 ghost use Rattle.task.specs.declared.StepOutcome.{StepOutcome};
-ghost use Rattle.rules.specs.Memory.{withHand, withPlaces};
 ghost use Rattle.admission.specs.Admission.{Knows};
 ghost use Rattle.admission.specs.declared.Stepped.{Stepped};
 ghost use Rattle.complete.specs.Complete.{Completes, HandAndWrite};
-ghost use Rattle.complete.specs.Planned.{Decides, Recordable, Records};
+ghost use Rattle.complete.specs.Planned.{Decides, Recordable, Records, leftRow, Leavable, Joinable, Leaves};
 use admission::Admitted;
 use admission::Judged;
 use admission::Sizes;
@@ -22,7 +21,7 @@ use task::refusal;
 
 // What Complete is to do: refused, or the held task joins the record, and the buffer where it is no sink; with the run words and the task's
 // weight as read.
-enum CompletePlan {
+pub enum CompletePlan {
     Refused(u32, u32),
     Sink(u32, u32, u32),
     Inner(u32, u32, u32),
@@ -30,7 +29,7 @@ enum CompletePlan {
 
 // Everything is read and checked: the entries word, the held task, its weight, the worker's own counter, the successor range, for a task with
 // successors the buffer's places, the accepted word.
-fn plan_complete(
+pub fn plan_complete(
     weights: &[u32],
     succ_starts: &[u32],
     counters: &[i32],
@@ -47,11 +46,11 @@ fn plan_complete(
 {
     let n = weights.len();
     let entries = run[0];
-    if n < entries as usize {
+    if n <= entries as usize {
+        if entries as usize == n {
+            return CompletePlan::Refused(refusal::RECORD_FULL, 0);
+        }
         return CompletePlan::Refused(refusal::DAMAGED, 0);
-    }
-    if entries as usize == n {
-        return CompletePlan::Refused(refusal::RECORD_FULL, 0);
     }
     let held = row.held.0 as usize;
     if n <= held {
@@ -64,22 +63,30 @@ fn plan_complete(
     if !counters::counter_fits(counters, own) {
         return CompletePlan::Refused(refusal::DAMAGED, 0);
     }
-    let first = succ_starts[held];
     let past = succ_starts[held + 1];
-    if !((first <= past) & (past as usize <= e)) {
+    if e < past as usize {
         return CompletePlan::Refused(refusal::DAMAGED, 0);
     }
-    let sink = past - first == 0;
-    let joins = (row.read <= row.write) & ((row.write as usize) < n);
-    if !(sink | joins) {
+    let first = succ_starts[held];
+    if past <= first {
+        if past < first {
+            return CompletePlan::Refused(refusal::DAMAGED, 0);
+        }
+        let accepted = run[1];
+        if 3 * n + e <= accepted as usize {
+            return CompletePlan::Refused(refusal::DAMAGED, 0);
+        }
+        return CompletePlan::Sink(entries, accepted, weight);
+    }
+    if n <= row.write as usize {
+        return CompletePlan::Refused(refusal::DAMAGED, 0);
+    }
+    if row.write < row.read {
         return CompletePlan::Refused(refusal::DAMAGED, 0);
     }
     let accepted = run[1];
     if 3 * n + e <= accepted as usize {
         return CompletePlan::Refused(refusal::DAMAGED, 0);
-    }
-    if sink {
-        return CompletePlan::Sink(entries, accepted, weight);
     }
     CompletePlan::Inner(entries, accepted, weight)
 }
@@ -114,7 +121,7 @@ fn join_buffer(buffers: &mut [u32], n: usize, worker: WorkerId, write: u32, task
 
 // An accepted Complete: "held becomes NIL", and the write place is as given.
 fn let_go(row: Row, write: u32) -> Stepped
-    ensures { λ r. ⌜ r ≡ Stepped.Taken StepOutcome.Moved (withHand (row .phase) nil (withPlaces (row .read) write (row .cursor) row)) ⌝ }
+    ensures { λ r. ⌜ r ≡ Stepped.Taken StepOutcome.Moved (leftRow write row) ⌝ }
 {
     let pointer = row.pointer;
     Stepped::Taken(
@@ -128,6 +135,61 @@ fn let_go(row: Row, write: u32) -> Stepped
             cursor: row.cursor,
         },
     )
+}
+
+// The writes where the task has no successors: its weight leaves the worker's own counter, and it joins the record.
+pub fn write_sink(
+    counters: &mut [i32],
+    executed: &mut [u32],
+    run: &mut [u32],
+    own: usize,
+    worker: WorkerId,
+    entries: u32,
+    accepted: u32,
+    weight: u32,
+    row: Row,
+) -> Stepped
+    requires { ⌜ Leavable own weight (now counters) × Recordable (length (now executed)) (length (now run)) entries accepted ⌝ }
+    ensures { λ r. ⌜
+        Leaves own (worker .0) entries accepted weight row (row .write) (now (counters .entry)) (now (counters .exit))
+        (now (executed .entry)) (now (executed .exit)) (now (run .entry)) (now (run .exit)) r
+        ⌝ }
+{
+    let held = row.held;
+    counters::lower(counters, own, weight);
+    join_record(executed, run, entries, accepted, held, worker);
+    let_go(row, row.write)
+}
+
+// The same where it has: it joins the worker's completed buffer too, among n places.
+pub fn write_inner(
+    counters: &mut [i32],
+    buffers: &mut [u32],
+    executed: &mut [u32],
+    run: &mut [u32],
+    n: usize,
+    own: usize,
+    worker: WorkerId,
+    entries: u32,
+    accepted: u32,
+    weight: u32,
+    row: Row,
+) -> Stepped
+    requires { ⌜
+        Leavable own weight (now counters) × (Recordable (length (now executed)) (length (now run)) entries accepted
+        × Joinable n (worker .0) (row .write) (length (now buffers)))
+        ⌝ }
+    ensures { λ r. ⌜
+        Leaves own (worker .0) entries accepted weight row (row .write + 1) (now (counters .entry)) (now (counters .exit))
+        (now (executed .entry)) (now (executed .exit)) (now (run .entry)) (now (run .exit)) r
+        ⌝ }
+    ensures { λ r. ⌜ now (buffers .exit) ≡ set (now (buffers .entry)) (worker .0 * n + row .write) (row .held .0) ⌝ }
+{
+    let held = row.held;
+    counters::lower(counters, own, weight);
+    join_record(executed, run, entries, accepted, held, worker);
+    join_buffer(buffers, n, worker, row.write, held);
+    let_go(row, row.write + 1)
 }
 
 // Complete by a worker with this row, after what was judged; `sizes` are the lengths of all lent lists.
@@ -165,19 +227,33 @@ pub fn complete_row(
     };
     let own = searches::ring_number(p, worker, worker);
     let plan = plan_complete(weights, succ_starts, counters, run, sizes.preds, own, after);
-    let held = after.held;
     match plan {
         CompletePlan::Refused(number, detail) => Stepped::Refused(number, detail),
         CompletePlan::Sink(entries, accepted, weight) => {
-            counters::lower(counters, own, weight);
-            join_record(executed, run, entries, accepted, held, worker);
-            let_go(after, after.write)
+            write_sink(
+                counters,
+                executed,
+                run,
+                own,
+                worker,
+                entries,
+                accepted,
+                weight,
+                after,
+            )
         }
-        CompletePlan::Inner(entries, accepted, weight) => {
-            counters::lower(counters, own, weight);
-            join_record(executed, run, entries, accepted, held, worker);
-            join_buffer(buffers, weights.len(), worker, after.write, held);
-            let_go(after, after.write + 1)
-        }
+        CompletePlan::Inner(entries, accepted, weight) => write_inner(
+            counters,
+            buffers,
+            executed,
+            run,
+            weights.len(),
+            own,
+            worker,
+            entries,
+            accepted,
+            weight,
+            after,
+        ),
     }
 }

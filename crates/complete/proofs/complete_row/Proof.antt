@@ -1,6 +1,6 @@
-use Rattle.complete.proofs.Laws.{own-asks, plan-asks, counter-asks, record-asks, buffer-asks, place-asks, sink-writable, inner-writable, row-refused, hand-and-write, rule-refuses, sink-made, inner-made}
-use Rattle.admission.proofs.Rows.{admission-measured}
+use Rattle.complete.proofs.Laws.{own-asks, plan-asks, counter-asks, record-asks, buffer-asks, sink-writable, inner-writable, row-refused, hand-and-write, rule-refuses, sink-made, inner-made}
 use native.Mathlib.Omega.{arith}
+use Rattle.admission.proofs.Rows.{admission-measured}
 use borrow.Author.Needs.{needs}
 use Rattle.complete.proofs.complete_row.Statement.{statement}
 use Rattle.complete.proofs.complete_row.Tie as tie
@@ -12,31 +12,16 @@ enum-known-admitted : tie.Need-enum-known-admitted
 enum-known-admitted c = search needs
 
 returns : tie.Need-returns
-returns c = (
-  row-refused _ _ _ _ _ _ _ _ _ _ _ (c .before .before .before .before .before .before .before .before .before .args .judged)
-      _ (c .before .before .before .admit .ensures) _ _ (c .before .admitted .given .1),
-  tt,
-)
+returns c = (row-refused _ _ _ _ _ _ _ _ _ _ _ (c .before .before .before .before .before .before .before .before .before .args .judged) _ (c .before .before .before .admit .ensures) _ _ (c .before .admitted .given .1), tt)
 
 enum-known-admitted-2 : tie.Need-enum-known-admitted-2
 enum-known-admitted-2 c = search needs
 
 ring-number-requires : tie.Need-ring-number-requires
-ring-number-requires c κs =
-    omega (
-      arith,
-      own-asks _ _ _ _ (admission-measured _ _ _ _ _ _ (c .before .before .before .before .before .before .before .before .before .args .judged)
-          (c .before .before .before .before .before .before .before .before .before .pre .0) _ (c .before .before .before .admit .ensures) _ (c .before .admitted2 .given .1)),
-    )
+ring-number-requires c κs = omega (arith, own-asks _ _ _ _ (admission-measured _ _ _ _ _ _ (c .before .before .before .before .before .before .before .before .before .args .judged) (c .before .before .before .before .before .before .before .before .before .pre .0) _ (c .before .before .before .admit .ensures) _ (c .before .admitted2 .given .1)))
 
 plan-complete-requires : tie.Need-plan-complete-requires
-plan-complete-requires c κs =
-    plan-asks _ _ _ _ (admission-measured _ _ _ _ _ _ (c .before .before .before .before .before .before .before .before .before .before .before .before .args .judged)
-    (c .before .before .before .before .before .before .before .before .before .before .before .before .pre .0) _ (c .before .before .before .before .before .before .admit .ensures) _ (c .before .before .before .before .admitted2 .given .1))
-    _ (c .before .before .before .before .before .before .before .before .before .before .before .before .pre .1 .0) _ _ _ _ (c .before .before .ring-number .ensures .1)
-    (c .before .before .before .before .before .before .before .before .before .before .before .before .pre .1 .1 .0)
-    (c .before .before .before .before .before .before .before .before .before .before .before .before .pre .1 .1 .1 .0)
-    (c .before .before .before .before .before .before .before .before .before .before .before .before .pre .1 .1 .1 .1 .1 .1)
+plan-complete-requires c κs = plan-asks _ _ _ _ (admission-measured _ _ _ _ _ _ (c .before .before .before .before .before .before .before .before .before .before .before .before .args .judged) (c .before .before .before .before .before .before .before .before .before .before .before .before .pre .0) _ (c .before .before .before .before .before .before .admit .ensures) _ (c .before .before .before .before .admitted2 .given .1)) _ (c .before .before .before .before .before .before .before .before .before .before .before .before .pre .1 .0) _ _ _ _ (c .before .before .ring-number .ensures .1) (c .before .before .before .before .before .before .before .before .before .before .before .before .pre .1 .1 .0) (c .before .before .before .before .before .before .before .before .before .before .before .before .pre .1 .1 .1 .0) (c .before .before .before .before .before .before .before .before .before .before .before .before .pre .1 .1 .1 .1 .1 .1)
 
 enum-known-plan : tie.Need-enum-known-plan
 enum-known-plan c = search needs
@@ -44,69 +29,14 @@ enum-known-plan c = search needs
 enum-known-plan-2 : tie.Need-enum-known-plan-2
 enum-known-plan-2 c = search needs
 
-lower-requires : tie.Need-lower-requires
-lower-requires c κs =
-    counter-asks _ _ _ _ (admission-measured _ _ _ _ _ _ (c .before .before .before .before .before .before .before .before .before .before .before .before .before .before .before .before .before .before .args .judged)
-    (c .before .before .before .before .before .before .before .before .before .before .before .before .before .before .before .before .before .before .pre .0) _ (c .before .before .before .before .before .before .before .before .before .before .before .before .admit .ensures) _ (c .before .before .before .before .before .before .before .before .before .before .admitted2 .given .1))
-    _ _ _ _ _ _ _ _ (sink-writable _ _ _ _ _ _ _ _ (c .before .before .before .before .before .plan-complete .ensures) _ _ _
-    (c .before .before .plan2 .given .1)) (c .before .before .before .before .before .before .before .before .ring-number .ensures .1)
-    (c .before .before .before .before .before .before .before .before .before .before .before .before .before .before .before .before .before .before .pre .1 .1 .1 .0)
-
-join-record-requires : tie.Need-join-record-requires
-join-record-requires c κs =
-    record-asks _ _ _ _ (admission-measured _ _ _ _ _ _ (c .before .before .before .before .before .before .before .before .before .before .before .before .before .before .before .before .before .before .before .before .before .before .args .judged)
-    (c .before .before .before .before .before .before .before .before .before .before .before .before .before .before .before .before .before .before .before .before .before .before .pre .0) _ (c .before .before .before .before .before .before .before .before .before .before .before .before .before .before .before .before .admit .ensures) _ (c .before .before .before .before .before .before .before .before .before .before .before .before .before .before .admitted2 .given .1))
-    _ _ _ _ _ _ _ _ (sink-writable _ _ _ _ _ _ _ _ (c .before .before .before .before .before .before .before .before .before .plan-complete .ensures) _ _ _
-    (c .before .before .before .before .before .before .plan2 .given .1))
-    (c .before .before .before .before .before .before .before .before .before .before .before .before .before .before .before .before .before .before .before .before .before .before .pre .1 .0) _ _
-    (c .before .before .before .before .before .before .before .before .before .before .before .before .before .before .before .before .before .before .before .before .before .before .pre .1 .1 .1 .1 .1 .0)
-    (c .before .before .before .before .before .before .before .before .before .before .before .before .before .before .before .before .before .before .before .before .before .before .pre .1 .1 .1 .1 .1 .1)
-
-let-go-requires : tie.Need-let-go-requires
-let-go-requires c κs = search needs
+write-sink-requires : tie.Need-write-sink-requires
+write-sink-requires c κs = (counter-asks _ _ _ _ (admission-measured _ _ _ _ _ _ (c .before .before .before .before .before .before .before .before .before .before .before .before .before .before .before .before .before .before .before .args .judged) (c .before .before .before .before .before .before .before .before .before .before .before .before .before .before .before .before .before .before .before .pre .0) _ (c .before .before .before .before .before .before .before .before .before .before .before .before .before .admit .ensures) _ (c .before .before .before .before .before .before .before .before .before .before .before .admitted2 .given .1)) _ _ _ _ _ _ _ _ (sink-writable _ _ _ _ _ _ _ _ (c .before .before .before .before .before .before .plan-complete .ensures) _ _ _ (c .before .before .before .before .plan2 .given .1)) (c .before .before .before .before .before .before .before .before .before .ring-number .ensures .1) (c .before .before .before .before .before .before .before .before .before .before .before .before .before .before .before .before .before .before .before .pre .1 .1 .1 .0), record-asks _ _ _ _ (admission-measured _ _ _ _ _ _ (c .before .before .before .before .before .before .before .before .before .before .before .before .before .before .before .before .before .before .before .args .judged) (c .before .before .before .before .before .before .before .before .before .before .before .before .before .before .before .before .before .before .before .pre .0) _ (c .before .before .before .before .before .before .before .before .before .before .before .before .before .admit .ensures) _ (c .before .before .before .before .before .before .before .before .before .before .before .admitted2 .given .1)) _ _ _ _ _ _ _ _ (sink-writable _ _ _ _ _ _ _ _ (c .before .before .before .before .before .before .plan-complete .ensures) _ _ _ (c .before .before .before .before .plan2 .given .1)) (c .before .before .before .before .before .before .before .before .before .before .before .before .before .before .before .before .before .before .before .pre .1 .0) _ _ (c .before .before .before .before .before .before .before .before .before .before .before .before .before .before .before .before .before .before .before .pre .1 .1 .1 .1 .1 .0) (c .before .before .before .before .before .before .before .before .before .before .before .before .before .before .before .before .before .before .before .pre .1 .1 .1 .1 .1 .1))
 
 enum-known-plan-3 : tie.Need-enum-known-plan-3
 enum-known-plan-3 c = search needs
 
-lower-requires-2 : tie.Need-lower-requires-2
-lower-requires-2 c κs =
-    counter-asks _ _ _ _ (admission-measured _ _ _ _ _ _ (c .before .before .before .before .before .before .before .before .before .before .before .before .before .before .before .before .before .before .args .judged)
-    (c .before .before .before .before .before .before .before .before .before .before .before .before .before .before .before .before .before .before .pre .0) _ (c .before .before .before .before .before .before .before .before .before .before .before .before .admit .ensures) _ (c .before .before .before .before .before .before .before .before .before .before .admitted2 .given .1))
-    _ _ _ _ _ _ _ _ ((inner-writable _ _ _ _ _ _ _ _ (c .before .before .before .before .before .plan-complete .ensures) _ _ _
-    (c .before .before .plan3 .given .1)) .0) (c .before .before .before .before .before .before .before .before .ring-number .ensures .1)
-    (c .before .before .before .before .before .before .before .before .before .before .before .before .before .before .before .before .before .before .pre .1 .1 .1 .0)
-
-join-record-requires-2 : tie.Need-join-record-requires-2
-join-record-requires-2 c κs =
-    record-asks _ _ _ _ (admission-measured _ _ _ _ _ _ (c .before .before .before .before .before .before .before .before .before .before .before .before .before .before .before .before .before .before .before .before .before .before .args .judged)
-    (c .before .before .before .before .before .before .before .before .before .before .before .before .before .before .before .before .before .before .before .before .before .before .pre .0) _ (c .before .before .before .before .before .before .before .before .before .before .before .before .before .before .before .before .admit .ensures) _ (c .before .before .before .before .before .before .before .before .before .before .before .before .before .before .admitted2 .given .1))
-    _ _ _ _ _ _ _ _ ((inner-writable _ _ _ _ _ _ _ _ (c .before .before .before .before .before .before .before .before .before .plan-complete .ensures) _ _ _
-    (c .before .before .before .before .before .before .plan3 .given .1)) .0)
-    (c .before .before .before .before .before .before .before .before .before .before .before .before .before .before .before .before .before .before .before .before .before .before .pre .1 .0) _ _
-    (c .before .before .before .before .before .before .before .before .before .before .before .before .before .before .before .before .before .before .before .before .before .before .pre .1 .1 .1 .1 .1 .0)
-    (c .before .before .before .before .before .before .before .before .before .before .before .before .before .before .before .before .before .before .before .before .before .before .pre .1 .1 .1 .1 .1 .1)
-
-join-buffer-requires : tie.Need-join-buffer-requires
-join-buffer-requires c κs =
-    buffer-asks _ _ _ _ (admission-measured _ _ _ _ _ _ (c .before .before .before .before .before .before .before .before .before .before .before .before .before .before .before .before .before .before .before .before .before .before .before .before .before .before .before .before .args .judged)
-    (c .before .before .before .before .before .before .before .before .before .before .before .before .before .before .before .before .before .before .before .before .before .before .before .before .before .before .before .before .pre .0) _ (c .before .before .before .before .before .before .before .before .before .before .before .before .before .before .before .before .before .before .before .before .before .before .admit .ensures) _ (c .before .before .before .before .before .before .before .before .before .before .before .before .before .before .before .before .before .before .before .before .admitted2 .given .1))
-    _ (c .before .before .before .before .before .before .before .before .before .before .before .before .before .before .before .before .before .before .before .before .before .before .before .before .before .before .before .before .pre .1 .0) _ _ (c .before .before .before .before .before .before .before .before .before .before .before .before .before .before .before .before .before .before .before .before .before .before .before .before .before .before .before .before .pre .1 .1 .1 .1 .0)
-    ((inner-writable _ _ _ _ _ _ _ _ (c .before .before .before .before .before .before .before .before .before .before .before .before .before .before .before .plan-complete .ensures) _ _ _
-    (c .before .before .before .before .before .before .before .before .before .before .before .before .plan3 .given .1)) .1)
-
-add-let-go : tie.Need-add-let-go
-add-let-go c =
-    omega (
-      arith,
-      place-asks _ _ _ _ (admission-measured _ _ _ _ _ _ (c .before .before .before .before .before .before .before .before .before .before .before .before .before .before .before .before .before .before .before .before .before .before .before .before .before .before .before .before .before .before .before .before .args .judged)
-          (c .before .before .before .before .before .before .before .before .before .before .before .before .before .before .before .before .before .before .before .before .before .before .before .before .before .before .before .before .before .before .before .before .pre .0) _ (c .before .before .before .before .before .before .before .before .before .before .before .before .before .before .before .before .before .before .before .before .before .before .before .before .before .before .admit .ensures) _ (c .before .before .before .before .before .before .before .before .before .before .before .before .before .before .before .before .before .before .before .before .before .before .before .before .admitted2 .given .1))
-          _ (c .before .before .before .before .before .before .before .before .before .before .before .before .before .before .before .before .before .before .before .before .before .before .before .before .before .before .before .before .before .before .before .before .pre .1 .0) _
-          ((inner-writable _ _ _ _ _ _ _ _ (c .before .before .before .before .before .before .before .before .before .before .before .before .before .before .before .before .before .before .before .plan-complete .ensures) _ _ _
-          (c .before .before .before .before .before .before .before .before .before .before .before .before .before .before .before .before .plan3 .given .1)) .1),
-    )
-
-let-go-requires-2 : tie.Need-let-go-requires-2
-let-go-requires-2 c κs = search needs
+write-inner-requires : tie.Need-write-inner-requires
+write-inner-requires c κs = (counter-asks _ _ _ _ (admission-measured _ _ _ _ _ _ (c .before .before .before .before .before .before .before .before .before .before .before .before .before .before .before .before .before .before .before .before .args .judged) (c .before .before .before .before .before .before .before .before .before .before .before .before .before .before .before .before .before .before .before .before .pre .0) _ (c .before .before .before .before .before .before .before .before .before .before .before .before .before .before .admit .ensures) _ (c .before .before .before .before .before .before .before .before .before .before .before .before .admitted2 .given .1)) _ _ _ _ _ _ _ _ ((inner-writable _ _ _ _ _ _ _ _ (c .before .before .before .before .before .before .before .plan-complete .ensures) _ _ _ (c .before .before .before .before .before .plan3 .given .1)) .0) (c .before .before .before .before .before .before .before .before .before .before .ring-number .ensures .1) (c .before .before .before .before .before .before .before .before .before .before .before .before .before .before .before .before .before .before .before .before .pre .1 .1 .1 .0), (record-asks _ _ _ _ (admission-measured _ _ _ _ _ _ (c .before .before .before .before .before .before .before .before .before .before .before .before .before .before .before .before .before .before .before .before .args .judged) (c .before .before .before .before .before .before .before .before .before .before .before .before .before .before .before .before .before .before .before .before .pre .0) _ (c .before .before .before .before .before .before .before .before .before .before .before .before .before .before .admit .ensures) _ (c .before .before .before .before .before .before .before .before .before .before .before .before .admitted2 .given .1)) _ _ _ _ _ _ _ _ ((inner-writable _ _ _ _ _ _ _ _ (c .before .before .before .before .before .before .before .plan-complete .ensures) _ _ _ (c .before .before .before .before .before .plan3 .given .1)) .0) (c .before .before .before .before .before .before .before .before .before .before .before .before .before .before .before .before .before .before .before .before .pre .1 .0) _ _ (c .before .before .before .before .before .before .before .before .before .before .before .before .before .before .before .before .before .before .before .before .pre .1 .1 .1 .1 .1 .0) (c .before .before .before .before .before .before .before .before .before .before .before .before .before .before .before .before .before .before .before .before .pre .1 .1 .1 .1 .1 .1), buffer-asks _ _ _ _ (admission-measured _ _ _ _ _ _ (c .before .before .before .before .before .before .before .before .before .before .before .before .before .before .before .before .before .before .before .before .args .judged) (c .before .before .before .before .before .before .before .before .before .before .before .before .before .before .before .before .before .before .before .before .pre .0) _ (c .before .before .before .before .before .before .before .before .before .before .before .before .before .before .admit .ensures) _ (c .before .before .before .before .before .before .before .before .before .before .before .before .admitted2 .given .1)) _ (c .before .before .before .before .before .before .before .before .before .before .before .before .before .before .before .before .before .before .before .before .pre .1 .0) _ _ (c .before .before .before .before .before .before .before .before .before .before .before .before .before .before .before .before .before .before .before .before .pre .1 .1 .1 .1 .0) ((inner-writable _ _ _ _ _ _ _ _ (c .before .before .before .before .before .before .before .plan-complete .ensures) _ _ _ (c .before .before .before .before .before .plan3 .given .1)) .1)))
 
 same-length : tie.Need-same-length
 same-length c = search needs
@@ -115,13 +45,7 @@ same-length-2 : tie.Need-same-length-2
 same-length-2 c = search needs
 
 returns-2 : tie.Need-returns-2
-returns-2 c = (
-  rule-refuses _ _ _ _ _ _ _ _ _ _ _ (c .before .before .before .before .before .before .before .before .before .before .before .before .before .before .before .before .before .args .judged)
-      _ (c .before .before .before .before .before .before .before .before .before .before .before .admit .ensures)
-      _ (c .before .before .before .before .before .before .before .before .before .admitted2 .given .1)
-      _ (c .before .before .before .before .before .before .before .ring-number .ensures .0) _ (c .before .before .before .before .plan-complete .ensures) _ _ (c .before .plan .given .1),
-  tt,
-)
+returns-2 c = (rule-refuses _ _ _ _ _ _ _ _ _ _ _ (c .before .before .before .before .before .before .before .before .before .before .before .before .before .before .before .before .args .judged) _ (c .before .before .before .before .before .before .before .before .before .before .admit .ensures) _ (c .before .before .before .before .before .before .before .before .admitted2 .given .1) _ (c .before .before .before .before .before .before .ring-number .ensures .0) _ (c .before .before .before .plan-complete .ensures) _ _ (c .before .plan .given .1), tt)
 
 same-length-3 : tie.Need-same-length-3
 same-length-3 c = search needs
@@ -133,17 +57,7 @@ same-length-5 : tie.Need-same-length-5
 same-length-5 c = search needs
 
 returns-3 : tie.Need-returns-3
-returns-3 c = (
-  sink-made _ _ _ _ _ _ _ _ _ _ _ (c .before .before .before .before .before .before .before .before .before .before .before .before .before .before .before .before .before .before .before .before .before .before .before .before .before .before .before .before .args .judged)
-      _ (c .before .before .before .before .before .before .before .before .before .before .before .before .before .before .before .before .before .before .before .before .before .before .admit .ensures)
-      _ (c .before .before .before .before .before .before .before .before .before .before .before .before .before .before .before .before .before .before .before .before .admitted2 .given .1)
-      _ (c .before .before .before .before .before .before .before .before .before .before .before .before .before .before .before .before .before .before .ring-number .ensures .0) _ (c .before .before .before .before .before .before .before .before .before .before .before .before .before .before .before .plan-complete .ensures)
-      _ _ _ (sink-writable _ _ _ _ _ _ _ _ (c .before .before .before .before .before .before .before .before .before .before .before .before .before .before .before .plan-complete .ensures) _ _ _
-      (c .before .before .before .before .before .before .before .before .before .before .before .before .plan2 .given .1)) _ (c .before .before .before .before .before .before .before .before .before .lower .ensures) _ _ (c .before .before .before .before .before .join-record .ensures) _
-      (c .before .before .before .before .before .before .before .before .before .before .before .before .plan2 .given .1) (c .let-go .ensures),
-  hand-and-write _ (c .before .before .before .before .before .before .before .before .before .before .before .before .before .before .before .before .before .before .before .before .before .before .before .before .before .before .before .before .args .judged) _ (c .before .before .before .before .before .before .before .before .before .before .before .before .before .before .before .before .before .before .before .before .before .before .admit .ensures)
-      _ (c .before .before .before .before .before .before .before .before .before .before .before .before .before .before .before .before .before .before .before .before .admitted2 .given .1) _ _ (c .let-go .ensures),
-)
+returns-3 c = (sink-made _ _ _ _ _ _ _ _ _ _ _ (c .before .before .before .before .before .before .before .before .before .before .before .before .before .before .before .before .before .before .before .before .before .before .before .before .before .args .judged) _ (c .before .before .before .before .before .before .before .before .before .before .before .before .before .before .before .before .before .before .before .admit .ensures) _ (c .before .before .before .before .before .before .before .before .before .before .before .before .before .before .before .before .before .admitted2 .given .1) _ (c .before .before .before .before .before .before .before .before .before .before .before .before .before .before .before .ring-number .ensures .0) _ (c .before .before .before .before .before .before .before .before .before .before .before .before .plan-complete .ensures) _ _ _ (sink-writable _ _ _ _ _ _ _ _ (c .before .before .before .before .before .before .before .before .before .before .before .before .plan-complete .ensures) _ _ _ (c .before .before .before .before .before .before .before .before .before .before .plan2 .given .1)) _ (c .before .before .before .before .before .write-sink .ensures .0) _ _ (c .before .before .before .before .before .write-sink .ensures .1 .0) _ (c .before .before .before .before .before .before .before .before .before .before .plan2 .given .1) (c .before .before .before .before .before .write-sink .ensures .1 .1), hand-and-write _ (c .before .before .before .before .before .before .before .before .before .before .before .before .before .before .before .before .before .before .before .before .before .before .before .before .before .args .judged) _ (c .before .before .before .before .before .before .before .before .before .before .before .before .before .before .before .before .before .before .before .admit .ensures) _ (c .before .before .before .before .before .before .before .before .before .before .before .before .before .before .before .before .before .admitted2 .given .1) _ _ (c .before .before .before .before .before .write-sink .ensures .1 .1))
 
 same-length-6 : tie.Need-same-length-6
 same-length-6 c = search needs
@@ -158,17 +72,7 @@ same-length-9 : tie.Need-same-length-9
 same-length-9 c = search needs
 
 returns-4 : tie.Need-returns-4
-returns-4 c = (
-  inner-made _ _ _ _ _ _ _ _ _ _ _ (c .before .before .before .before .before .before .before .before .before .before .before .before .before .before .before .before .before .before .before .before .before .before .before .before .before .before .before .before .before .before .before .before .before .args .judged)
-      _ (c .before .before .before .before .before .before .before .before .before .before .before .before .before .before .before .before .before .before .before .before .before .before .before .before .before .before .before .admit .ensures)
-      _ (c .before .before .before .before .before .before .before .before .before .before .before .before .before .before .before .before .before .before .before .before .before .before .before .before .before .admitted2 .given .1)
-      _ (c .before .before .before .before .before .before .before .before .before .before .before .before .before .before .before .before .before .before .before .before .before .before .before .ring-number .ensures .0) _ (c .before .before .before .before .before .before .before .before .before .before .before .before .before .before .before .before .before .before .before .before .plan-complete .ensures)
-      _ _ _ ((inner-writable _ _ _ _ _ _ _ _ (c .before .before .before .before .before .before .before .before .before .before .before .before .before .before .before .before .before .before .before .before .plan-complete .ensures) _ _ _
-      (c .before .before .before .before .before .before .before .before .before .before .before .before .before .before .before .before .before .plan3 .given .1)) .0) _ (c .before .before .before .before .before .before .before .before .before .before .before .before .before .before .lower2 .ensures) _ _ (c .before .before .before .before .before .before .before .before .before .before .join-record2 .ensures) _
-      (c .before .before .before .before .before .before .before .before .before .before .before .before .before .before .before .before .before .plan3 .given .1) _ (c .before .before .before .before .join-buffer .ensures) (c .let-go2 .ensures),
-  hand-and-write _ (c .before .before .before .before .before .before .before .before .before .before .before .before .before .before .before .before .before .before .before .before .before .before .before .before .before .before .before .before .before .before .before .before .before .args .judged) _ (c .before .before .before .before .before .before .before .before .before .before .before .before .before .before .before .before .before .before .before .before .before .before .before .before .before .before .before .admit .ensures)
-      _ (c .before .before .before .before .before .before .before .before .before .before .before .before .before .before .before .before .before .before .before .before .before .before .before .before .before .admitted2 .given .1) _ _ (c .let-go2 .ensures),
-)
+returns-4 c = (inner-made _ _ _ _ _ _ _ _ _ _ _ (c .before .before .before .before .before .before .before .before .before .before .before .before .before .before .before .before .before .before .before .before .before .before .before .before .before .before .before .before .args .judged) _ (c .before .before .before .before .before .before .before .before .before .before .before .before .before .before .before .before .before .before .before .before .before .before .admit .ensures) _ (c .before .before .before .before .before .before .before .before .before .before .before .before .before .before .before .before .before .before .before .before .admitted2 .given .1) _ (c .before .before .before .before .before .before .before .before .before .before .before .before .before .before .before .before .before .before .ring-number .ensures .0) _ (c .before .before .before .before .before .before .before .before .before .before .before .before .before .before .before .plan-complete .ensures) _ _ _ ((inner-writable _ _ _ _ _ _ _ _ (c .before .before .before .before .before .before .before .before .before .before .before .before .before .before .before .plan-complete .ensures) _ _ _ (c .before .before .before .before .before .before .before .before .before .before .before .before .before .plan3 .given .1)) .0) _ (c .before .before .before .before .before .before .before .write-inner .ensures .0 .0) _ _ (c .before .before .before .before .before .before .before .write-inner .ensures .0 .1 .0) _ (c .before .before .before .before .before .before .before .before .before .before .before .before .before .plan3 .given .1) _ (c .before .before .before .before .before .before .before .write-inner .ensures .1) (c .before .before .before .before .before .before .before .write-inner .ensures .0 .1 .1), hand-and-write _ (c .before .before .before .before .before .before .before .before .before .before .before .before .before .before .before .before .before .before .before .before .before .before .before .before .before .before .before .before .args .judged) _ (c .before .before .before .before .before .before .before .before .before .before .before .before .before .before .before .before .before .before .before .before .before .before .admit .ensures) _ (c .before .before .before .before .before .before .before .before .before .before .before .before .before .before .before .before .before .before .before .before .admitted2 .given .1) _ _ (c .before .before .before .before .before .before .before .write-inner .ensures .0 .1 .1))
 
 pub complete-row-spec : {M : Type 1} → statement M
 complete-row-spec =
@@ -182,15 +86,9 @@ complete-row-spec =
     plan-complete-requires
     enum-known-plan
     enum-known-plan-2
-    lower-requires
-    join-record-requires
-    let-go-requires
+    write-sink-requires
     enum-known-plan-3
-    lower-requires-2
-    join-record-requires-2
-    join-buffer-requires
-    add-let-go
-    let-go-requires-2
+    write-inner-requires
     same-length
     same-length-2
     returns-2
