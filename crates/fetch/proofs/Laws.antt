@@ -40,8 +40,7 @@ use Rattle.admission.specs.declared.Stepped.{Stepped}
 use Rattle.admission.specs.declared.Stepped.the-variants as stepped
 use Rattle.admission.proofs.Rows.{admission-measured, admission-refused, admission-entered, admission-enters, few-steps, refused-result, rule-refused, rule-accepted}
 use Rattle.fetch.specs.Fetch.{lent, Extent, FetchesAdmitted, Fetches, HandAndPointer}
-use Rattle.fetch.specs.Plan.{Ready, Sized, scanOf, PlansTask, Takes, PlansFetch}
-use Rattle.fetch.specs.declared.Head.{Head}
+use Rattle.fetch.specs.Plan.{Readable, Sized, Head, scanOf, PlansTask, Reachable, PlansFound, Takes, PlansFetch, Takeable, fetchedRow}
 use Rattle.fetch.specs.declared.FetchPlan.{FetchPlan}
 use Rattle.fetch.specs.declared.FetchPlan.the-variants.{Refused, Take}
 
@@ -61,7 +60,7 @@ module _ (n steps : ℕ) (run : List ℕ) (j : ℕ) (both : Ends) (t : ℕ) wher
     task-counted b p k i rings ends m e = rw (e .1, e .0, lt-ltb t n a, le-ltb (getD run 1 0) steps b)
 
     pub task-fetchable : getD run 1 0 < steps → (filler : WorkerId) (task : TaskId) → filler .0 ≡ j → task .0 ≡ t
-        → PlansTask n steps run j both t (Take (record { filler = filler; ends = both; task = task; accepted = getD run 1 0 }))
+        → PlansTask n steps run j both t (Take filler (both .head) (both .tail) (both .count) task (getD run 1 0))
     unfolding PlansTask
     task-fetchable b filler task e f = (e, (refl, (f, record { known = rw f a; counts = refl; accepted = b })))
 
@@ -90,6 +89,36 @@ goes-on : (p k i pointer : ℕ) (rings ends run : List ℕ) → pointer < p
 unfolding fetchRule scan
 goes-on p k i pointer rings ends run h f hf m q = rw (hf, q, lt-ltb pointer p h)
 
+-- What comes after a scan.
+module _ (p k i n steps : ℕ) (rings run : List ℕ) (x : Found) where
+  pub found-unsound : x ≡ found.Unsound → PlansFound p k i n steps rings run x (Refused 8 0)
+  unfolding PlansFound fetchFrom
+  found-unsound v ends m e reads = rw v refl
+
+  pub found-none : x ≡ found.None → PlansFound p k i n steps rings run x (Refused 10 0)
+  unfolding PlansFound fetchFrom
+  found-none v ends m e reads = rw v refl
+
+  module _ (j : WorkerId) (both : Ends) (v : x ≡ found.At j both) where
+    pub found-inside : Reachable p k x → (j .0 < p) × Sound k both
+    found-inside told = rw v at told
+
+    -- the task is the word at the head of ring q, which is the ring found
+    module _ (q : ℕ) (hq : q ≡ ringNumber p i (j .0)) (t : ℕ) (ht : t ≡ getD rings (slotAt k q (both .head)) 0) where
+      task-at : t ≡ getD rings (slotAt k (ringNumber p i (j .0)) (both .head)) 0
+      task-at = rw (← hq) ht
+
+      pub found-takes : (r : FetchPlan) → PlansTask n steps run (j .0) both t r → PlansFound p k i n steps rings run x r
+      unfolding PlansTask PlansFound fetchFrom
+      found-takes (Refused number detail) plans =
+          λ ends m e reads. rw v (rw (← subst (Reads (λ j. endsAt ends (ringNumber p i j))) v reads, ← task-at) (plans p k i rings ends m e))
+      found-takes (Take filler head tail count task accepted) (a, (b, (c, f))) =
+          record {
+            is = v ∙ ap (λ (z : ℕ). found.At (record { 0 = z }) both) (sym a) ∙ ap (found.At filler) (sym b);
+            first = rw (a, ap (λ (z : Ends). z .head) b, c) task-at;
+            task = f;
+          }
+
 -- The whole rule, with the pointer of worker i.
 module _ (p k i n steps pointer : ℕ) (rings ends run : List ℕ) where
   pub pointer-damaged : p ≤ pointer → PlansFetch p k i n steps pointer rings ends run (Refused 8 0)
@@ -101,69 +130,76 @@ module _ (p k i n steps pointer : ℕ) (rings ends run : List ℕ) where
         → fetchRule p k i (old rings ends run m) ≡ fetchFrom p k i (old rings ends run m) (foundOf y)
     follows y v m q = rw (← v) (goes-on p k i pointer rings ends run h (foundOf x) hx m q)
 
-    pub scan-unsound : x ≡ found.Unsound → PlansFetch p k i n steps pointer rings ends run (Refused 8 0)
-    unfolding PlansFetch fetchFrom
-    scan-unsound v m e q = follows found.Unsound v m q
+    module _ (reads : Reads (λ j. endsAt ends (ringNumber p i j)) x) where
+      pub scan-reachable : Reachable p k x
+      scan-reachable = go x refl
+        where
+          go : (y : Found) → x ≡ y → Reachable p k y
+          go found.Unsound v = tt
+          go found.None v = tt
+          go (found.At j both) v = let stops = scan-stops p k i pointer ends x hx reads j both v h in (stops .0, stops .1 .0)
 
-    pub scan-none : x ≡ found.None → PlansFetch p k i n steps pointer rings ends run (Refused 10 0)
-    unfolding PlansFetch fetchFrom
-    scan-none v m e q = follows found.None v m q
-
-    -- the task is the word at the head of ring q, which is the ring found
-    module _ (reads : Reads (λ j. endsAt ends (ringNumber p i j)) x) (j : WorkerId) (both : Ends) (v : x ≡ found.At j both)
-        (q : ℕ) (hq : q ≡ ringNumber p i (j .0)) (t : ℕ) (ht : t ≡ getD rings (slotAt k q (both .head)) 0) where
-      task-at : t ≡ getD rings (slotAt k (ringNumber p i (j .0)) (both .head)) 0
-      task-at = rw (← hq) ht
-
-      pub scan-takes : (r : FetchPlan) → PlansTask n steps run (j .0) both t r → PlansFetch p k i n steps pointer rings ends run r
-      unfolding PlansTask PlansFetch fetchFrom
-      scan-takes (Refused number detail) plans =
-          λ m e w. follows (found.At j both) v m w ∙ rw (← ends-found p k i pointer ends x hx reads j both v, ← task-at) (plans p k i rings ends m e)
-      scan-takes (Take head) (a, (b, (c, f))) =
-          let stops : (j .0 < p) × (Sound k both × ¬ (Empty both)) = scan-stops p k i pointer ends x hx reads j both v h in
+      pub scan-plans : (r : FetchPlan) → PlansFound p k i n steps rings run x r → PlansFetch p k i n steps pointer rings ends run r
+      unfolding PlansFound PlansFetch
+      scan-plans (Refused number detail) plans = λ m e w. follows x refl m w ∙ plans ends m e reads
+      scan-plans (Take filler head tail count task accepted) f =
+          let stops = scan-stops p k i pointer ends x hx reads filler (record { head = head; tail = tail; count = count }) (f .is) h in
           record {
             points = h;
-            found = rw a (found-at p k i pointer ends x hx reads j both v);
-            filler = rw a (stops .0);
-            reads = rw (a, b) (ends-found p k i pointer ends x hx reads j both v);
-            sound = rw b (stops .1 .0);
-            waits = rw b (stops .1 .1);
-            first = rw (a, b, c) task-at;
-            task = f;
+            found = found-at p k i pointer ends x hx reads filler (record { head = head; tail = tail; count = count }) (f .is);
+            filler = stops .0;
+            reads = ends-found p k i pointer ends x hx reads filler (record { head = head; tail = tail; count = count }) (f .is);
+            sound = stops .1 .0;
+            waits = stops .1 .1;
+            first = f .first;
+            task = f .task;
           }
 
--- what is needed to read the head of ring q
-pub head-ready : (p k i : ℕ) (rings ends run : List ℕ) → Sized p k i rings ends run
-    → (q : ℕ) → q < p * p → (both : Ends) → Sound k both → (q * k + k ≤ length rings) × Sound k both
-head-ready p k i rings ends run s q h both f = (rw (s .allRings) (place-end k (p * p) q h), f)
+pub sized-readable : (p k i : ℕ) (rings ends run : List ℕ) → Sized p k i rings ends run → Readable p k i rings run
+sized-readable p k i rings ends run s =
+    record { fewWorkers = s .ready .fewWorkers; worker = s .ready .worker; allRings = s .allRings; bothWords = s .ready .bothWords }
 
--- What is needed to write at place q.
-module _ (p k i : ℕ) (ends run : List ℕ) (s : Ready p k i ends run) (q r : ℕ) (h : (q ≡ r) × (q < p * p)) where
-  pub ends-ready : (both : Ends) → both ≡ endsAt ends r → Sound k both → ¬ (Empty both)
-      → (q * endWords + endWords ≤ length ends) × ((both ≡ endsAt ends q) × (Sound k both × ((k ≤ engine .slots) × ¬ (Empty both))))
-  ends-ready both e f n = (omega (arith, s .allEnds, h .1), (rw (h .0) e, (f, (s .fewSlots, n))))
+-- what is needed to read the head of ring q
+pub head-ready : (p k i : ℕ) (rings run : List ℕ) → Readable p k i rings run
+    → (q : ℕ) → q < p * p → (both : Ends) → Sound k both → (q * k + k ≤ length rings) × Sound k both
+head-ready p k i rings run s q h both f = (rw (s .allRings) (place-end k (p * p) q h), f)
+
+-- what is needed to write the ends of ring q, the one that j fills
+pub ends-ready : (p k i : ℕ) (ends run : List ℕ) (j : ℕ) (both : Ends) (accepted : ℕ) → Takeable p k i ends run j both accepted
+    → (q : ℕ) → (q ≡ ringNumber p i j) × (q < p * p)
+    → (q * endWords + endWords ≤ length ends) × ((both ≡ endsAt ends q) × (Sound k both × ((k ≤ engine .slots) × ¬ (Empty both))))
+ends-ready p k i ends run j both accepted s q h =
+    (omega (arith, s .ready .allEnds, h .1), (rw (h .0) (s .reads), (s .sound, (s .ready .fewSlots, s .waits))))
+
+pub row-taken : (p j : ℕ) (task : TaskId) (row : Row) (next : WorkerId) → next .0 ≡ after p j
+    → stepped.Taken (Fetched task) (withPointer (next .0) (withHand (row .phase) task row)) ≡ stepped.Taken (Fetched task) (fetchedRow p j task row)
+row-taken p j task row next e = rw e refl
 
 -- what is stored as the ends of ring q are those of the ring filled by j
 pub stored-at : (ends new : List ℕ) (q r : ℕ) (both : Ends) → q ≡ r → new ≡ storeEnds ends q both → new ≡ storeEnds ends r both
 stored-at ends new q r both e h = rw (← e) h
 
 -- A plan that takes.
+abbrev takeOf : Head → FetchPlan
+takeOf head = Take (head .filler) (head .ends .head) (head .ends .tail) (head .ends .count) (head .task) (head .accepted)
+
 module _ (p k i n steps pointer : ℕ) (rings ends run : List ℕ) (x : FetchPlan)
-    (hx : PlansFetch p k i n steps pointer rings ends run x) (head : Head) (v : x ≡ Take head) where
+    (hx : PlansFetch p k i n steps pointer rings ends run x) (head : Head) (v : x ≡ takeOf head) where
   takes-of : Takes p k i n steps pointer rings ends run head
   unfolding PlansFetch
   takes-of = subst (PlansFetch p k i n steps pointer rings ends run) v hx
 
-  pub fetch-filler : head .filler .0 < p
-  fetch-filler = takes-of .filler
-
   pub fetch-ready : Sized p k i rings ends run → steps ≤ 65535
-      → Ready p k i ends run × ((head .filler .0 < p) × ((head .ends ≡ endsAt ends (ringNumber p i (head .filler .0)))
-      × (Sound k (head .ends) × (¬ (Empty (head .ends)) × (head .accepted ≤ 65535)))))
-  fetch-ready s l = (
-    s .ready,
-    (takes-of .filler, (takes-of .reads, (takes-of .sound, (takes-of .waits, omega (arith, takes-of .task .accepted))))),
-  )
+      → Takeable p k i ends run (head .filler .0) (head .ends) (head .accepted)
+  fetch-ready s l =
+      record {
+        ready = s .ready;
+        filler = takes-of .filler;
+        reads = takes-of .reads;
+        sound = takes-of .sound;
+        waits = takes-of .waits;
+        few = omega (arith, takes-of .task .accepted);
+      }
 
 -- A plan carried out, for a worker with this row.
 module _ (p k i n steps : ℕ) (row : Row) (rings ends run : List ℕ) (x : FetchPlan)
@@ -182,7 +218,7 @@ module _ (p k i n steps : ℕ) (row : Row) (rings ends run : List ℕ) (x : Fetc
       rule-refused limits p k i Fetch (before m) row enters number detail
       (subst (PlansFetch p k i n steps (row .pointer .0) rings ends run) v hx m e (points-at limits m enters))
 
-  module _ (head : Head) (v : x ≡ Take head) where
+  module _ (head : Head) (v : x ≡ takeOf head) where
     takes : Takes p k i n steps (row .pointer .0) rings ends run head
     takes = takes-of p k i n steps (row .pointer .0) rings ends run x hx head v
 
@@ -209,22 +245,24 @@ module _ (p k i n steps : ℕ) (row : Row) (rings ends run : List ℕ) (x : Fetc
           lt-ltb (getD run 1 0) steps (rw (← takes .task .counts) (takes .task .accepted)),
         )
 
-    pub fetch-taken : (new-ends new-run : List ℕ) (next : ℕ)
-        → (new-ends ≡ storeEnds ends ring (headOn k (head .ends))) × (new-run ≡ set run 1 (head .accepted + 1)) → next ≡ after p (head .filler .0)
-        → FetchesAdmitted n steps p k i row rings ends new-ends run new-run
-        (stepped.Taken (Fetched (head .task)) (withPointer next (withHand (row .phase) (head .task) row)))
+    pub fetch-taken : (new-ends new-run : List ℕ) (r : Stepped)
+        → (new-ends ≡ storeEnds ends ring (headOn k (head .ends))) × (new-run ≡ set run 1 (head .accepted + 1))
+        → r ≡ stepped.Taken (Fetched (head .task)) (fetchedRow p (head .filler .0) (head .task) row)
+        → FetchesAdmitted n steps p k i row rings ends new-ends run new-run r × HandAndPointer row r
     unfolding FetchesAdmitted written updated ruleOf
-    fetch-taken new-ends new-run next (a, b) f limits m e enters =
-        rw (
-          a,
-          b,
-          f,
-          enters .leads,
-          takes .reads,
-          takes .task .counts,
-          ← set-again (m .rows) i (withHand (leadsTo Fetch) (head .task) (rowIn m i)) idle (withPointer (after p (head .filler .0))),
-        )
-        (rule-accepted limits p k i Fetch (before m) row enters (Fetched (head .task)) (updates m) (planned m e (points-at limits m enters)))
+    fetch-taken new-ends new-run r (a, b) f = (
+      λ limits m e enters. rw (
+        f,
+        a,
+        b,
+        enters .leads,
+        takes .reads,
+        takes .task .counts,
+        ← set-again (m .rows) i (withHand (leadsTo Fetch) (head .task) (rowIn m i)) idle (withPointer (after p (head .filler .0))),
+      )
+          (rule-accepted limits p k i Fetch (before m) row enters (Fetched (head .task)) (updates m) (planned m e (points-at limits m enters))),
+      rw f refl,
+    )
 
 -- What is known of the numbers and of the lengths, once the step is admitted.
 module _ (p k i : ℕ) (sizes : Sizes) (judged : Judged) (known : Knows p k i sizes judged) (row : Row) (x : Admitted)

@@ -1,12 +1,14 @@
 // Fetch: everything is read and checked; then the task leaves its ring. Its weight and the counters are not read: they are not lent.
 ghost use mathlib.Core.Path.{_≡_};
-ghost use Prim.Native.Nat.{_+_, _≤_, _<_};
+ghost use Prim.Native.Nat.{_+_, _≤_};
 ghost use lib.ListN.{length, set};
-ghost use Rattle.ring.specs.Ring.{Sound, Empty, endsAt, storeEnds, headOn};
+ghost use Rattle.task.specs.declared.StepOutcome.{StepOutcome};
+ghost use Rattle.ring.specs.Ring.{storeEnds, headOn};
 ghost use Rattle.rules.specs.Memory.{ringNumber};
 ghost use Rattle.admission.specs.Admission.{Knows};
+ghost use Rattle.admission.specs.declared.Stepped.{Stepped};
 ghost use Rattle.fetch.specs.Fetch.{FetchesAdmitted, Fetches, HandAndPointer};
-ghost use Rattle.fetch.specs.Plan.{Sized, Ready, PlansTask, PlansFetch};
+ghost use Rattle.fetch.specs.Plan.{Readable, Sized, Reachable, PlansTask, PlansFound, PlansFetch, Takeable, fetchedRow};
 use admission::Admitted;
 use admission::Judged;
 use admission::Sizes;
@@ -20,17 +22,11 @@ use task::TaskId;
 use task::WorkerId;
 use task::refusal;
 
-// The head that is fetched: its ring's filler and ends, the task, and the accepted word, each as read.
-pub struct Head {
-    pub filler: WorkerId,
-    pub ends: Ends,
-    pub task: TaskId,
-    pub accepted: u32,
-}
-
+// What Fetch is to do: refused; or the head of the ring that this worker fills is taken, whose head, tail and count follow, with the task there
+// and the accepted word, each as read.
 pub enum FetchPlan {
     Refused(u32, u32),
-    Take(Head),
+    Take(WorkerId, u32, u32, u32, TaskId, u32),
 }
 
 // What is read once the task is known: the accepted word.
@@ -52,16 +48,35 @@ fn plan_task(
     if steps <= accepted as usize {
         return FetchPlan::Refused(refusal::DAMAGED, 0);
     }
-    FetchPlan::Take(Head {
-        filler,
-        ends,
-        task,
-        accepted,
-    })
+    FetchPlan::Take(filler, ends.head, ends.tail, ends.count, task, accepted)
 }
 
-// The pointer, the scan from there, and the head of the ring where it stops.
-fn plan_fetch(
+// What comes after a scan of the worker's rings: the head of the ring where it stopped.
+pub fn plan_found(
+    rings: &[u32],
+    run: &[u32],
+    p: usize,
+    k: usize,
+    worker: WorkerId,
+    tasks: usize,
+    steps: usize,
+    found: Found,
+) -> FetchPlan
+    requires { ⌜ Readable p k (worker .0) (now rings) (now run) × Reachable p k found ⌝ }
+    ensures { λ r. ⌜ PlansFound p k (worker .0) tasks steps (now (rings .entry)) (now (run .entry)) found r ⌝ }
+{
+    match found {
+        Found::Unsound => FetchPlan::Refused(refusal::DAMAGED, 0),
+        Found::None => FetchPlan::Refused(refusal::NOTHING_THERE, 0),
+        Found::At(filler, both) => {
+            let task = ring::head_of(rings, k, searches::ring_number(p, worker, filler), both);
+            plan_task(run, tasks, steps, filler, both, task)
+        }
+    }
+}
+
+// The pointer, the scan from there, and what comes after it.
+pub fn plan_fetch(
     rings: &[u32],
     ends: &[u32],
     run: &[u32],
@@ -79,30 +94,61 @@ fn plan_fetch(
         return FetchPlan::Refused(refusal::DAMAGED, 0);
     }
     let found = searches::find_task(ends, p, k, worker, pointer);
-    match found {
-        Found::Unsound => FetchPlan::Refused(refusal::DAMAGED, 0),
-        Found::None => FetchPlan::Refused(refusal::NOTHING_THERE, 0),
-        Found::At(filler, both) => {
-            let task = ring::head_of(rings, k, searches::ring_number(p, worker, filler), both);
-            plan_task(run, tasks, steps, filler, both, task)
-        }
-    }
+    plan_found(rings, run, p, k, worker, tasks, steps, found)
 }
 
-// The writes: the head of the filler's ring is taken, one step more is accepted.
-fn take_head(ends: &mut [u32], run: &mut [u32], p: usize, k: usize, worker: WorkerId, head: Head)
-    requires { ⌜
-        Ready p k (worker .0) (now ends) (now run) × ((head .filler .0 < p)
-        × ((head .ends ≡ endsAt (now ends) (ringNumber p (worker .0) (head .filler .0)))
-        × (Sound k (head .ends) × (¬ (Empty (head .ends)) × (head .accepted ≤ 65535)))))
-        ⌝ }
-    ensures { λ r. ⌜ now (ends .exit) ≡ storeEnds (now (ends .entry)) (ringNumber p (worker .0) (head .filler .0)) (headOn k (head .ends)) ⌝ }
-    ensures { λ r. ⌜ now (run .exit) ≡ set (now (run .entry)) 1 (head .accepted + 1) ⌝ }
+// The head of the filler's ring, whose ends are `both`, is taken, one step more is accepted.
+fn take_head(
+    ends: &mut [u32],
+    run: &mut [u32],
+    p: usize,
+    k: usize,
+    worker: WorkerId,
+    filler: WorkerId,
+    both: Ends,
+    accepted: u32,
+)
+    requires { ⌜ Takeable p k (worker .0) (now ends) (now run) (filler .0) both accepted ⌝ }
+    ensures { λ r. ⌜ now (ends .exit) ≡ storeEnds (now (ends .entry)) (ringNumber p (worker .0) (filler .0)) (headOn k both) ⌝ }
+    ensures { λ r. ⌜ now (run .exit) ≡ set (now (run .entry)) 1 (accepted + 1) ⌝ }
 {
-    let filler = head.filler;
-    let both = head.ends;
     ring::take_at(ends, k, searches::ring_number(p, worker, filler), both);
-    run[1] = head.accepted + 1;
+    run[1] = accepted + 1;
+}
+
+// The writes: the task leaves the filler's ring and is held; the pointer goes to the ring after.
+pub fn write_fetch(
+    ends: &mut [u32],
+    run: &mut [u32],
+    p: usize,
+    k: usize,
+    worker: WorkerId,
+    filler: WorkerId,
+    both: Ends,
+    task: TaskId,
+    accepted: u32,
+    row: Row,
+) -> Stepped
+    requires { ⌜ Takeable p k (worker .0) (now ends) (now run) (filler .0) both accepted ⌝ }
+    ensures { λ r. ⌜
+        (now (ends .exit) ≡ storeEnds (now (ends .entry)) (ringNumber p (worker .0) (filler .0)) (headOn k both))
+        × (now (run .exit) ≡ set (now (run .entry)) 1 (accepted + 1))
+        ⌝ }
+    ensures { λ r. ⌜ r ≡ Stepped.Taken (StepOutcome.Fetched task) (fetchedRow p (filler .0) task row) ⌝ }
+{
+    take_head(ends, run, p, k, worker, filler, both, accepted);
+    let pointer = searches::after_worker(p, filler);
+    Stepped::Taken(
+        StepOutcome::Fetched(task),
+        Row {
+            phase: row.phase,
+            held: task,
+            pointer,
+            read: row.read,
+            write: row.write,
+            cursor: row.cursor,
+        },
+    )
 }
 
 // Fetch's rule, for a worker that may fetch; its row is in the phase that Fetch leads to.
@@ -128,21 +174,9 @@ fn fetch_admitted(
     let plan = plan_fetch(rings, ends, run, p, k, worker, tasks, steps, pointer);
     match plan {
         FetchPlan::Refused(number, detail) => Stepped::Refused(number, detail),
-        FetchPlan::Take(head) => {
-            take_head(ends, run, p, k, worker, head);
-            let task = head.task;
-            let next = searches::after_worker(p, head.filler);
-            Stepped::Taken(
-                StepOutcome::Fetched(task),
-                Row {
-                    phase: row.phase,
-                    held: task,
-                    pointer: next,
-                    read: row.read,
-                    write: row.write,
-                    cursor: row.cursor,
-                },
-            )
+        FetchPlan::Take(filler, head, tail, count, task, accepted) => {
+            let both = Ends { head, tail, count };
+            write_fetch(ends, run, p, k, worker, filler, both, task, accepted, row)
         }
     }
 }

@@ -1,5 +1,5 @@
-use Rattle.fetch.proofs.Laws.{fetch-refused, fetch-filler, fetch-ready, fetch-taken}
-use mathlib.Core.Path.{refl}
+use Rattle.fetch.proofs.Laws.{fetch-refused, fetch-ready, fetch-taken}
+use Rattle.fetch.specs.Plan.{headOf}
 use borrow.Author.Needs.{needs}
 use Rattle.fetch.proofs.fetch_admitted.Statement.{statement}
 use Rattle.fetch.proofs.fetch_admitted.Tie as tie
@@ -13,20 +13,8 @@ enum-known-plan c = search needs
 enum-known-plan-2 : tie.Need-enum-known-plan-2
 enum-known-plan-2 c = search needs
 
-take-head-requires : tie.Need-take-head-requires
-take-head-requires c κs =
-    fetch-ready _ _ _ _ _ _ _ _ _ _ (c .before .before .before .before .before .plan-fetch .ensures) _
-    (c .before .before .before .plan2 .given .1)
-    (c .before .before .before .before .before .before .before .before .before .before .before .before .pre .0)
-    (c .before .before .before .before .before .before .before .before .before .before .before .before .pre .1)
-
-after-worker-requires : tie.Need-after-worker-requires
-after-worker-requires c κs = (
-  fetch-filler _ _ _ _ _ _ _ _ _ _
-      (c .before .before .before .before .before .before .before .before .before .before .before .plan-fetch .ensures) _
-      (c .before .before .before .before .before .before .before .before .before .plan2 .given .1),
-  c .before .before .before .before .before .before .before .before .before .before .before .before .before .before .before .before .before .before .pre .0 .ready .fewWorkers,
-)
+write-fetch-requires : tie.Need-write-fetch-requires
+write-fetch-requires c κs = fetch-ready _ _ _ _ _ _ _ _ _ _ (c .before .before .before .before .before .plan-fetch .ensures) (headOf _ _ _ _ _ _) (c .before .before .before .plan2 .given .1) (c .before .before .before .before .before .before .before .before .before .before .before .before .pre .0) (c .before .before .before .before .before .before .before .before .before .before .before .before .pre .1)
 
 same-length : tie.Need-same-length
 same-length c = search needs
@@ -44,13 +32,7 @@ same-length-4 : tie.Need-same-length-4
 same-length-4 c = search needs
 
 returns-2 : tie.Need-returns-2
-returns-2 c = (
-  fetch-taken _ _ _ _ _ _ _ _ _ _
-      (c .before .before .before .before .before .before .before .before .before .before .before .before .plan-fetch .ensures) _
-      (c .before .before .before .before .before .before .before .before .before .before .plan2 .given .1)
-      _ _ _ (c .before .before .before .before .before .before .take-head .ensures) (c .after-worker .ensures),
-  refl,
-)
+returns-2 c = fetch-taken _ _ _ _ _ _ _ _ _ _ (c .before .before .before .before .before .before .before .before .before .before .plan-fetch .ensures) (headOf _ _ _ _ _ _) (c .before .before .before .before .before .before .before .before .plan2 .given .1) _ _ _ (c .before .before .before .before .write-fetch .ensures .0) (c .before .before .before .before .write-fetch .ensures .1)
 
 pub fetch-admitted-spec : {M : Type 1} → statement M
 fetch-admitted-spec =
@@ -59,8 +41,7 @@ fetch-admitted-spec =
     plan-fetch-requires
     enum-known-plan
     enum-known-plan-2
-    take-head-requires
-    after-worker-requires
+    write-fetch-requires
     same-length
     same-length-2
     returns

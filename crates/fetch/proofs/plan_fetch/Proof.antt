@@ -1,4 +1,4 @@
-use Rattle.fetch.proofs.Laws.{pointer-damaged, scan-unsound, scan-none, scan-stops, scan-takes, head-ready}
+use Rattle.fetch.proofs.Laws.{pointer-damaged, scan-reachable, scan-plans, sized-readable}
 use borrow.Author.Needs.{needs}
 use Rattle.fetch.proofs.plan_fetch.Statement.{statement}
 use Rattle.fetch.proofs.plan_fetch.Tie as tie
@@ -12,65 +12,12 @@ returns c = pointer-damaged _ _ _ _ _ _ _ _ _ (c .if1 .taken)
 find-task-requires : tie.Need-find-task-requires
 find-task-requires c κs = search needs
 
-enum-told : tie.Need-enum-told
-enum-told c = search needs
-
-enum-told-2 : tie.Need-enum-told-2
-enum-told-2 c = search needs
-
-enum-known-found : tie.Need-enum-known-found
-enum-known-found c = search needs
-
-ring-number-requires : tie.Need-ring-number-requires
-ring-number-requires c κs = (
-  c .before .before .before .before .before .before .before .before .before .pre .ready .worker,
-  (
-    scan-stops _ _ _ _ _ _ (c .before .before .before .find-task .ensures .0) (c .before .before .before .find-task .ensures .1) _ _ (c .before .found .given .1)
-        (c .before .before .before .before .if1 .left) .0,
-    c .before .before .before .before .before .before .before .before .before .pre .ready .fewWorkers,
-  ),
-)
-
-head-of-requires : tie.Need-head-of-requires
-head-of-requires c κs =
-    head-ready _ _ _ _ _ _ (c .before .before .before .before .before .before .before .before .before .before .pre) _ (c .ring-number .ensures .1) _
-    (scan-stops _ _ _ _ _ _ (c .before .before .before .before .find-task .ensures .0) (c .before .before .before .before .find-task .ensures .1) _ _ (c .before .before .found .given .1)
-    (c .before .before .before .before .before .if1 .left) .1 .0)
-
-plan-task-requires : tie.Need-plan-task-requires
-plan-task-requires c κs = search needs
+plan-found-requires : tie.Need-plan-found-requires
+plan-found-requires c κs = (sized-readable _ _ _ _ _ _ (c .before .before .before .before .before .before .pre), scan-reachable _ _ _ (c .before .before .before .before .before .before .args .tasks) (c .before .before .before .before .before .before .args .steps) _ (c .before .before .before .before .before .before .args .rings .now) _ (c .before .before .before .before .before .before .args .run .now) (c .before .if1 .left) (c .find-task .result) (c .find-task .ensures .0) (c .find-task .ensures .1))
 
 returns-2 : tie.Need-returns-2
-returns-2 c =
-    scan-unsound _ _ _ _ _ _ _ _ _ (c .before .before .before .if1 .left) _ (c .before .before .find-task .ensures .0)
-    (c .enum-told .given .1)
-
-returns-3 : tie.Need-returns-3
-returns-3 c =
-    scan-none _ _ _ _ _ _ _ _ _ (c .before .before .before .if1 .left) _ (c .before .before .find-task .ensures .0)
-    (c .enum-told2 .given .1)
-
-returns-4 : tie.Need-returns-4
-returns-4 c =
-    scan-takes _ _ _ _ _ _ _ _ _ (c .before .before .before .before .before .before .before .if1 .left) _
-    (c .before .before .before .before .before .before .find-task .ensures .0)
-    (c .before .before .before .before .before .before .find-task .ensures .1)
-    _ _ (c .before .before .before .before .found .given .1) _ (c .before .before .ring-number .ensures .0) _ (c .before .head-of .ensures) _
-    (c .plan-task .ensures)
+returns-2 c = scan-plans _ _ _ _ _ _ _ _ _ (c .before .before .if1 .left) (c .before .find-task .result) (c .before .find-task .ensures .0) (c .before .find-task .ensures .1) _ (c .plan-found .ensures)
 
 pub plan-fetch-spec : {M : Type 1} → statement M
 plan-fetch-spec =
-    tie.close
-    (tie.spec
-    cast-if1
-    returns
-    find-task-requires
-    enum-told
-    enum-told-2
-    enum-known-found
-    ring-number-requires
-    head-of-requires
-    plan-task-requires
-    returns-2
-    returns-3
-    returns-4)
+    tie.close (tie.spec cast-if1 returns find-task-requires plan-found-requires returns-2)
