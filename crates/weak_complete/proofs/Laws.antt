@@ -7,10 +7,9 @@ use native.Mathlib.Omega.{arith}
 use lib.Dec.{ltb, leb, eqb}
 use lib.ListN.{length, getD, set, length-set}
 use lib.IntN.{ℤ, pos, _-ℤ_}
-use borrow.Author.Tests.{ltb-true, leb-true, le-leb, lt-leb, eq-eqb, ne-eqb, not-true, not-false}
-use Rattle.lists.proofs.Apart.{unequal}
+use borrow.Author.Tests.{ltb-true, le-leb, lt-leb, lt-ltb, le-ltb, eq-eqb, ne-eqb, not-true, not-false}
 use Rattle.lists.proofs.Places.{place-lt}
-use Rattle.lists.proofs.Told.{and-true, or-false}
+use Rattle.lists.proofs.Told.{and-true, and-false}
 use Rattle.task.specs.Types.{nil, engine}
 use Rattle.task.specs.Refusals.{recordFull}
 use Rattle.task.specs.declared.Limits.{Limits}
@@ -19,15 +18,16 @@ use Rattle.weak_task.specs.Types.{copyOf, noCopy, idle}
 use Rattle.weak_task.specs.Rows.{withHand, withPlaces}
 use Rattle.weak_task.specs.declared.TaskCopy.{TaskCopy}
 use Rattle.weak_task.specs.declared.WeakRow.{WeakRow}
+use Rattle.weak_task.specs.declared.WeakAnswer.the-variants as answer
 use Rattle.weak_task.specs.declared.WeakOutcome.the-variants.{Moved}
 use Rattle.memory.specs.Field as list
 use Rattle.memory.specs.Updates.{storeWords, updated, written}
 use Rattle.memory.proofs.Fields.{set-again}
-use Rattle.weak_rules.specs.Memory.{Mem, tasks, edges, allEntries, ringNumber, bufferAt, rowIn, held}
+use Rattle.weak_rules.specs.Memory.{Mem, tasks, edges, allEntries, ringNumber, rowIn}
 use Rattle.weak_rules.specs.Words.{counterFits}
-use Rattle.weak_rules.specs.Updates.{Update, putBuffer, putPlaces}
-use Rattle.weak_rules.specs.Plans.{Plan, refuse, accept, refuseIf, checked, withCount, counted}
-use Rattle.weak_rules.specs.Steps.{letGo, leave, lower, recordEntry, completeCopy, completeSink, completeInner, completeLast, completeRule, ruleOf}
+use Rattle.weak_rules.specs.Updates.{Update}
+use Rattle.weak_rules.specs.Plans.{Plan, refuse, accept, refuseIf, checked, withCount, counted, resultOf}
+use Rattle.weak_rules.specs.Steps.{completeCopy, completeSink, completeInner, completeLast, completeRule, ruleOf}
 use Rattle.admission.specs.declared.Judged.{Judged}
 use Rattle.admission.proofs.Laws.{few-places}
 use Rattle.weak_admission.specs.Admission.{sizesOf, Judges, Measured, Admits, Enters, entered}
@@ -39,20 +39,15 @@ use Rattle.weak_admission.specs.declared.WeakAdmitted.{WeakAdmitted}
 use Rattle.weak_admission.specs.declared.WeakAdmitted.the-variants as admitted
 use Rattle.weak_admission.proofs.Rows.{admission-entered, admission-refused, admission-enters, word-damaged, word-counts, count-refused, count-accepted, refused-result, rule-refused, rule-accepted}
 use Rattle.weak_complete.specs.Complete.{lent, Completes, HandAndWrite}
-use Rattle.weak_complete.specs.Planned.{planOf, Plans, PlansLast, Opens, Room, Leaves, Decides, DecidesLast, DecidesCopy, Recordable, Records}
+use Rattle.weak_complete.specs.Planned.{sinkUpdates, innerUpdates, planOf, Plans, PlansLast, Opens, Room, Leaves, Writable, Decides, DecidesLast, DecidesCopy}
+use Rattle.weak_complete.specs.Written.{letGoRow, Records, Enterable, Lightens, Joinable, WritesCopy, WritesSink, WritesInner}
 use Rattle.weak_complete.specs.declared.CompletePlan.{CompletePlan}
 use Rattle.weak_complete.specs.declared.CompletePlan.the-variants.{Refused, Copy, Sink, Inner}
 
 -- a place that isn't below n: whether it is n or beyond, the answer is the same
-unplaced : (a b c : Bool) (rest : Plan) → a && c ≡ false → checked (a && b) (checked c rest) ≡ refuse 8 0
-unplaced true true c rest e = rw e
-unplaced true false c rest e = refl
-unplaced false b c rest e = refl
-
--- one of two tests passed, and not the first
-other : (a b : Bool) → not (a || b) ≡ false → a ≡ false → b ≡ true
-other true b e q = unequal cc
-other false b e q = not-false b e
+unplaced : (b : Bool) (rest : Plan) → checked b (checked false rest) ≡ refuse 8 0
+unplaced true rest = refl
+unplaced false rest = refl
 
 -- the words of an entry lie in the record
 pub second-inside : (l : List ℕ) (n a : ℕ) → 3 * n + 2 < length l → 3 * n + 1 < length (set l (3 * n) a)
@@ -124,9 +119,6 @@ module _ (e own : ℕ) (row : WeakRow) (weights succStarts : List ℕ) (counters
   abbrev sink : Bool
   sink = eqb (past - first) 0
 
-  abbrev placed : Bool
-  placed = leb (row .read) (row .write) && ltb (row .write) (length weights)
-
   -- the places of a task that joins the buffer
   abbrev joins : Plan → Plan
   joins rest = checked (leb (row .read) (row .write) && leb (row .write) (length weights)) (checked (ltb (row .write) (length weights)) rest)
@@ -135,27 +127,15 @@ module _ (e own : ℕ) (row : WeakRow) (weights succStarts : List ℕ) (counters
   abbrev weighed : Plan → Plan → Plan
   weighed alone joined = checked (leb weight 65535) (checked (counterFits counter) (checked ranged (cond sink alone (joins joined))))
 
-  abbrev alone : ℕ → ℕ → Mem → List Update
-  alone p i m = lower i m ∷ leave p i m ∷ letGo i ∷ recordEntry i m
-
-  abbrev joined : ℕ → ℕ → Mem → List Update
-  joined p i m =
-      putBuffer (bufferAt m i (rowIn m i .write)) (held m i .task)
-      ∷ lower i m
-      ∷ leave p i m
-      ∷ letGo i
-      ∷ putPlaces i (record { read = rowIn m i .read; write = rowIn m i .write + 1; cursor = rowIn m i .cursor })
-      ∷ recordEntry i m
-
-  abbrev PlannedLast : CompletePlan → Type 0
-  PlannedLast plan =
+  abbrev LastPlanned : (Plan → Plan → Plan) → CompletePlan → Type 0
+  LastPlanned rest plan =
       (p i : ℕ) (m : Mem) → tasks m ≡ length weights → edges m ≡ e → m .run ≡ run
-      → weighed (counted m Moved (alone p i m)) (counted m Moved (joined p i m)) ≡ planOf p i m plan
+      → rest (counted m Moved (sinkUpdates p i m)) (counted m Moved (innerUpdates p i m)) ≡ planOf p i m plan
 
-  lastly : (plan : CompletePlan) → PlannedLast plan → PlansLast e own row weights succStarts counters run plan
+  lastly : (plan : CompletePlan) → LastPlanned weighed plan → PlansLast e own row weights succStarts counters run plan
   unfolding completeLast completeSink completeInner
   lastly plan f p i m he ho hr hw hs hc hu =
-      let x : weighed (counted m Moved (alone p i m)) (counted m Moved (joined p i m)) ≡ planOf p i m plan = f p i m (ap length hw) he hu in
+      let x : weighed (counted m Moved (sinkUpdates p i m)) (counted m Moved (innerUpdates p i m)) ≡ planOf p i m plan = f p i m (ap length hw) he hu in
       rw (← he, ho, hr, ← hw, ← hs, ← hc) at x
 
   abbrev Decided : CompletePlan → Type 0
@@ -172,68 +152,90 @@ module _ (e own : ℕ) (row : WeakRow) (weights succStarts : List ℕ) (counters
       counter-fits : counterFits counter ≡ true
       counter-fits = sym hf ∙ not-false fits x
 
-      pub last-range : not ranged ≡ true → Decided (Refused 8 0)
-      last-range h =
-          (lastly (Refused 8 0) (λ p i m hn he hu. rw (le-leb weight 65535 l, counter-fits, not-true ranged h) refl), tt)
+      leaves : Leaves own (row .held .task .0) weights counters weight
+      leaves = record { weighs = refl; light = l; counter = counter-fits }
 
-      module _ (d : not ranged ≡ false) where
-        later : (plan : CompletePlan)
-            → ((p i : ℕ) (m : Mem) → tasks m ≡ length weights → edges m ≡ e → m .run ≡ run
-            → cond sink (counted m Moved (alone p i m)) (joins (counted m Moved (joined p i m))) ≡ planOf p i m plan)
-            → PlansLast e own row weights succStarts counters run plan
-        later plan f =
-            lastly plan (λ p i m hn he hu. rw (le-leb weight 65535 l, counter-fits, not-false ranged d) (f p i m hn he hu))
+      -- what the tests up to here leave of the rule
+      ranges : (plan : CompletePlan) → LastPlanned (λ alone joined. checked ranged (cond sink alone (joins joined))) plan
+          → PlansLast e own row weights succStarts counters run plan
+      ranges plan f = lastly plan (λ p i m hn he hu. rw (le-leb weight 65535 l, counter-fits) (f p i m hn he hu))
 
-        pub last-places : not (sink || placed) ≡ true → Decided (Refused 8 0)
-        last-places h =
-            let (s, j) = or-false sink placed (not-true (sink || placed) h) in (
-              later (Refused 8 0)
-                  (λ p i m hn he hu. rw s
-                  (unplaced (leb (row .read) (row .write)) (leb (row .write) (length weights)) (ltb (row .write) (length weights)) _ j)),
-              tt,
-            )
+      pub last-beyond : e < past → Decided (Refused 8 0)
+      last-beyond h =
+          (ranges (Refused 8 0) (λ p i m hn he hu. rw (and-false (leb first past) (leb past e) (λ q. lt-leb past e h)) refl), tt)
 
-        module _ (f : not (sink || placed) ≡ false) where
-          -- the write place of a task that joins
-          joining : sink ≡ false → row .write < length weights
-          joining s =
-              ltb-true (row .write) (length weights)
-              (and-true (leb (row .read) (row .write)) (ltb (row .write) (length weights)) (other sink placed f s) .1)
+      module _ (d : past ≤ e) where
+        pub last-back : past < first → Decided (Refused 8 0)
+        last-back h = (ranges (Refused 8 0) (λ p i m hn he hu. rw (lt-leb first past h) refl), tt)
 
-          joins-on : sink ≡ false → (rest : Plan) → joins rest ≡ rest
-          joins-on s rest =
-              let (r, w) = and-true (leb (row .read) (row .write)) (ltb (row .write) (length weights)) (other sink placed f s) in
-              let y : row .write ≤ length weights = omega (arith, joining s) in
-              rw (r, le-leb (row .write) (length weights) y, w) refl
+        in-range : first ≤ past → ranged ≡ true
+        in-range h = rw (le-leb first past h, le-leb past e d) refl
 
-          pub last-counted : 4 * e + 3 * roots ≤ getD run 1 0 → Decided (Refused 8 0)
-          last-counted h = (later (Refused 8 0) (λ p i m hn he hu. go p i m hn he hu sink refl), tt)
-            where
-              go : (p i : ℕ) (m : Mem) → tasks m ≡ length weights → edges m ≡ e → m .run ≡ run → (b : Bool) → sink ≡ b
-                  → cond b (counted m Moved (alone p i m)) (joins (counted m Moved (joined p i m))) ≡ refuse 8 0
-              go p i m hn he hu true s = count-ends (length weights) e run entries roots _ 1 o h m hn he hu (alone p i m)
-              go p i m hn he hu false s =
-                  joins-on s (counted m Moved (joined p i m)) ∙ count-ends (length weights) e run entries roots _ 1 o h m hn he hu (joined p i m)
+        -- a sink
+        module _ (f : past ≤ first) (b : first ≤ past) where
+          none : past - first ≡ 0
+          none = omega arith
 
-          module _ (g : getD run 1 0 < 4 * e + 3 * roots) where
-            leaves : Leaves own (row .held .task .0) weights counters weight
-            leaves = record { weighs = refl; light = l; counter = counter-fits }
+          alone : (plan : CompletePlan) → LastPlanned (λ alone joined. alone) plan → PlansLast e own row weights succStarts counters run plan
+          alone plan g = ranges plan (λ p i m hn he hu. rw (in-range b, eq-eqb (past - first) 0 none) (g p i m hn he hu))
 
-            pub last-sink : sink ≡ true → Decided (Sink entries (getD run 1 0) weight)
-            last-sink s = (
-              later (Sink entries (getD run 1 0) weight)
-                  (λ p i m hn he hu. rw s (count-goes (length weights) e run entries roots _ 1 o g m hn he hu (alone p i m))),
-              (room-is (length weights) e run entries roots _ 1 o g, (refl, leaves)),
-            )
+          pub sink-counted : 4 * e + 3 * roots ≤ getD run 1 0 → Decided (Refused 8 0)
+          sink-counted h =
+              (alone (Refused 8 0) (λ p i m hn he hu. count-ends (length weights) e run entries roots _ 1 o h m hn he hu _), tt)
 
-            pub last-inner : sink ≡ false → Decided (Inner entries (getD run 1 0) weight)
-            last-inner s = (
-              later (Inner entries (getD run 1 0) weight)
-                  (λ p i m hn he hu. rw s
-                  (joins-on s (counted m Moved (joined p i m))
-                  ∙ count-goes (length weights) e run entries roots _ 1 o g m hn he hu (joined p i m))),
-              (room-is (length weights) e run entries roots _ 1 o g, (refl, (leaves, joining s))),
-            )
+          pub last-sink : getD run 1 0 < 4 * e + 3 * roots → Decided (Sink entries (getD run 1 0) weight)
+          last-sink g = (
+            alone (Sink entries (getD run 1 0) weight)
+                (λ p i m hn he hu. count-goes (length weights) e run entries roots _ 1 o g m hn he hu _),
+            (room-is (length weights) e run entries roots _ 1 o g, (refl, leaves)),
+          )
+
+        -- a task with successors
+        module _ (f : first < past) where
+          some : ¬ (past - first ≡ 0)
+          some q = omega (arith, q)
+
+          rising : first ≤ past
+          rising = omega arith
+
+          joining : (plan : CompletePlan) → LastPlanned (λ alone joined. joins joined) plan → PlansLast e own row weights succStarts counters run plan
+          joining plan g = ranges plan (λ p i m hn he hu. rw (in-range rising, ne-eqb (past - first) 0 some) (g p i m hn he hu))
+
+          pub last-full : length weights ≤ row .write → Decided (Refused 8 0)
+          last-full h = (
+            joining (Refused 8 0)
+                (λ p i m hn he hu. rw (le-ltb (row .write) (length weights) h)
+                (unplaced (leb (row .read) (row .write) && leb (row .write) (length weights)) (counted m Moved (innerUpdates p i m)))),
+            tt,
+          )
+
+          module _ (w : row .write < length weights) where
+            pub last-places : row .write < row .read → Decided (Refused 8 0)
+            last-places h = (joining (Refused 8 0) (λ p i m hn he hu. rw (lt-leb (row .read) (row .write) h) refl), tt)
+
+            module _ (r : row .read ≤ row .write) where
+              below : row .write ≤ length weights
+              below = omega arith
+
+              joined : (plan : CompletePlan) → LastPlanned (λ alone joined. joined) plan → PlansLast e own row weights succStarts counters run plan
+              joined plan g =
+                  joining plan
+                  (λ p i m hn he hu. rw (
+                    le-leb (row .read) (row .write) r,
+                    le-leb (row .write) (length weights) below,
+                    lt-ltb (row .write) (length weights) w,
+                  ) (g p i m hn he hu))
+
+              pub inner-counted : 4 * e + 3 * roots ≤ getD run 1 0 → Decided (Refused 8 0)
+              inner-counted h =
+                  (joined (Refused 8 0) (λ p i m hn he hu. count-ends (length weights) e run entries roots _ 1 o h m hn he hu _), tt)
+
+              pub last-inner : getD run 1 0 < 4 * e + 3 * roots → Decided (Inner entries (getD run 1 0) weight)
+              last-inner g = (
+                joined (Inner entries (getD run 1 0) weight)
+                    (λ p i m hn he hu. count-goes (length weights) e run entries roots _ 1 o g m hn he hu _),
+                (room-is (length weights) e run entries roots _ 1 o g, (refl, (leaves, w))),
+              )
 
 -- The held copy and its task's degree.
 pub held-within : (copy : TaskCopy) (n : ℕ) (fits : Bool) → fits ≡ copyWithin n (copyOf copy) → not fits ≡ false → copy .task .0 < n
@@ -241,21 +243,18 @@ held-within copy n fits hf x =
     ltb-true (copy .task .0) n
     (and-true (ltb (copy .task .0) n) (eqb (copy .predecessor .0) (nil .0) || ltb (copy .predecessor .0) n) (sym hf ∙ not-false fits x) .0)
 
-module _ (n e : ℕ) (run : List ℕ) (copy : TaskCopy) (degree : ℕ) (a : getD run 2 0 ≤ n) (b : getD run 0 0 ≤ e + getD run 2 0)
-    (c : ¬ (getD run 0 0 ≡ e + getD run 2 0)) (fits : Bool) (hf : fits ≡ copyWithin n (copyOf copy)) (x : not fits ≡ false)
-    (d : not (leb 1 degree && leb degree n) ≡ false) where
-  pub opens : Opens n e run (getD run 0 0) (getD run 2 0) (copy .task .0) degree
-  opens = record {
-    entriesWord = refl;
-    rootsAre = refl;
-    fewRoots = a;
-    entry = omega (arith, b, c);
-    taskFits = held-within copy n fits hf x;
-    lowers = leb-true 1 degree (and-true (leb 1 degree) (leb degree n) (not-false (leb 1 degree && leb degree n) d) .0);
-  }
-
-  pub opens-last : degree ≡ 1 → Opens n e run (getD run 0 0) (getD run 2 0) (copy .task .0) 1
-  opens-last q = rw q at opens
+pub opens : (n e : ℕ) (run : List ℕ) (copy : TaskCopy) (degree : ℕ) → getD run 2 0 ≤ n → getD run 0 0 < e + getD run 2 0
+    → (fits : Bool) → fits ≡ copyWithin n (copyOf copy) → not fits ≡ false → 1 ≤ degree
+    → Opens n e run (getD run 0 0) (getD run 2 0) (copy .task .0) degree
+opens n e run copy degree a b fits hf x d =
+    record {
+      entriesWord = refl;
+      rootsAre = refl;
+      fewRoots = a;
+      entry = b;
+      taskFits = held-within copy n fits hf x;
+      lowers = d;
+    }
 
 -- The rule up to the degree.
 module _ (e own : ℕ) (row : WeakRow) (weights succStarts degrees : List ℕ) (counters : List ℤ) (run : List ℕ) where
@@ -298,142 +297,234 @@ module _ (e own : ℕ) (row : WeakRow) (weights succStarts degrees : List ℕ) (
   plan-roots h = (planned (Refused 8 0) (λ p i m he ho hr hw hs hd hc hu. rw (lt-leb (getD run 2 0) n h) refl), tt)
 
   module _ (a : getD run 2 0 ≤ n) where
-    pub plan-over : e + getD run 2 0 < getD run 0 0 → DecidedAll (Refused 8 0)
-    plan-over h = (
-      planned (Refused 8 0)
-          (λ p i m he ho hr hw hs hd hc hu. rw (le-leb (getD run 2 0) n a, lt-leb (getD run 0 0) (e + getD run 2 0) h) refl),
-      tt,
-    )
+    pub plan-full : getD run 0 0 ≡ e + getD run 2 0 → DecidedAll (Refused 12 0)
+    plan-full h =
+        let b : getD run 0 0 ≤ e + getD run 2 0 = omega (arith, h) in (
+          planned (Refused 12 0)
+              (λ p i m he ho hr hw hs hd hc hu. rw (
+                le-leb (getD run 2 0) n a,
+                le-leb (getD run 0 0) (e + getD run 2 0) b,
+                eq-eqb (getD run 0 0) (e + getD run 2 0) h,
+              ) refl),
+          tt,
+        )
 
-    module _ (b : getD run 0 0 ≤ e + getD run 2 0) where
-      pub plan-full : getD run 0 0 ≡ e + getD run 2 0 → DecidedAll (Refused 12 0)
-      plan-full h = (
-        planned (Refused 12 0)
-            (λ p i m he ho hr hw hs hd hc hu. rw (
-              le-leb (getD run 2 0) n a,
-              le-leb (getD run 0 0) (e + getD run 2 0) b,
-              eq-eqb (getD run 0 0) (e + getD run 2 0) h,
-            ) refl),
-        tt,
-      )
+    pub plan-over : e + getD run 2 0 ≤ getD run 0 0 → ¬ (getD run 0 0 ≡ e + getD run 2 0) → DecidedAll (Refused 8 0)
+    plan-over l h =
+        let b : e + getD run 2 0 < getD run 0 0 = omega (arith, l, h) in (
+          planned (Refused 8 0)
+              (λ p i m he ho hr hw hs hd hc hu. rw (le-leb (getD run 2 0) n a, lt-leb (getD run 0 0) (e + getD run 2 0) b) refl),
+          tt,
+        )
 
-      module _ (c : ¬ (getD run 0 0 ≡ e + getD run 2 0)) (fits : Bool) (hf : fits ≡ copyWithin n (copyOf (row .held))) where
-        -- what the tests up to here leave of the rule
-        recorded : (plan : CompletePlan) → Planned held-on plan → Plans e own row weights succStarts degrees counters run plan
-        recorded plan f =
-            planned plan
-            (λ p i m he ho hr hw hs hd hc hu. rw (
-              le-leb (getD run 2 0) n a,
-              le-leb (getD run 0 0) (e + getD run 2 0) b,
-              ne-eqb (getD run 0 0) (e + getD run 2 0) c,
-            ) (f p i m he ho hr hw hs hd hc hu))
+    module _ (b : getD run 0 0 < e + getD run 2 0) (fits : Bool) (hf : fits ≡ copyWithin n (copyOf (row .held))) where
+      few : getD run 0 0 ≤ e + getD run 2 0
+      few = omega arith
 
-        pub plan-held : not fits ≡ true → DecidedAll (Refused 8 0)
-        plan-held h =
-            (recorded (Refused 8 0) (λ p i m he ho hr hw hs hd hc hu. rw (sym hf ∙ not-true fits h) refl), tt)
+      other : ¬ (getD run 0 0 ≡ e + getD run 2 0)
+      other q = omega (arith, q)
 
-        module _ (x : not fits ≡ false) where
-          copy-fits : copyWithin n (copyOf (row .held)) ≡ true
-          copy-fits = sym hf ∙ not-false fits x
+      -- what the tests up to here leave of the rule
+      recorded : (plan : CompletePlan) → Planned held-on plan → Plans e own row weights succStarts degrees counters run plan
+      recorded plan f =
+          planned plan
+          (λ p i m he ho hr hw hs hd hc hu. rw (
+            le-leb (getD run 2 0) n a,
+            le-leb (getD run 0 0) (e + getD run 2 0) few,
+            ne-eqb (getD run 0 0) (e + getD run 2 0) other,
+          ) (f p i m he ho hr hw hs hd hc hu))
 
-          pub plan-degree : not within ≡ true → DecidedAll (Refused 8 0)
-          plan-degree h =
-              (recorded (Refused 8 0) (λ p i m he ho hr hw hs hd hc hu. rw (copy-fits, not-true within h) refl), tt)
+      pub plan-held : not fits ≡ true → DecidedAll (Refused 8 0)
+      plan-held h =
+          (recorded (Refused 8 0) (λ p i m he ho hr hw hs hd hc hu. rw (sym hf ∙ not-true fits h) refl), tt)
 
-          module _ (d : not within ≡ false) where
-            pub plan-last : degree ≡ 1 → (r : CompletePlan) → DecidesLast e own row weights succStarts counters run r → DecidedAll r
-            plan-last q r last = (
-              recorded r
-                  (λ p i m he ho hr hw hs hd hc hu. rw (copy-fits, not-false within d, eq-eqb degree 1 q) (last .0 p i m he ho hr hw hs hc hu)),
+      module _ (x : not fits ≡ false) where
+        copy-fits : copyWithin n (copyOf (row .held)) ≡ true
+        copy-fits = sym hf ∙ not-false fits x
+
+        pub plan-none : degree ≡ 0 → DecidedAll (Refused 8 0)
+        plan-none h = (recorded (Refused 8 0) (λ p i m he ho hr hw hs hd hc hu. rw (copy-fits, h) refl), tt)
+
+        pub plan-beyond : n < degree → DecidedAll (Refused 8 0)
+        plan-beyond h = (
+          recorded (Refused 8 0)
+              (λ p i m he ho hr hw hs hd hc hu. rw (copy-fits, and-false (leb 1 degree) (leb degree n) (λ q. lt-leb degree n h)) refl),
+          tt,
+        )
+
+        -- the degree is in its range
+        module _ (d : 1 ≤ degree) (l : degree ≤ n) where
+          lowers : within ≡ true
+          lowers = rw (le-leb 1 degree d, le-leb degree n l) refl
+
+          by-degree : (plan : CompletePlan) → Planned (cond (eqb degree 1)) plan → Plans e own row weights succStarts degrees counters run plan
+          by-degree plan f =
+              recorded plan (λ p i m he ho hr hw hs hd hc hu. rw (copy-fits, lowers) (f p i m he ho hr hw hs hd hc hu))
+
+        pub plan-last : degree ≡ 1 → (r : CompletePlan) → DecidesLast e own row weights succStarts counters run r → DecidedAll r
+        plan-last q r last =
+            let some : 1 ≤ degree = omega (arith, q) in
+            let few : degree ≤ n = omega (arith, q, held-within (row .held) n fits hf x) in (
+              by-degree some few r (λ p i m he ho hr hw hs hd hc hu. rw (eq-eqb degree 1 q) (last .0 p i m he ho hr hw hs hc hu)),
               rw q (last .1),
             )
 
-            pub plan-copy : ¬ (degree ≡ 1) → (r : CompletePlan) → DecidesCopy n e run (row .held .task .0) degree r → DecidedAll r
-            plan-copy q r copied = (
-              recorded r
-                  (λ p i m he ho hr hw hs hd hc hu. rw (copy-fits, not-false within d, ne-eqb degree 1 q) (copied .0 p i m (ap length hw) he hu)),
+        pub plan-copy : 2 ≤ degree → degree ≤ n → (r : CompletePlan) → DecidesCopy n e run (row .held .task .0) degree r → DecidedAll r
+        plan-copy q l r copied =
+            let some : 1 ≤ degree = omega (arith, q) in
+            let more : ¬ (degree ≡ 1) = λ h. omega (arith, q, h) in (
+              by-degree some l r (λ p i m he ho hr hw hs hd hc hu. rw (ne-eqb degree 1 more) (copied .0 p i m (ap length hw) he hu)),
               copied .1 own row weights counters refl refl,
             )
 
--- What an admitted step's lengths let the plan read and its writes store.
-module _ (p k i : ℕ) (sizes : WeakSizes) (f : Measured p k i sizes) where
-  pub own-asks : (i < p) × (p ≤ engine .workers)
-  own-asks = (f .worker, f .fewWorkers)
+-- What is asked of the lengths, once the step is admitted.
+module _ (p k i : ℕ) (sizes : WeakSizes) (f : Measured p k i sizes) (weights succStarts degrees : List ℕ) (counters : List ℤ)
+    (buffers executed run : List ℕ)
+    (z : (length weights ≡ sizes .weights) × ((length succStarts ≡ sizes .«succ_starts») × ((length degrees ≡ sizes .degrees)
+    × ((length counters ≡ sizes .counters) × ((length buffers ≡ sizes .buffers)
+    × ((length executed ≡ sizes .executed) × (length run ≡ sizes .run)))))))
+    (own : ℕ) (o : own < p * p) where
+  own-inside : own < length counters
+  own-inside = omega (arith, f .lengths .list list.counters, z .1 .1 .1 .0)
 
-  module _ (n : ℕ) (hn : n ≡ sizes .weights) where
-    pub plan-asks : (starts degrees places words own : ℕ) → own < p * p → starts ≡ sizes .«succ_starts» → degrees ≡ sizes .degrees
-        → places ≡ sizes .counters → words ≡ sizes .run
-        → (n ≤ engine .tasks) × ((sizes .preds ≤ engine .edges) × ((starts ≡ n + 1) × ((degrees ≡ n) × ((own < places) × (words ≡ 3)))))
-    plan-asks starts degrees places words own o s d c r = (
-      omega (arith, f .fewTasks),
+  pub plan-asks : (length weights ≤ engine .tasks) × ((sizes .preds ≤ engine .edges) × ((length succStarts ≡ length weights + 1)
+      × ((length degrees ≡ length weights) × ((own < length counters) × (length run ≡ 3)))))
+  plan-asks = (
+    omega (arith, f .fewTasks, z .0),
+    (
+      f .fewEdges,
       (
-        f .fewEdges,
+        omega (arith, f .lengths .list list.succStarts, z .0, z .1 .0),
         (
-          omega (arith, f .lengths .list list.succStarts),
-          (
-            omega (arith, f .lengths .list list.degrees),
-            (omega (arith, f .lengths .list list.counters), r ∙ f .lengths .list list.run),
-          ),
+          omega (arith, f .lengths .list list.degrees, z .0, z .1 .1 .0),
+          (own-inside, z .1 .1 .1 .1 .1 .1 ∙ f .lengths .list list.run),
         ),
       ),
-    )
+    ),
+  )
 
-    pub buffer-asks : (places write : ℕ) → places ≡ sizes .buffers → write < n → (i * n + write < places) × (places ≤ engine .workers * engine .tasks)
-    buffer-asks places write b h =
-        let few = few-places p k (sizes .weights) (f .fewWorkers, (f .fewSlots, f .fewTasks)) in
-        let lies = place-lt (sizes .weights) p i write (f .worker) (rw (← hn) h) in
-        rw hn (omega (arith, f .lengths .list list.buffers), omega (arith, f .lengths .list list.buffers))
+  -- an accepted plan can be written
+  module _ (row : WeakRow) (plan : CompletePlan) (d : Decides (sizes .preds) own row weights succStarts degrees counters run plan)
+      (entries accepted : ℕ) where
+    abbrev task : ℕ
+    task = row .held .task .0
 
-    pub place-asks : (write : ℕ) → write < n → write < engine .tasks
-    place-asks write h = omega (arith, f .fewTasks)
-
-  -- by the words as read
-  pub counter-asks : (own task : ℕ) (weights : List ℕ) (counters : List ℤ) (weight : ℕ) → Leaves own task weights counters weight
-      → own < p * p → length counters ≡ sizes .counters
-      → (own < length counters) × ((counterFits (getD counters own (pos 0)) ≡ true) × (weight ≤ 65535))
-  counter-asks own task weights counters weight leaves o c =
-      (omega (arith, f .lengths .list list.counters), (leaves .counter, leaves .light))
-
-  module _ (n : ℕ) (run : List ℕ) (entries accepted task degree : ℕ) (room : Room n (sizes .preds) run entries accepted task degree) where
-    pub record-asks : n ≡ sizes .weights → (d : ℕ) → d ≡ degree → (degrees places words : ℕ) → degrees ≡ sizes .degrees → places ≡ sizes .executed
-        → words ≡ sizes .run → Recordable degrees places words task d entries accepted
-    record-asks w d q degrees places words g x r = record {
-      taskFits = omega (arith, f .lengths .list list.degrees, room .taskFits);
-      lowers = omega (arith, room .lowers);
-      threeWords = r ∙ f .lengths .list list.run;
-      entry = omega (arith, f .lengths .list list.executed, room .entry);
-      few = omega (arith, f .fewTasks, f .fewEdges, room .entry);
-      step = omega (arith, f .fewTasks, f .fewEdges, room .step);
+    enterable : (degree : ℕ) → Room (length weights) (sizes .preds) run entries accepted task (getD degrees task 0) → degree ≡ getD degrees task 0
+        → Enterable task degree entries accepted degrees executed run
+    enterable degree room q = record {
+      recordable = record {
+        taskFits = omega (arith, f .lengths .list list.degrees, room .taskFits, z .0, z .1 .1 .0);
+        lowers = omega (arith, room .lowers, q);
+        threeWords = z .1 .1 .1 .1 .1 .1 ∙ f .lengths .list list.run;
+        entry = omega (arith, f .lengths .list list.executed, room .entry, z .0, z .1 .1 .1 .1 .1 .0);
+        few = omega (arith, f .fewTasks, f .fewEdges, room .entry, z .0);
+        step = omega (arith, f .fewTasks, f .fewEdges, room .step, z .0);
+      };
+      degreeWord = q;
+      entriesWord = room .entriesWord;
+      acceptedWord = room .acceptedWord;
     }
 
--- an accepted plan can be written
-module _ (e own : ℕ) (row : WeakRow) (weights succStarts degrees : List ℕ) (counters : List ℤ) (run : List ℕ) (plan : CompletePlan)
-    (d : Decides e own row weights succStarts degrees counters run plan) (entries accepted : ℕ) where
-  abbrev written-degree : ℕ
-  written-degree = getD degrees (row .held .task .0) 0
+    lightens : (weight : ℕ) → Leaves own task weights counters weight → Lightens own weight counters
+    lightens weight leaves = (own-inside, (leaves .counter, leaves .light))
 
-  abbrev Roomy : Type 0
-  Roomy = Room (length weights) e run entries accepted (row .held .task .0) written-degree
+    joinable : row .write < length weights → Joinable i (length weights) (row .write) (length buffers)
+    joinable h =
+        let few = few-places p k (sizes .weights) (f .fewWorkers, (f .fewSlots, f .fewTasks)) in
+        let lies = place-lt (sizes .weights) p i (row .write) (f .worker) (rw (← z .0) h) in
+        rw (z .0) (record {
+          inside = omega (arith, f .lengths .list list.buffers, z .1 .1 .1 .1 .0, lies);
+          few = omega (arith, f .lengths .list list.buffers, z .1 .1 .1 .1 .0, few);
+          place = omega (arith, f .fewTasks, h, z .0);
+        })
 
-  pub copy-writable : (degree : ℕ) → plan ≡ Copy entries accepted degree → Roomy × (degree ≡ written-degree)
-  copy-writable degree w = rw w at d .1
+    pub copy-asks : (degree : ℕ) → plan ≡ Copy entries accepted degree → Enterable task degree entries accepted degrees executed run
+    copy-asks degree w =
+        let x : Writable (sizes .preds) own row weights counters run (getD degrees task 0) (Copy entries accepted degree) = rw w at d .1 in
+        enterable degree (x .0) (x .1)
 
-  module _ (weight : ℕ) where
-    pub sink-writable : plan ≡ Sink entries accepted weight
-        → Roomy × ((written-degree ≡ 1) × Leaves own (row .held .task .0) weights counters weight)
-    sink-writable w = rw w at d .1
+    module _ (weight : ℕ) where
+      pub sink-asks : plan ≡ Sink entries accepted weight
+          → Enterable task 1 entries accepted degrees executed run × Lightens own weight counters
+      sink-asks w =
+          let x : Writable (sizes .preds) own row weights counters run (getD degrees task 0) (Sink entries accepted weight) = rw w at d .1 in
+          (enterable 1 (x .0) (sym (x .1 .0)), lightens weight (x .1 .1))
 
-    pub inner-writable : plan ≡ Inner entries accepted weight
-        → Roomy × ((written-degree ≡ 1) × (Leaves own (row .held .task .0) weights counters weight × (row .write < length weights)))
-    inner-writable w = rw w at d .1
+      pub inner-asks : plan ≡ Inner entries accepted weight
+          → Enterable task 1 entries accepted degrees executed run
+          × (Lightens own weight counters × Joinable i (length weights) (row .write) (length buffers))
+      inner-asks w =
+          let x : Writable (sizes .preds) own row weights counters run (getD degrees task 0) (Inner entries accepted weight) = rw w at d .1 in
+          (enterable 1 (x .0) (sym (x .1 .0)), (lightens weight (x .1 .1 .0), joinable (x .1 .1 .1)))
+
+-- The writes make the plan's updates.
+module _ (i : ℕ) (row : WeakRow) (degree entries accepted : ℕ) (degrees degrees' executed executed' run run' : List ℕ)
+    (h : Enterable (row .held .task .0) degree entries accepted degrees executed run)
+    (records : Records entries accepted degree (copyOf (row .held)) i degrees degrees' executed executed' run run') where
+  pub copy-written : (r : WeakRow) → r ≡ letGoRow (row .write) row → WritesCopy i row degrees degrees' executed executed' run run' r
+  unfolding WritesCopy written updated
+  copy-written r o m hr =
+      rw (
+        o,
+        records .lowered,
+        records .entry,
+        records .counted,
+        h .degreeWord,
+        h .entriesWord,
+        h .acceptedWord,
+        hr,
+      )
+      refl
+
+  module _ (own weight : ℕ) (counters counters' : List ℤ) (lowered : counters' ≡ set counters own (getD counters own (pos 0) -ℤ pos weight)) where
+    pub sink-written : (r : WeakRow) → r ≡ letGoRow (row .write) row
+        → WritesSink i own weight row degrees degrees' counters counters' executed executed' run run' r
+    unfolding WritesSink written updated
+    sink-written r o p m ho hr hw =
+        rw (
+          o,
+          lowered,
+          records .lowered,
+          records .entry,
+          records .counted,
+          h .degreeWord,
+          h .entriesWord,
+          h .acceptedWord,
+          ← hw,
+          ho,
+          hr,
+        )
+        refl
+
+    pub inner-written : (n : ℕ) (buffers buffers' : List ℕ) → buffers' ≡ set buffers (i * n + row .write) (row .held .task .0)
+        → (r : WeakRow) → r ≡ letGoRow (row .write + 1) row
+        → WritesInner i n own weight row degrees degrees' counters counters' buffers buffers' executed executed' run run' r
+    unfolding WritesInner written updated
+    inner-written n buffers buffers' hb r o p m ho hr hn hw =
+        rw (
+          o,
+          lowered,
+          hb,
+          records .lowered,
+          records .entry,
+          records .counted,
+          h .degreeWord,
+          h .entriesWord,
+          h .acceptedWord,
+          ← hn,
+          ← hw,
+          ho,
+          hr,
+          ← set-again (m .rows) i (withHand 0 noCopy (rowIn m i)) idle (withPlaces (rowIn m i .read) (rowIn m i .write + 1) (rowIn m i .cursor)),
+        )
+        refl
 
 -- an accepted Complete leaves the row's other words
 pub hand-and-write : (row : WeakRow) (judged : Judged) (r : WeakAdmitted) → Admits row Complete judged r → (after : WeakRow) → r ≡ admitted.To after
-    → (write : ℕ) → (a : WeakStepped)
-    → a ≡ stepped.Taken Moved (withHand (after .phase) noCopy (withPlaces (after .read) write (after .cursor) after)) → HandAndWrite row a
-hand-and-write row judged r told after v write a o = rw (o, admission-entered row Complete judged r told after v .1) refl
+    → (write : ℕ) (left : WeakRow) → left ≡ letGoRow write after → HandAndWrite row (stepped.Taken Moved left)
+hand-and-write row judged r told after v write left o = rw (o, admission-entered row Complete judged r told after v .1) refl
 
--- The step by value: its admission and its plan, then the result.
+-- The step by value: its admission, its plan and its writes, then the result.
 module _ (p k i : ℕ) (sizes : WeakSizes) (row : WeakRow) (weights succStarts degrees : List ℕ) (counters : List ℤ) (buffers executed run : List ℕ)
     (judged : Judged) (r : WeakAdmitted) (told : Admits row Complete judged r) where
   abbrev before : Mem → Mem
@@ -464,70 +555,33 @@ module _ (p k i : ℕ) (sizes : WeakSizes) (row : WeakRow) (weights succStarts d
     rule-refuses n d w limits m j e h =
         rule-refused limits p k i Complete (before m) after (enters limits m j e h) n d (follows limits m j e h (Refused n d) w)
 
-    -- the row of an accepted Complete
-    abbrev left : ℕ → WeakRow
-    left write = withHand (after .phase) noCopy (withPlaces (after .read) write (after .cursor) after)
+    module _ (entries accepted : ℕ) (degrees' executed' run' : List ℕ) (left : WeakRow) where
+      pub copy-made : (degree : ℕ) → plan ≡ Copy entries accepted degree
+          → WritesCopy i after degrees degrees' executed executed' run run' left
+          → Makes degrees' counters buffers executed' run' (stepped.Taken Moved left)
+      unfolding Completes ruleOf WritesCopy
+      copy-made degree w writes limits m j e h =
+          ap (resultOf (answer.Accepted Moved)) (writes (before m) (enters limits m j e h .leads))
+          ∙ rule-accepted limits p k i Complete (before m) after (enters limits m j e h) Moved _
+          (follows limits m j e h (Copy entries accepted degree) w)
 
-    module _ (entries accepted degree : ℕ)
-        (room : Room (length weights) (sizes .preds) run entries accepted (after .held .task .0) (getD degrees (after .held .task .0) 0))
-        (q : degree ≡ getD degrees (after .held .task .0) 0) (degrees' executed' run' : List ℕ)
-        (records : Records entries accepted degree (copyOf (after .held)) i degrees degrees' executed executed' run run') (a : WeakStepped) where
-      pub copy-made : (d : ℕ) → plan ≡ Copy entries accepted d → a ≡ stepped.Taken Moved (left (after .write))
-          → Makes degrees' counters buffers executed' run' a
-      unfolding Completes ruleOf written updated
-      copy-made d w o limits m j e h =
-          rw (
-            o,
-            records .lowered,
-            records .entry,
-            records .counted,
-            q,
-            room .entriesWord,
-            room .acceptedWord,
-            enters limits m j e h .leads,
-          )
-          (rule-accepted limits p k i Complete (before m) after (enters limits m j e h) Moved _ (follows limits m j e h (Copy entries accepted d) w))
+      module _ (weight : ℕ) (counters' : List ℤ) where
+        pub sink-made : plan ≡ Sink entries accepted weight
+            → WritesSink i own weight after degrees degrees' counters counters' executed executed' run run' left
+            → Makes degrees' counters' buffers executed' run' (stepped.Taken Moved left)
+        unfolding Completes ruleOf WritesSink
+        sink-made w writes limits m j e h =
+            let x : Writable (sizes .preds) own after weights counters run (getD degrees (after .held .task .0) 0) (Sink entries accepted weight) = rw w at decided .1 in
+            ap (resultOf (answer.Accepted Moved)) (writes p (before m) ho (enters limits m j e h .leads) (sym (x .1 .1 .weighs)))
+            ∙ rule-accepted limits p k i Complete (before m) after (enters limits m j e h) Moved _
+            (follows limits m j e h (Sink entries accepted weight) w)
 
-      module _ (weight : ℕ) (leaves : Leaves own (after .held .task .0) weights counters weight) (counters' : List ℤ)
-          (lowered : counters' ≡ set counters own (getD counters own (pos 0) -ℤ pos weight)) where
-        pub sink-made : plan ≡ Sink entries accepted weight → a ≡ stepped.Taken Moved (left (after .write))
-            → Makes degrees' counters' buffers executed' run' a
-        unfolding Completes ruleOf written updated
-        sink-made w o limits m j e h =
-            rw (
-              o,
-              lowered,
-              records .lowered,
-              records .entry,
-              records .counted,
-              q,
-              room .entriesWord,
-              room .acceptedWord,
-              leaves .weighs,
-              ho,
-              enters limits m j e h .leads,
-            )
-            (rule-accepted limits p k i Complete (before m) after (enters limits m j e h) Moved _ (follows limits m j e h (Sink entries accepted weight) w))
-
-        pub inner-made : plan ≡ Inner entries accepted weight
-            → (buffers' : List ℕ) → buffers' ≡ set buffers (i * length weights + after .write) (after .held .task .0)
-            → a ≡ stepped.Taken Moved (left (after .write + 1))
-            → Makes degrees' counters' buffers' executed' run' a
-        unfolding Completes ruleOf written updated
-        inner-made w buffers' hb o limits m j e h =
-            rw (
-              o,
-              lowered,
-              records .lowered,
-              records .entry,
-              records .counted,
-              q,
-              room .entriesWord,
-              room .acceptedWord,
-              leaves .weighs,
-              ho,
-              hb,
-              enters limits m j e h .leads,
-              ← set-again (m .rows) i (withHand 0 noCopy (rowIn m i)) idle (withPlaces (rowIn m i .read) (rowIn m i .write + 1) (rowIn m i .cursor)),
-            )
-            (rule-accepted limits p k i Complete (before m) after (enters limits m j e h) Moved _ (follows limits m j e h (Inner entries accepted weight) w))
+        pub inner-made : plan ≡ Inner entries accepted weight → (buffers' : List ℕ)
+            → WritesInner i (length weights) own weight after degrees degrees' counters counters' buffers buffers' executed executed' run run' left
+            → Makes degrees' counters' buffers' executed' run' (stepped.Taken Moved left)
+        unfolding Completes ruleOf WritesInner
+        inner-made w buffers' writes limits m j e h =
+            let x : Writable (sizes .preds) own after weights counters run (getD degrees (after .held .task .0) 0) (Inner entries accepted weight) = rw w at decided .1 in
+            ap (resultOf (answer.Accepted Moved)) (writes p (before m) ho (enters limits m j e h .leads) refl (sym (x .1 .1 .0 .weighs)))
+            ∙ rule-accepted limits p k i Complete (before m) after (enters limits m j e h) Moved _
+            (follows limits m j e h (Inner entries accepted weight) w)

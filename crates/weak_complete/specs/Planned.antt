@@ -1,39 +1,44 @@
 -- What Complete of a weak job is to do, by the words that it reads.
-use Prim.Native.Nat.{ℕ, _+_, _-_, _*_, _≤_, _<_}
+use Prim.Native.Nat.{ℕ, _+_, _*_, _≤_, _<_}
 use mathlib.Core.Path.{_≡_}
 use mathlib.Core.Bool.{true}
-use mathlib.Core.List.{List, [], _∷_}
-use lib.ListN.{length, getD, set}
+use mathlib.Core.List.{List, _∷_}
+use lib.ListN.{length, getD}
 use lib.IntN.{ℤ, pos}
-use Rattle.task.specs.Types.{engine}
 use Rattle.task.specs.declared.Step.the-variants.{Complete}
-use Rattle.weak_task.specs.Types.{Copy}
 use Rattle.weak_task.specs.declared.WeakRow.{WeakRow}
 use Rattle.weak_task.specs.declared.WeakOutcome.the-variants.{Moved}
-use Rattle.memory.specs.Updates.{storeWords}
 use Rattle.weak_rules.specs.Memory.{Mem, edges, ringNumber, bufferAt, rowIn, held}
 use Rattle.weak_rules.specs.Words.{counterFits}
-use Rattle.weak_rules.specs.Updates.{putBuffer, putPlaces}
+use Rattle.weak_rules.specs.Updates.{Update, putBuffer, putPlaces}
 use Rattle.weak_rules.specs.Plans.{Plan, refuse, accept, withCount}
 use Rattle.weak_rules.specs.Steps.{letGo, leave, lower, recordEntry, completeCopy, completeLast, completeRule}
 use Rattle.weak_admission.specs.Admission.{entered}
 use Rattle.weak_complete.specs.declared.CompletePlan.{CompletePlan}
 use Rattle.weak_complete.specs.declared.CompletePlan.the-variants as plan
 
--- a plan as the rules have it, for worker i
-abbrev pub planOf : ℕ → ℕ → Mem → CompletePlan → Plan
-planOf p i m (plan.Refused n d) = refuse n d
-planOf p i m (plan.Copy entries accepted degree) = accept Moved (withCount m (lower i m ∷ letGo i ∷ recordEntry i m))
-planOf p i m (plan.Sink entries accepted weight) = accept Moved (withCount m (lower i m ∷ leave p i m ∷ letGo i ∷ recordEntry i m))
-planOf p i m (plan.Inner entries accepted weight) =
-    accept Moved
-    (withCount m
-    (putBuffer (bufferAt m i (rowIn m i .write)) (held m i .task)
+-- what each accepted plan writes, besides that the step is counted: a copy that isn't its task's last; the last one of a sink; of another task
+abbrev pub copyUpdates : ℕ → Mem → List Update
+copyUpdates i m = lower i m ∷ letGo i ∷ recordEntry i m
+
+abbrev pub sinkUpdates : ℕ → ℕ → Mem → List Update
+sinkUpdates p i m = lower i m ∷ leave p i m ∷ letGo i ∷ recordEntry i m
+
+abbrev pub innerUpdates : ℕ → ℕ → Mem → List Update
+innerUpdates p i m =
+    putBuffer (bufferAt m i (rowIn m i .write)) (held m i .task)
     ∷ lower i m
     ∷ leave p i m
     ∷ letGo i
     ∷ putPlaces i (record { read = rowIn m i .read; write = rowIn m i .write + 1; cursor = rowIn m i .cursor })
-    ∷ recordEntry i m))
+    ∷ recordEntry i m
+
+-- a plan as the rules have it, for worker i
+abbrev pub planOf : ℕ → ℕ → Mem → CompletePlan → Plan
+planOf p i m (plan.Refused n d) = refuse n d
+planOf p i m (plan.Copy entries accepted degree) = accept Moved (withCount m (copyUpdates i m))
+planOf p i m (plan.Sink entries accepted weight) = accept Moved (withCount m (sinkUpdates p i m))
+planOf p i m (plan.Inner entries accepted weight) = accept Moved (withCount m (innerUpdates p i m))
 
 -- the plan is the rule's, in every memory with the words that are read, for a row in the phase that Complete leads to; the worker's own
 -- counter (i, i) has this number
@@ -105,18 +110,3 @@ DecidesCopy n e run task degree r =
     PlansCopy n e run r
     × ((own : ℕ) (row : WeakRow) (weights : List ℕ) (counters : List ℤ) → row .held .task .0 ≡ task → length weights ≡ n
     → Writable e own row weights counters run degree r)
-
--- what lets an entry be written, of the lengths, the task's degree and the run words
-pub record Recordable (degrees places words task degree entries accepted : ℕ) : Type 0 where
-  pub taskFits : task < degrees
-  pub lowers : 1 ≤ degree
-  pub threeWords : words ≡ 3
-  pub entry : 3 * entries + 2 < places
-  pub few : entries < engine .edges + engine .tasks
-  pub step : accepted < 4 * engine .edges + 3 * engine .tasks
-
--- the task's degree is lowered, an entry is written and counted, and the step is counted
-pub record Records (entries accepted degree : ℕ) (copy : Copy) (worker : ℕ) (degrees degrees' executed executed' run run' : List ℕ) : Type 0 where
-  pub lowered : degrees' ≡ set degrees (copy .task) (degree - 1)
-  pub entry : executed' ≡ storeWords executed (3 * entries) (copy .task ∷ copy .predecessor ∷ worker ∷ [])
-  pub counted : run' ≡ set (set run 1 (accepted + 1)) 0 (entries + 1)

@@ -5,14 +5,12 @@ ghost use mathlib.Core.List.{[], _∷_};
 ghost use Prim.Native.Nat.{_+_, _*_, _≤_, _<_};
 ghost use lib.ListN.{length, set};
 ghost use Rattle.task.specs.Types.{engine};
-ghost use Rattle.weak_task.specs.Types.{copyOf, noCopy};
-ghost use Rattle.weak_task.specs.Rows.{withHand, withPlaces};
-ghost use Rattle.weak_task.specs.declared.WeakOutcome.{WeakOutcome};
+ghost use Rattle.weak_task.specs.Types.{copyOf};
 ghost use Rattle.memory.specs.Updates.{storeWords};
 ghost use Rattle.weak_admission.specs.Admission.{Knows};
-ghost use Rattle.weak_admission.specs.declared.WeakStepped.{WeakStepped};
 ghost use Rattle.weak_complete.specs.Complete.{Completes, HandAndWrite};
-ghost use Rattle.weak_complete.specs.Planned.{Opens, Decides, DecidesLast, DecidesCopy, Recordable, Records};
+ghost use Rattle.weak_complete.specs.Planned.{Opens, Decides, DecidesLast, DecidesCopy};
+ghost use Rattle.weak_complete.specs.Written.{letGoRow, Recordable, Records, Enterable, Lightens, Joinable, WritesCopy, WritesSink, WritesInner};
 use admission::Judged;
 use task::Step;
 use task::TaskId;
@@ -27,7 +25,7 @@ use weak_task::WeakRow;
 
 // What Complete is to do: refused; a copy joins the record that isn't its task's last; the last one does, and its task is a sink, or joins
 // the buffer. With the entries word, the accepted word, and the task's degree or, for the last copy, its weight, as read.
-enum CompletePlan {
+pub enum CompletePlan {
     Refused(u32, u32),
     Copy(u32, u32, u32),
     Sink(u32, u32, u32),
@@ -86,29 +84,37 @@ fn plan_last(
     if !counters::counter_fits(counters, own) {
         return CompletePlan::Refused(refusal::DAMAGED, 0);
     }
-    let first = succ_starts[task];
     let past = succ_starts[task + 1];
-    if !((first <= past) & (past as usize <= e)) {
+    if e < past as usize {
         return CompletePlan::Refused(refusal::DAMAGED, 0);
     }
-    let sink = past - first == 0;
-    let joins = (row.read <= row.write) & ((row.write as usize) < n);
-    if !(sink | joins) {
+    let first = succ_starts[task];
+    if past <= first {
+        if past < first {
+            return CompletePlan::Refused(refusal::DAMAGED, 0);
+        }
+        let accepted = run[1];
+        if 4 * e + 3 * roots as usize <= accepted as usize {
+            return CompletePlan::Refused(refusal::DAMAGED, 0);
+        }
+        return CompletePlan::Sink(entries, accepted, weight);
+    }
+    if n <= row.write as usize {
+        return CompletePlan::Refused(refusal::DAMAGED, 0);
+    }
+    if row.write < row.read {
         return CompletePlan::Refused(refusal::DAMAGED, 0);
     }
     let accepted = run[1];
     if 4 * e + 3 * roots as usize <= accepted as usize {
         return CompletePlan::Refused(refusal::DAMAGED, 0);
     }
-    if sink {
-        return CompletePlan::Sink(entries, accepted, weight);
-    }
     CompletePlan::Inner(entries, accepted, weight)
 }
 
 // Everything is read and checked: R, the entries word, the held copy, the degree of its task, then what that degree says. R, "read just before
 // either other", is read once.
-fn plan_complete(
+pub fn plan_complete(
     weights: &[u32],
     succ_starts: &[u32],
     degrees: &[u32],
@@ -134,11 +140,11 @@ fn plan_complete(
     }
     let entries = run[0];
     let copies = e + roots as usize;
-    if copies < entries as usize {
+    if copies <= entries as usize {
+        if entries as usize == copies {
+            return CompletePlan::Refused(refusal::RECORD_FULL, 0);
+        }
         return CompletePlan::Refused(refusal::DAMAGED, 0);
-    }
-    if entries as usize == copies {
-        return CompletePlan::Refused(refusal::RECORD_FULL, 0);
     }
     let held = row.held;
     if !weak_admission::copy_fits(held, n) {
@@ -146,10 +152,10 @@ fn plan_complete(
     }
     let task = held.task;
     let degree = degrees[task.0 as usize];
-    if !((1 <= degree) & (degree as usize <= n)) {
-        return CompletePlan::Refused(refusal::DAMAGED, 0);
-    }
-    if degree == 1 {
+    if degree < 2 {
+        if degree == 0 {
+            return CompletePlan::Refused(refusal::DAMAGED, 0);
+        }
         return plan_last(
             weights,
             succ_starts,
@@ -161,6 +167,9 @@ fn plan_complete(
             entries,
             roots,
         );
+    }
+    if n < degree as usize {
+        return CompletePlan::Refused(refusal::DAMAGED, 0);
     }
     plan_copy(run, n, e, task, entries, roots, degree)
 }
@@ -205,33 +214,122 @@ fn join_record(
 
 // The task joins the worker's completed buffer, at the write place.
 fn join_buffer(buffers: &mut [u32], n: usize, worker: WorkerId, write: u32, task: TaskId)
-    requires { ⌜ (worker .0 * n + write < length (now buffers)) × (length (now buffers) ≤ engine .workers * engine .tasks) ⌝ }
+    requires { ⌜ Joinable (worker .0) n write (length (now buffers)) ⌝ }
     ensures { λ r. ⌜ now (buffers .exit) ≡ set (now (buffers .entry)) (worker .0 * n + write) (task .0) ⌝ }
 {
     buffers[worker.0 as usize * n + write as usize] = task.0;
 }
 
-// An accepted Complete: the hand becomes empty, and the write place is as given.
-fn let_go(row: WeakRow, write: u32) -> WeakStepped
-    ensures { λ r. ⌜
-        r ≡ WeakStepped.Taken WeakOutcome.Moved (withHand (row .phase) noCopy (withPlaces (row .read) write (row .cursor) row))
-        ⌝ }
+// The row after Complete: the hand becomes empty, and the write place is as given.
+fn let_go(row: WeakRow, write: u32) -> WeakRow
+    ensures { λ r. ⌜ r ≡ letGoRow write row ⌝ }
 {
     let pointer = row.pointer;
-    WeakStepped::Taken(
-        WeakOutcome::Moved,
-        WeakRow {
-            phase: row.phase,
-            held: TaskCopy {
-                task: TaskId::NIL,
-                predecessor: TaskId::NIL,
-            },
-            pointer,
-            read: row.read,
-            write,
-            cursor: row.cursor,
+    WeakRow {
+        phase: row.phase,
+        held: TaskCopy {
+            task: TaskId::NIL,
+            predecessor: TaskId::NIL,
         },
-    )
+        pointer,
+        read: row.read,
+        write,
+        cursor: row.cursor,
+    }
+}
+
+// What is written for a copy that isn't its task's last, by the words as read; the row after it.
+pub fn write_copy(
+    degrees: &mut [u32],
+    executed: &mut [u32],
+    run: &mut [u32],
+    worker: WorkerId,
+    row: WeakRow,
+    entries: u32,
+    accepted: u32,
+    degree: u32,
+) -> WeakRow
+    requires { ⌜ Enterable (row .held .task .0) degree entries accepted (now degrees) (now executed) (now run) ⌝ }
+    ensures { λ r. ⌜
+        WritesCopy (worker .0) row (now (degrees .entry)) (now (degrees .exit)) (now (executed .entry)) (now (executed .exit))
+        (now (run .entry)) (now (run .exit)) r
+        ⌝ }
+    ensures { λ r. ⌜ r ≡ letGoRow (row .write) row ⌝ }
+{
+    let held = row.held;
+    join_record(
+        degrees,
+        executed,
+        run,
+        entries,
+        accepted,
+        degree,
+        held,
+        worker,
+    );
+    let_go(row, row.write)
+}
+
+// For the last copy of a sink: its weight leaves the worker's own counter, whose number this is.
+pub fn write_sink(
+    degrees: &mut [u32],
+    counters: &mut [i32],
+    executed: &mut [u32],
+    run: &mut [u32],
+    own: usize,
+    worker: WorkerId,
+    row: WeakRow,
+    entries: u32,
+    accepted: u32,
+    weight: u32,
+) -> WeakRow
+    requires { ⌜
+        Enterable (row .held .task .0) 1 entries accepted (now degrees) (now executed) (now run) × Lightens own weight (now counters)
+        ⌝ }
+    ensures { λ r. ⌜
+        WritesSink (worker .0) own weight row (now (degrees .entry)) (now (degrees .exit)) (now (counters .entry))
+        (now (counters .exit)) (now (executed .entry)) (now (executed .exit)) (now (run .entry)) (now (run .exit)) r
+        ⌝ }
+    ensures { λ r. ⌜ r ≡ letGoRow (row .write) row ⌝ }
+{
+    let held = row.held;
+    counters::lower(counters, own, weight);
+    join_record(degrees, executed, run, entries, accepted, 1, held, worker);
+    let_go(row, row.write)
+}
+
+// For the last copy of another task, among n: the task joins the worker's buffer too.
+pub fn write_inner(
+    degrees: &mut [u32],
+    counters: &mut [i32],
+    buffers: &mut [u32],
+    executed: &mut [u32],
+    run: &mut [u32],
+    n: usize,
+    own: usize,
+    worker: WorkerId,
+    row: WeakRow,
+    entries: u32,
+    accepted: u32,
+    weight: u32,
+) -> WeakRow
+    requires { ⌜
+        Enterable (row .held .task .0) 1 entries accepted (now degrees) (now executed) (now run) × (Lightens own weight (now counters)
+        × Joinable (worker .0) n (row .write) (length (now buffers)))
+        ⌝ }
+    ensures { λ r. ⌜
+        WritesInner (worker .0) n own weight row (now (degrees .entry)) (now (degrees .exit)) (now (counters .entry))
+        (now (counters .exit)) (now (buffers .entry)) (now (buffers .exit)) (now (executed .entry)) (now (executed .exit))
+        (now (run .entry)) (now (run .exit)) r
+        ⌝ }
+    ensures { λ r. ⌜ r ≡ letGoRow (row .write + 1) row ⌝ }
+{
+    let held = row.held;
+    let task = held.task;
+    counters::lower(counters, own, weight);
+    join_record(degrees, executed, run, entries, accepted, 1, held, worker);
+    join_buffer(buffers, n, worker, row.write, task);
+    let_go(row, row.write + 1)
 }
 
 // Complete by a worker with this row, after what was judged; `sizes` are the lengths of all lent lists.
@@ -280,33 +378,52 @@ pub fn complete_row(
         own,
         after,
     );
-    let held = after.held;
     match plan {
         CompletePlan::Refused(number, detail) => WeakStepped::Refused(number, detail),
         CompletePlan::Copy(entries, accepted, degree) => {
-            join_record(
+            let left = write_copy(
                 degrees,
                 executed,
                 run,
+                worker,
+                after,
                 entries,
                 accepted,
                 degree,
-                held,
-                worker,
             );
-            let_go(after, after.write)
+            WeakStepped::Taken(WeakOutcome::Moved, left)
         }
         CompletePlan::Sink(entries, accepted, weight) => {
-            counters::lower(counters, own, weight);
-            join_record(degrees, executed, run, entries, accepted, 1, held, worker);
-            let_go(after, after.write)
+            let left = write_sink(
+                degrees,
+                counters,
+                executed,
+                run,
+                own,
+                worker,
+                after,
+                entries,
+                accepted,
+                weight,
+            );
+            WeakStepped::Taken(WeakOutcome::Moved, left)
         }
         CompletePlan::Inner(entries, accepted, weight) => {
-            let task = held.task;
-            counters::lower(counters, own, weight);
-            join_record(degrees, executed, run, entries, accepted, 1, held, worker);
-            join_buffer(buffers, weights.len(), worker, after.write, task);
-            let_go(after, after.write + 1)
+            let left = write_inner(
+                degrees,
+                counters,
+                buffers,
+                executed,
+                run,
+                weights.len(),
+                own,
+                worker,
+                after,
+                entries,
+                accepted,
+                weight,
+            );
+            WeakStepped::Taken(WeakOutcome::Moved, left)
         }
     }
 }

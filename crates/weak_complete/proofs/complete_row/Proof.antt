@@ -1,8 +1,7 @@
-use Rattle.weak_complete.proofs.Laws.{own-asks, plan-asks, counter-asks, record-asks, buffer-asks, place-asks, copy-writable, sink-writable, inner-writable, row-refused, hand-and-write, rule-refuses, copy-made, sink-made, inner-made}
-use Rattle.weak_admission.proofs.Rows.{admission-measured}
-use mathlib.Core.Path.{sym}
-use native.Mathlib.Omega.{arith}
+use Rattle.weak_complete.proofs.Laws.{plan-asks, copy-asks, sink-asks, inner-asks, row-refused, hand-and-write, rule-refuses, copy-made, sink-made, inner-made}
 use borrow.Author.Needs.{needs}
+use native.Mathlib.Omega.{arith}
+use Rattle.weak_admission.proofs.Rows.{admission-measured}
 use Rattle.weak_complete.proofs.complete_row.Statement.{statement}
 use Rattle.weak_complete.proofs.complete_row.Tie as tie
 
@@ -19,10 +18,10 @@ enum-known-admitted-2 : tie.Need-enum-known-admitted-2
 enum-known-admitted-2 c = search needs
 
 ring-number-requires : tie.Need-ring-number-requires
-ring-number-requires c κs = omega (arith, own-asks _ _ _ _ (admission-measured _ _ _ _ _ _ (c .before .before .before .before .before .before .before .before .before .before .args .judged) (c .before .before .before .before .before .before .before .before .before .before .pre .0) _ (c .before .before .before .admit .ensures) _ (c .before .admitted2 .given .1)))
+ring-number-requires c κs = omega (arith, admission-measured _ _ _ _ _ _ (c .before .before .before .before .before .before .before .before .before .before .args .judged) (c .before .before .before .before .before .before .before .before .before .before .pre .0) _ (c .before .before .before .admit .ensures) _ (c .before .admitted2 .given .1))
 
 plan-complete-requires : tie.Need-plan-complete-requires
-plan-complete-requires c κs = plan-asks _ _ _ _ (admission-measured _ _ _ _ _ _ (c .before .before .before .before .before .before .before .before .before .before .before .before .before .before .args .judged) (c .before .before .before .before .before .before .before .before .before .before .before .before .before .before .pre .0) _ (c .before .before .before .before .before .before .before .admit .ensures) _ (c .before .before .before .before .before .admitted2 .given .1)) _ (c .before .before .before .before .before .before .before .before .before .before .before .before .before .before .pre .1 .0) _ _ _ _ _ (c .before .before .before .ring-number .ensures .1) (c .before .before .before .before .before .before .before .before .before .before .before .before .before .before .pre .1 .1 .0) (c .before .before .before .before .before .before .before .before .before .before .before .before .before .before .pre .1 .1 .1 .0) (c .before .before .before .before .before .before .before .before .before .before .before .before .before .before .pre .1 .1 .1 .1 .0) (c .before .before .before .before .before .before .before .before .before .before .before .before .before .before .pre .1 .1 .1 .1 .1 .1 .1)
+plan-complete-requires c κs = plan-asks _ _ _ _ (admission-measured _ _ _ _ _ _ (c .before .before .before .before .before .before .before .before .before .before .before .before .before .before .args .judged) (c .before .before .before .before .before .before .before .before .before .before .before .before .before .before .pre .0) _ (c .before .before .before .before .before .before .before .admit .ensures) _ (c .before .before .before .before .before .admitted2 .given .1)) (c .before .before .before .before .before .before .before .before .before .before .before .before .before .before .args .weights .now) (c .before .before .before .before .before .before .before .before .before .before .before .before .before .before .args .succ-starts .now) (c .before .before .before .before .before .before .before .before .before .before .before .before .before .before .args .degrees .now) (c .before .before .before .before .before .before .before .before .before .before .before .before .before .before .args .counters .now) (c .before .before .before .before .before .before .before .before .before .before .before .before .before .before .args .buffers .now) (c .before .before .before .before .before .before .before .before .before .before .before .before .before .before .args .executed .now) (c .before .before .before .before .before .before .before .before .before .before .before .before .before .before .args .run .now) (c .before .before .before .before .before .before .before .before .before .before .before .before .before .before .pre .1) _ (c .before .before .before .ring-number .ensures .1)
 
 enum-known-plan : tie.Need-enum-known-plan
 enum-known-plan c = search needs
@@ -30,41 +29,20 @@ enum-known-plan c = search needs
 enum-known-plan-2 : tie.Need-enum-known-plan-2
 enum-known-plan-2 c = search needs
 
-join-record-requires : tie.Need-join-record-requires
-join-record-requires c κs = record-asks _ _ _ _ (admission-measured _ _ _ _ _ _ (c .before .before .before .before .before .before .before .before .before .before .before .before .before .before .before .before .before .before .before .before .before .before .args .judged) (c .before .before .before .before .before .before .before .before .before .before .before .before .before .before .before .before .before .before .before .before .before .before .pre .0) _ (c .before .before .before .before .before .before .before .before .before .before .before .before .before .before .before .admit .ensures) _ (c .before .before .before .before .before .before .before .before .before .before .before .before .before .admitted2 .given .1)) _ _ _ _ _ _ ((copy-writable _ _ _ _ _ _ _ _ _ (c .before .before .before .before .before .before .before .plan-complete .ensures) _ _ _ (c .before .before .before .before .plan2 .given .1)) .0) (c .before .before .before .before .before .before .before .before .before .before .before .before .before .before .before .before .before .before .before .before .before .before .pre .1 .0) _ ((copy-writable _ _ _ _ _ _ _ _ _ (c .before .before .before .before .before .before .before .plan-complete .ensures) _ _ _ (c .before .before .before .before .plan2 .given .1)) .1) _ _ _ (c .before .before .before .before .before .before .before .before .before .before .before .before .before .before .before .before .before .before .before .before .before .before .pre .1 .1 .1 .0) (c .before .before .before .before .before .before .before .before .before .before .before .before .before .before .before .before .before .before .before .before .before .before .pre .1 .1 .1 .1 .1 .1 .0) (c .before .before .before .before .before .before .before .before .before .before .before .before .before .before .before .before .before .before .before .before .before .before .pre .1 .1 .1 .1 .1 .1 .1)
-
-let-go-requires : tie.Need-let-go-requires
-let-go-requires c κs = search needs
+write-copy-requires : tie.Need-write-copy-requires
+write-copy-requires c κs = copy-asks _ _ _ _ (admission-measured _ _ _ _ _ _ (c .before .before .before .before .before .before .before .before .before .before .before .before .before .before .before .before .before .before .before .before .before .args .judged) (c .before .before .before .before .before .before .before .before .before .before .before .before .before .before .before .before .before .before .before .before .before .pre .0) _ (c .before .before .before .before .before .before .before .before .before .before .before .before .before .before .admit .ensures) _ (c .before .before .before .before .before .before .before .before .before .before .before .before .admitted2 .given .1)) (c .before .before .before .before .before .before .before .before .before .before .before .before .before .before .before .before .before .before .before .before .before .args .weights .now) (c .before .before .before .before .before .before .before .before .before .before .before .before .before .before .before .before .before .before .before .before .before .args .succ-starts .now) (c .before .before .before .before .before .before .before .before .before .before .before .before .before .before .before .before .before .before .before .before .before .args .degrees .now) (c .before .before .before .before .before .before .before .before .before .before .before .before .before .before .before .before .before .before .before .before .before .args .counters .now) (c .before .before .before .before .before .before .before .before .before .before .before .before .before .before .before .before .before .before .before .before .before .args .buffers .now) (c .before .before .before .before .before .before .before .before .before .before .before .before .before .before .before .before .before .before .before .before .before .args .executed .now) (c .before .before .before .before .before .before .before .before .before .before .before .before .before .before .before .before .before .before .before .before .before .args .run .now) (c .before .before .before .before .before .before .before .before .before .before .before .before .before .before .before .before .before .before .before .before .before .pre .1) _ (c .before .before .before .before .before .before .before .before .before .before .ring-number .ensures .1) _ _ (c .before .before .before .before .before .before .plan-complete .ensures) _ _ _ (c .before .before .before .before .plan2 .given .1)
 
 enum-known-plan-3 : tie.Need-enum-known-plan-3
 enum-known-plan-3 c = search needs
 
-lower-requires : tie.Need-lower-requires
-lower-requires c κs = counter-asks _ _ _ _ (admission-measured _ _ _ _ _ _ (c .before .before .before .before .before .before .before .before .before .before .before .before .before .before .before .before .before .before .before .before .args .judged) (c .before .before .before .before .before .before .before .before .before .before .before .before .before .before .before .before .before .before .before .before .pre .0) _ (c .before .before .before .before .before .before .before .before .before .before .before .before .before .admit .ensures) _ (c .before .before .before .before .before .before .before .before .before .before .before .admitted2 .given .1)) _ _ _ _ _ ((sink-writable _ _ _ _ _ _ _ _ _ (c .before .before .before .before .before .plan-complete .ensures) _ _ _ (c .before .before .plan3 .given .1)) .1 .1) (c .before .before .before .before .before .before .before .before .before .ring-number .ensures .1) (c .before .before .before .before .before .before .before .before .before .before .before .before .before .before .before .before .before .before .before .before .pre .1 .1 .1 .1 .0)
-
-join-record-requires-2 : tie.Need-join-record-requires-2
-join-record-requires-2 c κs = record-asks _ _ _ _ (admission-measured _ _ _ _ _ _ (c .before .before .before .before .before .before .before .before .before .before .before .before .before .before .before .before .before .before .before .before .before .before .before .before .before .args .judged) (c .before .before .before .before .before .before .before .before .before .before .before .before .before .before .before .before .before .before .before .before .before .before .before .before .before .pre .0) _ (c .before .before .before .before .before .before .before .before .before .before .before .before .before .before .before .before .before .before .admit .ensures) _ (c .before .before .before .before .before .before .before .before .before .before .before .before .before .before .before .before .admitted2 .given .1)) _ _ _ _ _ _ ((sink-writable _ _ _ _ _ _ _ _ _ (c .before .before .before .before .before .before .before .before .before .before .plan-complete .ensures) _ _ _ (c .before .before .before .before .before .before .before .plan3 .given .1)) .0) (c .before .before .before .before .before .before .before .before .before .before .before .before .before .before .before .before .before .before .before .before .before .before .before .before .before .pre .1 .0) _ (sym ((sink-writable _ _ _ _ _ _ _ _ _ (c .before .before .before .before .before .before .before .before .before .before .plan-complete .ensures) _ _ _ (c .before .before .before .before .before .before .before .plan3 .given .1)) .1 .0)) _ _ _ (c .before .before .before .before .before .before .before .before .before .before .before .before .before .before .before .before .before .before .before .before .before .before .before .before .before .pre .1 .1 .1 .0) (c .before .before .before .before .before .before .before .before .before .before .before .before .before .before .before .before .before .before .before .before .before .before .before .before .before .pre .1 .1 .1 .1 .1 .1 .0) (c .before .before .before .before .before .before .before .before .before .before .before .before .before .before .before .before .before .before .before .before .before .before .before .before .before .pre .1 .1 .1 .1 .1 .1 .1)
-
-let-go-requires-2 : tie.Need-let-go-requires-2
-let-go-requires-2 c κs = search needs
+write-sink-requires : tie.Need-write-sink-requires
+write-sink-requires c κs = sink-asks _ _ _ _ (admission-measured _ _ _ _ _ _ (c .before .before .before .before .before .before .before .before .before .before .before .before .before .before .before .before .before .before .before .before .before .before .args .judged) (c .before .before .before .before .before .before .before .before .before .before .before .before .before .before .before .before .before .before .before .before .before .before .pre .0) _ (c .before .before .before .before .before .before .before .before .before .before .before .before .before .before .before .admit .ensures) _ (c .before .before .before .before .before .before .before .before .before .before .before .before .before .admitted2 .given .1)) (c .before .before .before .before .before .before .before .before .before .before .before .before .before .before .before .before .before .before .before .before .before .before .args .weights .now) (c .before .before .before .before .before .before .before .before .before .before .before .before .before .before .before .before .before .before .before .before .before .before .args .succ-starts .now) (c .before .before .before .before .before .before .before .before .before .before .before .before .before .before .before .before .before .before .before .before .before .before .args .degrees .now) (c .before .before .before .before .before .before .before .before .before .before .before .before .before .before .before .before .before .before .before .before .before .before .args .counters .now) (c .before .before .before .before .before .before .before .before .before .before .before .before .before .before .before .before .before .before .before .before .before .before .args .buffers .now) (c .before .before .before .before .before .before .before .before .before .before .before .before .before .before .before .before .before .before .before .before .before .before .args .executed .now) (c .before .before .before .before .before .before .before .before .before .before .before .before .before .before .before .before .before .before .before .before .before .before .args .run .now) (c .before .before .before .before .before .before .before .before .before .before .before .before .before .before .before .before .before .before .before .before .before .before .pre .1) _ (c .before .before .before .before .before .before .before .before .before .before .before .ring-number .ensures .1) _ _ (c .before .before .before .before .before .before .before .plan-complete .ensures) _ _ _ (c .before .before .before .before .before .plan3 .given .1)
 
 enum-known-plan-4 : tie.Need-enum-known-plan-4
 enum-known-plan-4 c = search needs
 
-lower-requires-2 : tie.Need-lower-requires-2
-lower-requires-2 c κs = counter-asks _ _ _ _ (admission-measured _ _ _ _ _ _ (c .before .before .before .before .before .before .before .before .before .before .before .before .before .before .before .before .before .before .before .before .before .args .judged) (c .before .before .before .before .before .before .before .before .before .before .before .before .before .before .before .before .before .before .before .before .before .pre .0) _ (c .before .before .before .before .before .before .before .before .before .before .before .before .before .before .admit .ensures) _ (c .before .before .before .before .before .before .before .before .before .before .before .before .admitted2 .given .1)) _ _ _ _ _ ((inner-writable _ _ _ _ _ _ _ _ _ (c .before .before .before .before .before .before .plan-complete .ensures) _ _ _ (c .before .before .before .plan4 .given .1)) .1 .1 .0) (c .before .before .before .before .before .before .before .before .before .before .ring-number .ensures .1) (c .before .before .before .before .before .before .before .before .before .before .before .before .before .before .before .before .before .before .before .before .before .pre .1 .1 .1 .1 .0)
-
-join-record-requires-3 : tie.Need-join-record-requires-3
-join-record-requires-3 c κs = record-asks _ _ _ _ (admission-measured _ _ _ _ _ _ (c .before .before .before .before .before .before .before .before .before .before .before .before .before .before .before .before .before .before .before .before .before .before .before .before .before .before .args .judged) (c .before .before .before .before .before .before .before .before .before .before .before .before .before .before .before .before .before .before .before .before .before .before .before .before .before .before .pre .0) _ (c .before .before .before .before .before .before .before .before .before .before .before .before .before .before .before .before .before .before .before .admit .ensures) _ (c .before .before .before .before .before .before .before .before .before .before .before .before .before .before .before .before .before .admitted2 .given .1)) _ _ _ _ _ _ ((inner-writable _ _ _ _ _ _ _ _ _ (c .before .before .before .before .before .before .before .before .before .before .before .plan-complete .ensures) _ _ _ (c .before .before .before .before .before .before .before .before .plan4 .given .1)) .0) (c .before .before .before .before .before .before .before .before .before .before .before .before .before .before .before .before .before .before .before .before .before .before .before .before .before .before .pre .1 .0) _ (sym ((inner-writable _ _ _ _ _ _ _ _ _ (c .before .before .before .before .before .before .before .before .before .before .before .plan-complete .ensures) _ _ _ (c .before .before .before .before .before .before .before .before .plan4 .given .1)) .1 .0)) _ _ _ (c .before .before .before .before .before .before .before .before .before .before .before .before .before .before .before .before .before .before .before .before .before .before .before .before .before .before .pre .1 .1 .1 .0) (c .before .before .before .before .before .before .before .before .before .before .before .before .before .before .before .before .before .before .before .before .before .before .before .before .before .before .pre .1 .1 .1 .1 .1 .1 .0) (c .before .before .before .before .before .before .before .before .before .before .before .before .before .before .before .before .before .before .before .before .before .before .before .before .before .before .pre .1 .1 .1 .1 .1 .1 .1)
-
-join-buffer-requires : tie.Need-join-buffer-requires
-join-buffer-requires c κs = buffer-asks _ _ _ _ (admission-measured _ _ _ _ _ _ (c .before .before .before .before .before .before .before .before .before .before .before .before .before .before .before .before .before .before .before .before .before .before .before .before .before .before .before .before .before .before .before .before .before .before .args .judged) (c .before .before .before .before .before .before .before .before .before .before .before .before .before .before .before .before .before .before .before .before .before .before .before .before .before .before .before .before .before .before .before .before .before .before .pre .0) _ (c .before .before .before .before .before .before .before .before .before .before .before .before .before .before .before .before .before .before .before .before .before .before .before .before .before .before .before .admit .ensures) _ (c .before .before .before .before .before .before .before .before .before .before .before .before .before .before .before .before .before .before .before .before .before .before .before .before .before .admitted2 .given .1)) _ (c .before .before .before .before .before .before .before .before .before .before .before .before .before .before .before .before .before .before .before .before .before .before .before .before .before .before .before .before .before .before .before .before .before .before .pre .1 .0) _ _ (c .before .before .before .before .before .before .before .before .before .before .before .before .before .before .before .before .before .before .before .before .before .before .before .before .before .before .before .before .before .before .before .before .before .before .pre .1 .1 .1 .1 .1 .0) ((inner-writable _ _ _ _ _ _ _ _ _ (c .before .before .before .before .before .before .before .before .before .before .before .before .before .before .before .before .before .before .before .plan-complete .ensures) _ _ _ (c .before .before .before .before .before .before .before .before .before .before .before .before .before .before .before .before .plan4 .given .1)) .1 .1 .1)
-
-add-let-go : tie.Need-add-let-go
-add-let-go c = omega (arith, place-asks _ _ _ _ (admission-measured _ _ _ _ _ _ (c .before .before .before .before .before .before .before .before .before .before .before .before .before .before .before .before .before .before .before .before .before .before .before .before .before .before .before .before .before .before .before .before .before .before .before .before .before .before .args .judged) (c .before .before .before .before .before .before .before .before .before .before .before .before .before .before .before .before .before .before .before .before .before .before .before .before .before .before .before .before .before .before .before .before .before .before .before .before .before .before .pre .0) _ (c .before .before .before .before .before .before .before .before .before .before .before .before .before .before .before .before .before .before .before .before .before .before .before .before .before .before .before .before .before .before .before .admit .ensures) _ (c .before .before .before .before .before .before .before .before .before .before .before .before .before .before .before .before .before .before .before .before .before .before .before .before .before .before .before .before .before .admitted2 .given .1)) _ (c .before .before .before .before .before .before .before .before .before .before .before .before .before .before .before .before .before .before .before .before .before .before .before .before .before .before .before .before .before .before .before .before .before .before .before .before .before .before .pre .1 .0) _ ((inner-writable _ _ _ _ _ _ _ _ _ (c .before .before .before .before .before .before .before .before .before .before .before .before .before .before .before .before .before .before .before .before .before .before .before .plan-complete .ensures) _ _ _ (c .before .before .before .before .before .before .before .before .before .before .before .before .before .before .before .before .before .before .before .before .plan4 .given .1)) .1 .1 .1))
-
-let-go-requires-3 : tie.Need-let-go-requires-3
-let-go-requires-3 c κs = search needs
+write-inner-requires : tie.Need-write-inner-requires
+write-inner-requires c κs = inner-asks _ _ _ _ (admission-measured _ _ _ _ _ _ (c .before .before .before .before .before .before .before .before .before .before .before .before .before .before .before .before .before .before .before .before .before .before .before .args .judged) (c .before .before .before .before .before .before .before .before .before .before .before .before .before .before .before .before .before .before .before .before .before .before .before .pre .0) _ (c .before .before .before .before .before .before .before .before .before .before .before .before .before .before .before .before .admit .ensures) _ (c .before .before .before .before .before .before .before .before .before .before .before .before .before .before .admitted2 .given .1)) (c .before .before .before .before .before .before .before .before .before .before .before .before .before .before .before .before .before .before .before .before .before .before .before .args .weights .now) (c .before .before .before .before .before .before .before .before .before .before .before .before .before .before .before .before .before .before .before .before .before .before .before .args .succ-starts .now) (c .before .before .before .before .before .before .before .before .before .before .before .before .before .before .before .before .before .before .before .before .before .before .before .args .degrees .now) (c .before .before .before .before .before .before .before .before .before .before .before .before .before .before .before .before .before .before .before .before .before .before .before .args .counters .now) (c .before .before .before .before .before .before .before .before .before .before .before .before .before .before .before .before .before .before .before .before .before .before .before .args .buffers .now) (c .before .before .before .before .before .before .before .before .before .before .before .before .before .before .before .before .before .before .before .before .before .before .before .args .executed .now) (c .before .before .before .before .before .before .before .before .before .before .before .before .before .before .before .before .before .before .before .before .before .before .before .args .run .now) (c .before .before .before .before .before .before .before .before .before .before .before .before .before .before .before .before .before .before .before .before .before .before .before .pre .1) _ (c .before .before .before .before .before .before .before .before .before .before .before .before .ring-number .ensures .1) _ _ (c .before .before .before .before .before .before .before .before .plan-complete .ensures) _ _ _ (c .before .before .before .before .before .before .plan4 .given .1)
 
 same-length : tie.Need-same-length
 same-length c = search needs
@@ -76,7 +54,7 @@ same-length-3 : tie.Need-same-length-3
 same-length-3 c = search needs
 
 returns-2 : tie.Need-returns-2
-returns-2 c = (rule-refuses _ _ _ _ _ _ _ _ _ _ _ _ (c .before .before .before .before .before .before .before .before .before .before .before .before .before .before .before .before .before .before .before .args .judged) _ (c .before .before .before .before .before .before .before .before .before .before .before .before .admit .ensures) _ (c .before .before .before .before .before .before .before .before .before .before .admitted2 .given .1) _ (c .before .before .before .before .before .before .before .before .ring-number .ensures .0) _ (c .before .before .before .before .plan-complete .ensures) _ _ (c .before .plan .given .1), tt)
+returns-2 c = (rule-refuses _ _ _ _ _ _ _ _ _ _ _ _ (c .before .before .before .before .before .before .before .before .before .before .before .before .before .before .before .before .before .before .args .judged) _ (c .before .before .before .before .before .before .before .before .before .before .before .admit .ensures) _ (c .before .before .before .before .before .before .before .before .before .admitted2 .given .1) _ (c .before .before .before .before .before .before .before .ring-number .ensures .0) _ (c .before .before .before .plan-complete .ensures) _ _ (c .before .plan .given .1), tt)
 
 same-length-4 : tie.Need-same-length-4
 same-length-4 c = search needs
@@ -91,7 +69,7 @@ same-length-7 : tie.Need-same-length-7
 same-length-7 c = search needs
 
 returns-3 : tie.Need-returns-3
-returns-3 c = (copy-made _ _ _ _ _ _ _ _ _ _ _ _ (c .before .before .before .before .before .before .before .before .before .before .before .before .before .before .before .before .before .before .before .before .before .before .before .before .before .before .before .before .before .before .args .judged) _ (c .before .before .before .before .before .before .before .before .before .before .before .before .before .before .before .before .before .before .before .before .before .before .before .admit .ensures) _ (c .before .before .before .before .before .before .before .before .before .before .before .before .before .before .before .before .before .before .before .before .before .admitted2 .given .1) _ (c .before .before .before .before .before .before .before .before .before .before .before .before .before .before .before .before .before .before .before .ring-number .ensures .0) _ (c .before .before .before .before .before .before .before .before .before .before .before .before .before .before .before .plan-complete .ensures) _ _ _ ((copy-writable _ _ _ _ _ _ _ _ _ (c .before .before .before .before .before .before .before .before .before .before .before .before .before .before .before .plan-complete .ensures) _ _ _ (c .before .before .before .before .before .before .before .before .before .before .before .before .plan2 .given .1)) .0) ((copy-writable _ _ _ _ _ _ _ _ _ (c .before .before .before .before .before .before .before .before .before .before .before .before .before .before .before .plan-complete .ensures) _ _ _ (c .before .before .before .before .before .before .before .before .before .before .before .before .plan2 .given .1)) .1) _ _ _ (c .before .before .before .before .before .before .before .join-record .ensures) _ _ (c .before .before .before .before .before .before .before .before .before .before .before .before .plan2 .given .1) (c .let-go .ensures), hand-and-write _ (c .before .before .before .before .before .before .before .before .before .before .before .before .before .before .before .before .before .before .before .before .before .before .before .before .before .before .before .before .before .before .args .judged) _ (c .before .before .before .before .before .before .before .before .before .before .before .before .before .before .before .before .before .before .before .before .before .before .before .admit .ensures) _ (c .before .before .before .before .before .before .before .before .before .before .before .before .before .before .before .before .before .before .before .before .before .admitted2 .given .1) _ _ (c .let-go .ensures))
+returns-3 c = (copy-made _ _ _ _ _ _ _ _ _ _ _ _ (c .before .before .before .before .before .before .before .before .before .before .before .before .before .before .before .before .before .before .before .before .before .before .before .before .before .before .before .before .args .judged) _ (c .before .before .before .before .before .before .before .before .before .before .before .before .before .before .before .before .before .before .before .before .before .admit .ensures) _ (c .before .before .before .before .before .before .before .before .before .before .before .before .before .before .before .before .before .before .before .admitted2 .given .1) _ (c .before .before .before .before .before .before .before .before .before .before .before .before .before .before .before .before .before .ring-number .ensures .0) _ (c .before .before .before .before .before .before .before .before .before .before .before .before .before .plan-complete .ensures) _ _ _ _ _ _ _ (c .before .before .before .before .before .before .before .before .before .before .before .plan2 .given .1) (c .before .before .before .before .before .before .write-copy .ensures .0), hand-and-write _ (c .before .before .before .before .before .before .before .before .before .before .before .before .before .before .before .before .before .before .before .before .before .before .before .before .before .before .before .before .args .judged) _ (c .before .before .before .before .before .before .before .before .before .before .before .before .before .before .before .before .before .before .before .before .before .admit .ensures) _ (c .before .before .before .before .before .before .before .before .before .before .before .before .before .before .before .before .before .before .before .admitted2 .given .1) _ _ (c .before .before .before .before .before .before .write-copy .ensures .1))
 
 same-length-8 : tie.Need-same-length-8
 same-length-8 c = search needs
@@ -106,7 +84,7 @@ same-length-11 : tie.Need-same-length-11
 same-length-11 c = search needs
 
 returns-4 : tie.Need-returns-4
-returns-4 c = (sink-made _ _ _ _ _ _ _ _ _ _ _ _ (c .before .before .before .before .before .before .before .before .before .before .before .before .before .before .before .before .before .before .before .before .before .before .before .before .before .before .before .before .before .before .before .before .before .args .judged) _ (c .before .before .before .before .before .before .before .before .before .before .before .before .before .before .before .before .before .before .before .before .before .before .before .before .before .before .admit .ensures) _ (c .before .before .before .before .before .before .before .before .before .before .before .before .before .before .before .before .before .before .before .before .before .before .before .before .admitted2 .given .1) _ (c .before .before .before .before .before .before .before .before .before .before .before .before .before .before .before .before .before .before .before .before .before .before .ring-number .ensures .0) _ (c .before .before .before .before .before .before .before .before .before .before .before .before .before .before .before .before .before .before .plan-complete .ensures) _ _ _ ((sink-writable _ _ _ _ _ _ _ _ _ (c .before .before .before .before .before .before .before .before .before .before .before .before .before .before .before .before .before .before .plan-complete .ensures) _ _ _ (c .before .before .before .before .before .before .before .before .before .before .before .before .before .before .before .plan3 .given .1)) .0) (sym ((sink-writable _ _ _ _ _ _ _ _ _ (c .before .before .before .before .before .before .before .before .before .before .before .before .before .before .before .before .before .before .plan-complete .ensures) _ _ _ (c .before .before .before .before .before .before .before .before .before .before .before .before .before .before .before .plan3 .given .1)) .1 .0)) _ _ _ (c .before .before .before .before .before .before .before .join-record2 .ensures) _ _ ((sink-writable _ _ _ _ _ _ _ _ _ (c .before .before .before .before .before .before .before .before .before .before .before .before .before .before .before .before .before .before .plan-complete .ensures) _ _ _ (c .before .before .before .before .before .before .before .before .before .before .before .before .before .before .before .plan3 .given .1)) .1 .1) _ (c .before .before .before .before .before .before .before .before .before .before .before .before .lower .ensures) (c .before .before .before .before .before .before .before .before .before .before .before .before .before .before .before .plan3 .given .1) (c .let-go2 .ensures), hand-and-write _ (c .before .before .before .before .before .before .before .before .before .before .before .before .before .before .before .before .before .before .before .before .before .before .before .before .before .before .before .before .before .before .before .before .before .args .judged) _ (c .before .before .before .before .before .before .before .before .before .before .before .before .before .before .before .before .before .before .before .before .before .before .before .before .before .before .admit .ensures) _ (c .before .before .before .before .before .before .before .before .before .before .before .before .before .before .before .before .before .before .before .before .before .before .before .before .admitted2 .given .1) _ _ (c .let-go2 .ensures))
+returns-4 c = (sink-made _ _ _ _ _ _ _ _ _ _ _ _ (c .before .before .before .before .before .before .before .before .before .before .before .before .before .before .before .before .before .before .before .before .before .before .before .before .before .before .before .before .before .before .args .judged) _ (c .before .before .before .before .before .before .before .before .before .before .before .before .before .before .before .before .before .before .before .before .before .before .before .admit .ensures) _ (c .before .before .before .before .before .before .before .before .before .before .before .before .before .before .before .before .before .before .before .before .before .admitted2 .given .1) _ (c .before .before .before .before .before .before .before .before .before .before .before .before .before .before .before .before .before .before .before .ring-number .ensures .0) _ (c .before .before .before .before .before .before .before .before .before .before .before .before .before .before .before .plan-complete .ensures) _ _ _ _ _ _ _ _ (c .before .before .before .before .before .before .before .before .before .before .before .before .before .plan3 .given .1) (c .before .before .before .before .before .before .before .write-sink .ensures .0), hand-and-write _ (c .before .before .before .before .before .before .before .before .before .before .before .before .before .before .before .before .before .before .before .before .before .before .before .before .before .before .before .before .before .before .args .judged) _ (c .before .before .before .before .before .before .before .before .before .before .before .before .before .before .before .before .before .before .before .before .before .before .before .admit .ensures) _ (c .before .before .before .before .before .before .before .before .before .before .before .before .before .before .before .before .before .before .before .before .before .admitted2 .given .1) _ _ (c .before .before .before .before .before .before .before .write-sink .ensures .1))
 
 same-length-12 : tie.Need-same-length-12
 same-length-12 c = search needs
@@ -124,7 +102,7 @@ same-length-16 : tie.Need-same-length-16
 same-length-16 c = search needs
 
 returns-5 : tie.Need-returns-5
-returns-5 c = (inner-made _ _ _ _ _ _ _ _ _ _ _ _ (c .before .before .before .before .before .before .before .before .before .before .before .before .before .before .before .before .before .before .before .before .before .before .before .before .before .before .before .before .before .before .before .before .before .before .before .before .before .before .before .args .judged) _ (c .before .before .before .before .before .before .before .before .before .before .before .before .before .before .before .before .before .before .before .before .before .before .before .before .before .before .before .before .before .before .before .before .admit .ensures) _ (c .before .before .before .before .before .before .before .before .before .before .before .before .before .before .before .before .before .before .before .before .before .before .before .before .before .before .before .before .before .before .admitted2 .given .1) _ (c .before .before .before .before .before .before .before .before .before .before .before .before .before .before .before .before .before .before .before .before .before .before .before .before .before .before .before .before .ring-number .ensures .0) _ (c .before .before .before .before .before .before .before .before .before .before .before .before .before .before .before .before .before .before .before .before .before .before .before .before .plan-complete .ensures) _ _ _ ((inner-writable _ _ _ _ _ _ _ _ _ (c .before .before .before .before .before .before .before .before .before .before .before .before .before .before .before .before .before .before .before .before .before .before .before .before .plan-complete .ensures) _ _ _ (c .before .before .before .before .before .before .before .before .before .before .before .before .before .before .before .before .before .before .before .before .before .plan4 .given .1)) .0) (sym ((inner-writable _ _ _ _ _ _ _ _ _ (c .before .before .before .before .before .before .before .before .before .before .before .before .before .before .before .before .before .before .before .before .before .before .before .before .plan-complete .ensures) _ _ _ (c .before .before .before .before .before .before .before .before .before .before .before .before .before .before .before .before .before .before .before .before .before .plan4 .given .1)) .1 .0)) _ _ _ (c .before .before .before .before .before .before .before .before .before .before .before .before .join-record3 .ensures) _ _ ((inner-writable _ _ _ _ _ _ _ _ _ (c .before .before .before .before .before .before .before .before .before .before .before .before .before .before .before .before .before .before .before .before .before .before .before .before .plan-complete .ensures) _ _ _ (c .before .before .before .before .before .before .before .before .before .before .before .before .before .before .before .before .before .before .before .before .before .plan4 .given .1)) .1 .1 .0) _ (c .before .before .before .before .before .before .before .before .before .before .before .before .before .before .before .before .before .lower2 .ensures) (c .before .before .before .before .before .before .before .before .before .before .before .before .before .before .before .before .before .before .before .before .before .plan4 .given .1) _ (c .before .before .before .before .join-buffer .ensures) (c .let-go3 .ensures), hand-and-write _ (c .before .before .before .before .before .before .before .before .before .before .before .before .before .before .before .before .before .before .before .before .before .before .before .before .before .before .before .before .before .before .before .before .before .before .before .before .before .before .before .args .judged) _ (c .before .before .before .before .before .before .before .before .before .before .before .before .before .before .before .before .before .before .before .before .before .before .before .before .before .before .before .before .before .before .before .before .admit .ensures) _ (c .before .before .before .before .before .before .before .before .before .before .before .before .before .before .before .before .before .before .before .before .before .before .before .before .before .before .before .before .before .before .admitted2 .given .1) _ _ (c .let-go3 .ensures))
+returns-5 c = (inner-made _ _ _ _ _ _ _ _ _ _ _ _ (c .before .before .before .before .before .before .before .before .before .before .before .before .before .before .before .before .before .before .before .before .before .before .before .before .before .before .before .before .before .before .before .before .before .args .judged) _ (c .before .before .before .before .before .before .before .before .before .before .before .before .before .before .before .before .before .before .before .before .before .before .before .before .before .before .admit .ensures) _ (c .before .before .before .before .before .before .before .before .before .before .before .before .before .before .before .before .before .before .before .before .before .before .before .before .admitted2 .given .1) _ (c .before .before .before .before .before .before .before .before .before .before .before .before .before .before .before .before .before .before .before .before .before .before .ring-number .ensures .0) _ (c .before .before .before .before .before .before .before .before .before .before .before .before .before .before .before .before .before .before .plan-complete .ensures) _ _ _ _ _ _ _ _ (c .before .before .before .before .before .before .before .before .before .before .before .before .before .before .before .before .plan4 .given .1) _ (c .before .before .before .before .before .before .before .before .before .write-inner .ensures .0), hand-and-write _ (c .before .before .before .before .before .before .before .before .before .before .before .before .before .before .before .before .before .before .before .before .before .before .before .before .before .before .before .before .before .before .before .before .before .args .judged) _ (c .before .before .before .before .before .before .before .before .before .before .before .before .before .before .before .before .before .before .before .before .before .before .before .before .before .before .admit .ensures) _ (c .before .before .before .before .before .before .before .before .before .before .before .before .before .before .before .before .before .before .before .before .before .before .before .before .admitted2 .given .1) _ _ (c .before .before .before .before .before .before .before .before .before .write-inner .ensures .1))
 
 pub complete-row-spec : {M : Type 1} → statement M
 complete-row-spec =
@@ -138,18 +116,11 @@ complete-row-spec =
     plan-complete-requires
     enum-known-plan
     enum-known-plan-2
-    join-record-requires
-    let-go-requires
+    write-copy-requires
     enum-known-plan-3
-    lower-requires
-    join-record-requires-2
-    let-go-requires-2
+    write-sink-requires
     enum-known-plan-4
-    lower-requires-2
-    join-record-requires-3
-    join-buffer-requires
-    add-let-go
-    let-go-requires-3
+    write-inner-requires
     same-length
     same-length-2
     same-length-3

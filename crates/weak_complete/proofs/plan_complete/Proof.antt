@@ -1,5 +1,6 @@
-use Rattle.weak_complete.proofs.Laws.{plan-roots, plan-over, plan-full, plan-held, plan-degree, plan-last, plan-copy, held-within, opens, opens-last}
 use native.Mathlib.Omega.{arith}
+use mir.Facts.{fits-32-64}
+use Rattle.weak_complete.proofs.Laws.{plan-roots, plan-full, plan-over, plan-held, plan-none, plan-beyond, plan-last, plan-copy, held-within, opens}
 use borrow.Author.Needs.{needs}
 use Rattle.weak_complete.proofs.plan_complete.Statement.{statement}
 use Rattle.weak_complete.proofs.plan_complete.Tie as tie
@@ -8,7 +9,7 @@ shared-slice-read-roots : tie.Need-shared-slice-read-roots
 shared-slice-read-roots c = search needs
 
 cast-if1 : tie.Need-cast-if1
-cast-if1 c = omega (arith, c .shared-slice-known5 .given 2)
+cast-if1 c = fits-32-64 (c .shared-slice-known5 .given _)
 
 returns : tie.Need-returns
 returns c = plan-roots _ _ _ _ _ _ _ _ (c .if1 .taken)
@@ -23,22 +24,22 @@ add-copies : tie.Need-add-copies
 add-copies c = search needs
 
 cast-if2 : tie.Need-cast-if2
-cast-if2 c = omega (arith, c .shared-slice-known6 .given 0)
-
-returns-2 : tie.Need-returns-2
-returns-2 c = plan-over _ _ _ _ _ _ _ _ (c .before .before .if1 .left) (c .if2 .taken)
+cast-if2 c = fits-32-64 (c .shared-slice-known6 .given _)
 
 cast-if3 : tie.Need-cast-if3
-cast-if3 c = search needs
+cast-if3 c = fits-32-64 (c .before .shared-slice-known6 .given _)
+
+returns-2 : tie.Need-returns-2
+returns-2 c = plan-full _ _ _ _ _ _ _ _ (c .before .before .before .if1 .left) (c .if3 .taken)
 
 returns-3 : tie.Need-returns-3
-returns-3 c = plan-full _ _ _ _ _ _ _ _ (c .before .before .before .if1 .left) (c .before .if2 .left) (c .if3 .taken)
+returns-3 c = plan-over _ _ _ _ _ _ _ _ (c .before .before .before .if1 .left) (c .before .if2 .taken) (c .if3 .left)
 
 copy-fits-requires : tie.Need-copy-fits-requires
 copy-fits-requires c κs = search needs
 
 returns-4 : tie.Need-returns-4
-returns-4 c = plan-held _ _ _ _ _ _ _ _ (c .before .before .before .before .before .before .if1 .left) (c .before .before .before .before .if2 .left) (c .before .before .before .if3 .left) _ (c .before .copy-fits .ensures) (c .if4 .taken)
+returns-4 c = plan-held _ _ _ _ _ _ _ _ (c .before .before .before .before .before .if1 .left) (c .before .before .before .if2 .left) _ (c .before .copy-fits .ensures) (c .if4 .taken)
 
 cast-degree : tie.Need-cast-degree
 cast-degree c = search needs
@@ -47,25 +48,28 @@ mul-degree : tie.Need-mul-degree
 mul-degree c = search needs
 
 shared-slice-read-degree : tie.Need-shared-slice-read-degree
-shared-slice-read-degree c = omega (arith, held-within (c .before .before .before .before .before .before .before .before .before .before .before .before .before .before .before .args .row .held) _ _ (c .before .before .before .before .copy-fits .ensures) (c .before .before .before .if4 .left), c .before .before .before .before .before .before .before .before .before .before .before .before .before .before .before .pre .1 .1 .1 .0)
-
-cast-if5 : tie.Need-cast-if5
-cast-if5 c = omega (arith, c .shared-slice-known7 .given (c .before .before .before .before .before .before .before .before .before .before .before .before .before .before .before .args .row .held .task .0))
+shared-slice-read-degree c = omega (arith, held-within (c .before .before .before .before .before .before .before .before .before .before .before .before .before .before .args .row .held) _ _ (c .before .before .before .before .copy-fits .ensures) (c .before .before .before .if4 .left), c .before .before .before .before .before .before .before .before .before .before .before .before .before .before .pre .1 .1 .1 .0)
 
 returns-5 : tie.Need-returns-5
-returns-5 c = plan-degree _ _ _ _ _ _ _ _ (c .before .before .before .before .before .before .before .before .before .before .if1 .left) (c .before .before .before .before .before .before .before .before .if2 .left) (c .before .before .before .before .before .before .before .if3 .left) _ (c .before .before .before .before .before .copy-fits .ensures) (c .before .before .before .before .if4 .left) (c .if5 .taken)
+returns-5 c = plan-none _ _ _ _ _ _ _ _ (c .before .before .before .before .before .before .before .before .before .before .if1 .left) (c .before .before .before .before .before .before .before .before .if2 .left) _ (c .before .before .before .before .before .before .copy-fits .ensures) (c .before .before .before .before .before .if4 .left) (c .if6 .taken)
 
 plan-last-requires : tie.Need-plan-last-requires
-plan-last-requires c κs = ((c .before .before .before .before .before .before .before .before .before .before .before .before .before .before .before .before .before .pre .0), ((c .before .before .before .before .before .before .before .before .before .before .before .before .before .before .before .before .before .pre .1 .0), ((c .before .before .before .before .before .before .before .before .before .before .before .before .before .before .before .before .before .pre .1 .1 .0), ((c .before .before .before .before .before .before .before .before .before .before .before .before .before .before .before .before .before .pre .1 .1 .1 .1 .0), ((c .before .before .before .before .before .before .before .before .before .before .before .before .before .before .before .before .before .pre .1 .1 .1 .1 .1), opens-last _ _ _ (c .before .before .before .before .before .before .before .before .before .before .before .before .before .before .before .before .before .args .row .held) _ (c .before .before .before .before .before .before .before .before .before .before .before .if1 .left) (c .before .before .before .before .before .before .before .before .before .if2 .left) (c .before .before .before .before .before .before .before .before .if3 .left) _ (c .before .before .before .before .before .before .copy-fits .ensures) (c .before .before .before .before .before .if4 .left) (c .before .if5 .left) (c .if6 .taken))))))
+plan-last-requires c κs = (c .before .before .before .before .before .before .before .before .before .before .before .before .before .before .before .before .pre .0, (c .before .before .before .before .before .before .before .before .before .before .before .before .before .before .before .before .pre .1 .0, (c .before .before .before .before .before .before .before .before .before .before .before .before .before .before .before .before .pre .1 .1 .0, (c .before .before .before .before .before .before .before .before .before .before .before .before .before .before .before .before .pre .1 .1 .1 .1 .0, (c .before .before .before .before .before .before .before .before .before .before .before .before .before .before .before .before .pre .1 .1 .1 .1 .1, opens _ _ _ (c .before .before .before .before .before .before .before .before .before .before .before .before .before .before .before .before .args .row .held) 1 (c .before .before .before .before .before .before .before .before .before .before .if1 .left) (c .before .before .before .before .before .before .before .before .if2 .left) _ (c .before .before .before .before .before .before .copy-fits .ensures) (c .before .before .before .before .before .if4 .left) (omega arith))))))
 
 returns-6 : tie.Need-returns-6
-returns-6 c = plan-last _ _ _ _ _ _ _ _ (c .before .before .before .before .before .before .before .before .before .before .before .before .if1 .left) (c .before .before .before .before .before .before .before .before .before .before .if2 .left) (c .before .before .before .before .before .before .before .before .before .if3 .left) _ (c .before .before .before .before .before .before .before .copy-fits .ensures) (c .before .before .before .before .before .before .if4 .left) (c .before .before .if5 .left) (c .before .if6 .taken) (c .plan-last .result) (c .plan-last .ensures)
+returns-6 c = plan-last _ _ _ _ _ _ _ _ (c .before .before .before .before .before .before .before .before .before .before .before .if1 .left) (c .before .before .before .before .before .before .before .before .before .if2 .left) _ (c .before .before .before .before .before .before .before .copy-fits .ensures) (c .before .before .before .before .before .before .if4 .left) (omega (arith, c .before .before .if5 .taken, c .before .if6 .left)) (c .plan-last .result) (c .plan-last .ensures)
 
-plan-copy-requires : tie.Need-plan-copy-requires
-plan-copy-requires c κs = ((c .before .before .before .before .before .before .before .before .before .before .before .before .before .before .before .before .before .pre .1 .1 .1 .1 .1), ((c .before .before .before .before .before .before .before .before .before .before .before .before .before .before .before .before .before .pre .0), ((c .before .before .before .before .before .before .before .before .before .before .before .before .before .before .before .before .before .pre .1 .0), opens _ _ _ (c .before .before .before .before .before .before .before .before .before .before .before .before .before .before .before .before .before .args .row .held) _ (c .before .before .before .before .before .before .before .before .before .before .before .if1 .left) (c .before .before .before .before .before .before .before .before .before .if2 .left) (c .before .before .before .before .before .before .before .before .if3 .left) _ (c .before .before .before .before .before .before .copy-fits .ensures) (c .before .before .before .before .before .if4 .left) (c .before .if5 .left))))
+cast-if7 : tie.Need-cast-if7
+cast-if7 c = fits-32-64 (c .before .shared-slice-known7 .given _)
 
 returns-7 : tie.Need-returns-7
-returns-7 c = plan-copy _ _ _ _ _ _ _ _ (c .before .before .before .before .before .before .before .before .before .before .before .before .if1 .left) (c .before .before .before .before .before .before .before .before .before .before .if2 .left) (c .before .before .before .before .before .before .before .before .before .if3 .left) _ (c .before .before .before .before .before .before .before .copy-fits .ensures) (c .before .before .before .before .before .before .if4 .left) (c .before .before .if5 .left) (c .before .if6 .left) (c .plan-copy .result) (c .plan-copy .ensures)
+returns-7 c = plan-beyond _ _ _ _ _ _ _ _ (c .before .before .before .before .before .before .before .before .before .before .if1 .left) (c .before .before .before .before .before .before .before .before .if2 .left) _ (c .before .before .before .before .before .before .copy-fits .ensures) (c .before .before .before .before .before .if4 .left) (c .if7 .taken)
+
+plan-copy-requires : tie.Need-plan-copy-requires
+plan-copy-requires c κs = (c .before .before .before .before .before .before .before .before .before .before .before .before .before .before .before .before .pre .1 .1 .1 .1 .1, (c .before .before .before .before .before .before .before .before .before .before .before .before .before .before .before .before .pre .0, (c .before .before .before .before .before .before .before .before .before .before .before .before .before .before .before .before .pre .1 .0, opens _ _ _ (c .before .before .before .before .before .before .before .before .before .before .before .before .before .before .before .before .args .row .held) _ (c .before .before .before .before .before .before .before .before .before .before .if1 .left) (c .before .before .before .before .before .before .before .before .if2 .left) _ (c .before .before .before .before .before .before .copy-fits .ensures) (c .before .before .before .before .before .if4 .left) (omega (arith, c .before .if5 .left)))))
+
+returns-8 : tie.Need-returns-8
+returns-8 c = plan-copy _ _ _ _ _ _ _ _ (c .before .before .before .before .before .before .before .before .before .before .before .if1 .left) (c .before .before .before .before .before .before .before .before .before .if2 .left) _ (c .before .before .before .before .before .before .before .copy-fits .ensures) (c .before .before .before .before .before .before .if4 .left) (c .before .before .if5 .left) (c .before .if7 .left) (c .plan-copy .result) (c .plan-copy .ensures)
 
 pub plan-complete-spec : {M : Type 1} → statement M
 plan-complete-spec =
@@ -78,17 +82,18 @@ plan-complete-spec =
     cast-copies
     add-copies
     cast-if2
-    returns-2
     cast-if3
+    returns-2
     returns-3
     copy-fits-requires
     returns-4
     cast-degree
     mul-degree
     shared-slice-read-degree
-    cast-if5
     returns-5
     plan-last-requires
     returns-6
+    cast-if7
+    returns-7
     plan-copy-requires
-    returns-7)
+    returns-8)
