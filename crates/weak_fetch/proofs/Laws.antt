@@ -2,7 +2,7 @@
 use Prim.Native.Nat.{ℕ, _+_, _*_, _%_, _≤_, _<_}
 use mathlib.Core.Path.{_≡_, refl, sym, ap, subst, _∙_}
 use mathlib.Core.Bool.{Bool, not, true, false}
-use mathlib.Core.List.{List, [], _∷_}
+use mathlib.Core.List.{List}
 use native.Mathlib.Omega.{arith}
 use native.Mathlib.Nat.{mod-lt}
 use borrow.Author.Tests.{lt-ltb, le-ltb, not-true, not-false}
@@ -14,11 +14,13 @@ use Rattle.task.specs.Phases.{leadsTo}
 use Rattle.task.specs.declared.Ends.{Ends}
 use Rattle.task.specs.declared.Limits.{Limits}
 use Rattle.task.specs.declared.Step.the-variants.{Fetch}
+use Rattle.task.specs.declared.TaskId.{TaskId}
 use Rattle.task.specs.declared.WorkerId.{WorkerId}
 use Rattle.weak_task.specs.Types.{Copy, copy, copyOf, idle}
 use Rattle.weak_task.specs.Rows.{withHand, withPointer}
 use Rattle.weak_task.specs.declared.TaskCopy.{TaskCopy}
 use Rattle.weak_task.specs.declared.WeakRow.{WeakRow}
+use Rattle.weak_task.specs.declared.WeakAnswer.the-variants as answer
 use Rattle.weak_task.specs.declared.WeakOutcome.the-variants.{Fetched}
 use Rattle.ring.specs.Ring.{endWords, Sound, Empty, empty, slotAt, endsAt, storeEnds, headOn}
 use Rattle.ring.proofs.Ends.{empty-told}
@@ -31,23 +33,21 @@ use Rattle.searches.specs.Searches.{foundOf, Reads}
 use Rattle.searches.specs.declared.Found.{Found}
 use Rattle.searches.specs.declared.Found.the-variants as found
 use Rattle.weak_rules.specs.Memory.{Mem, ringNumber, rowIn, pointerIn}
-use Rattle.weak_rules.specs.Updates.{Update, putEnds, putHand, putPointer}
-use Rattle.weak_rules.specs.Plans.{accept, withCount}
+use Rattle.weak_rules.specs.Plans.{resultOf}
 use Rattle.weak_rules.specs.Steps.{scan, fetchCopy, fetchFrom, fetchRule, ruleOf}
 use Rattle.admission.specs.declared.Judged.{Judged}
-use Rattle.weak_admission.specs.Admission.{Measured, Knows, Admits, Enters}
+use Rattle.weak_admission.specs.Admission.{sizesOf, Judges, Measured, Admits, Enters}
 use Rattle.weak_admission.specs.Count.{copyWithin, countOf}
 use Rattle.weak_admission.specs.declared.Counted.{Counted}
 use Rattle.weak_admission.specs.declared.Counted.the-variants.{Damaged, At}
 use Rattle.weak_admission.specs.declared.WeakAdmitted.{WeakAdmitted}
 use Rattle.weak_admission.specs.declared.WeakAdmitted.the-variants as admitted
 use Rattle.weak_admission.specs.declared.WeakSizes.{WeakSizes}
-use Rattle.weak_admission.specs.declared.WeakStepped.{WeakStepped}
 use Rattle.weak_admission.specs.declared.WeakStepped.the-variants as stepped
-use Rattle.weak_admission.proofs.Rows.{admission-measured, admission-refused, admission-entered, admission-enters, few-steps, extent-of, counts-are, count-refused, count-accepted, refused-result, rule-refused, rule-accepted}
-use Rattle.weak_fetch.specs.Fetch.{lent, Extent, FetchesAdmitted, Fetches, HandAndPointer}
-use Rattle.weak_fetch.specs.Plan.{Ready, Sized, scanOf, PlansCopy, Takes, PlansFetch}
-use Rattle.weak_fetch.specs.declared.CopyHead.{CopyHead}
+use Rattle.weak_admission.proofs.Rows.{admission-refused, admission-entered, admission-enters, few-steps, extent-of, counts-are, count-refused, count-accepted, refused-result, rule-refused, rule-accepted}
+use Rattle.weak_fetch.specs.Fetch.{lent, Fetches, HandAndPointer}
+use Rattle.weak_fetch.specs.Plan.{Sized, HeadFound, scanOf, planOf, Writable, Keeps, PlansFound, PlansFetch}
+use Rattle.weak_fetch.specs.Written.{takenRow, Takeable, WritesFetch}
 use Rattle.weak_fetch.specs.declared.CopyPlan.{CopyPlan}
 use Rattle.weak_fetch.specs.declared.CopyPlan.the-variants.{Refused, Take}
 
@@ -55,22 +55,36 @@ use Rattle.weak_fetch.specs.declared.CopyPlan.the-variants.{Refused, Tak
 abbrev old : List Copy → List ℕ → List ℕ → Mem → Mem
 old rings ends run m = lent m rings ends run (m .rows)
 
--- Copy c, of the ring filled by j, with these ends; `fits` is what its words were found to be.
-module _ (n e : ℕ) (run : List ℕ) (j : ℕ) (both : Ends) (c : Copy) (fits : Bool) (hf : fits ≡ copyWithin n c) where
-  pub copy-damaged : not fits ≡ true → PlansCopy n e run j both c (Refused 8 0)
-  unfolding PlansCopy fetchCopy
-  copy-damaged a p k i rings ends m x = rw (x .0, sym hf ∙ not-true fits a)
+-- The ring filled by j, with these ends, and the copy at its head; `fits` is what its words were found to be.
+module _ (p k i n e : ℕ) (rings : List Copy) (run : List ℕ) (j : WorkerId) (both : Ends) (q : ℕ) (hq : q ≡ ringNumber p i (j .0)) (c : TaskCopy)
+    (hc : copyOf c ≡ getD rings (slotAt k q (both .head)) (copy 0 0)) (fits : Bool) (hf : fits ≡ copyWithin n (copyOf c)) where
+  -- the rule goes on with that copy
+  at-head : (ends : List ℕ) (m : Mem) → both ≡ endsAt ends (ringNumber p i (j .0))
+      → fetchFrom p k i (old rings ends run m) (rules.at (j .0)) ≡ fetchCopy p k i (old rings ends run m) (j .0) (copyOf c)
+  unfolding fetchFrom
+  at-head ends m hb =
+      ap (fetchCopy p k i (old rings ends run m) (j .0))
+      (ap (λ (x : Ends). getD rings (slotAt k (ringNumber p i (j .0)) (x .head)) (copy 0 0)) (sym hb) ∙ rw (← hq) (sym hc))
 
-  module _ (a : not fits ≡ false) (found : Counted) (hc : found ≡ countOf n e run) where
-    pub copy-counted : found ≡ Damaged → PlansCopy n e run j both c (Refused 8 0)
-    unfolding PlansCopy fetchCopy
-    copy-counted v p k i rings ends m x =
-        rw (x .0, sym hf ∙ not-false fits a) (count-refused n e (old rings ends run m) x _ _ (sym hc ∙ v))
+  pub found-damaged : not fits ≡ true → PlansFound p k i n e rings run j both (Refused 8 0)
+  unfolding PlansFound fetchCopy
+  found-damaged a = ((λ ends m x hb. at-head ends m hb ∙ rw (x .0, sym hf ∙ not-true fits a)), tt)
 
-    pub copy-fetchable : (w : ℕ) → found ≡ At w → (filler : WorkerId) (taken : TaskCopy) → filler .0 ≡ j → copyOf taken ≡ c
-        → PlansCopy n e run j both c (Take (record { filler = filler; ends = both; copy = taken; accepted = w }))
-    unfolding PlansCopy
-    copy-fetchable w v filler taken g h = (g, (refl, (h, record { known = subst (λ x. copyWithin n x ≡ true) (sym h) (sym hf ∙ not-false fits a); counts = sym hc ∙ v })))
+  module _ (a : not fits ≡ false) (found : Counted) (hn : found ≡ countOf n e run) where
+    pub found-counted : found ≡ Damaged → PlansFound p k i n e rings run j both (Refused 8 0)
+    unfolding PlansFound fetchCopy
+    found-counted v = (
+      (λ ends m x hb. at-head ends m hb ∙ rw (x .0, sym hf ∙ not-false fits a) (count-refused n e (old rings ends run m) x _ _ (sym hn ∙ v))),
+      tt,
+    )
+
+    pub found-takes : (w : ℕ) → found ≡ At w
+        → PlansFound p k i n e rings run j both (Take j (both .head) (both .tail) (both .count) (c .task) (c .predecessor) w)
+    unfolding PlansFound fetchCopy
+    found-takes w v = (
+      (λ ends m x hb. at-head ends m hb ∙ rw (x .0, sym hf ∙ not-false fits a) (count-accepted n e (old rings ends run m) x _ _ w (sym hn ∙ v))),
+      (refl, (refl, sym hn ∙ v)),
+    )
 
 -- Where the scan stops.
 module _ (p k i pointer : ℕ) (ends : List ℕ) (x : Found) (hx : foundOf x ≡ scanOf p k i pointer ends)
@@ -101,7 +115,7 @@ goes-on p k i pointer rings ends run h f hf m q = rw (hf, q, lt-ltb pointer p h)
 module _ (p k i n e pointer : ℕ) (rings : List Copy) (ends run : List ℕ) where
   pub pointer-damaged : p ≤ pointer → PlansFetch p k i n e pointer rings ends run (Refused 8 0)
   unfolding PlansFetch fetchRule
-  pointer-damaged h m x q = rw (q, le-ltb pointer p h)
+  pointer-damaged h = ((λ m x q. rw (q, le-ltb pointer p h)), tt)
 
   module _ (h : pointer < p) (x : Found) (hx : foundOf x ≡ scanOf p k i pointer ends) where
     follows : (y : Found) → x ≡ y → (m : Mem) → pointerIn m i ≡ pointer
@@ -110,158 +124,112 @@ module _ (p k i n e pointer : ℕ) (rings : List Copy) (ends run : List ℕ) whe
 
     pub scan-unsound : x ≡ found.Unsound → PlansFetch p k i n e pointer rings ends run (Refused 8 0)
     unfolding PlansFetch fetchFrom
-    scan-unsound v m y q = follows found.Unsound v m q
+    scan-unsound v = ((λ m y q. follows found.Unsound v m q), tt)
 
     pub scan-none : x ≡ found.None → PlansFetch p k i n e pointer rings ends run (Refused 10 0)
     unfolding PlansFetch fetchFrom
-    scan-none v m y q = follows found.None v m q
+    scan-none v = ((λ m y q. follows found.None v m q), tt)
 
-    -- the copy is the one at the head of ring q, which is the ring found
-    module _ (reads : Reads (λ j. endsAt ends (ringNumber p i j)) x) (j : WorkerId) (both : Ends) (v : x ≡ found.At j both)
-        (q : ℕ) (hq : q ≡ ringNumber p i (j .0)) (c : Copy) (hc : c ≡ getD rings (slotAt k q (both .head)) (copy 0 0)) where
-      copy-at : c ≡ getD rings (slotAt k (ringNumber p i (j .0)) (both .head)) (copy 0 0)
-      copy-at = rw (← hq) hc
+    module _ (reads : Reads (λ j. endsAt ends (ringNumber p i j)) x) (j : WorkerId) (both : Ends) (v : x ≡ found.At j both) where
+      stops : (j .0 < p) × (Sound k both × ¬ (Empty both))
+      stops = scan-stops p k i pointer ends x hx reads j both v h
 
-      pub scan-takes : (r : CopyPlan) → PlansCopy n e run (j .0) both c r → PlansFetch p k i n e pointer rings ends run r
-      unfolding PlansCopy PlansFetch fetchFrom
-      scan-takes (Refused number detail) plans =
-          λ m y w. follows (found.At j both) v m w ∙ rw (← ends-found p k i pointer ends x hx reads j both v, ← copy-at) (plans p k i rings ends m y)
-      scan-takes (Take head) (a, (b, (d, f))) =
-          let stops : (j .0 < p) × (Sound k both × ¬ (Empty both)) = scan-stops p k i pointer ends x hx reads j both v h in
-          record {
-            points = h;
-            found = rw a (found-at p k i pointer ends x hx reads j both v);
-            filler = rw a (stops .0);
-            reads = rw (a, b) (ends-found p k i pointer ends x hx reads j both v);
-            sound = rw b (stops .1 .0);
-            waits = rw b (stops .1 .1);
-            first = rw (a, b, d) copy-at;
-            fit = f;
-          }
+      ends-are : both ≡ endsAt ends (ringNumber p i (j .0))
+      ends-are = ends-found p k i pointer ends x hx reads j both v
 
--- what is needed to read the head of ring q
-pub head-ready : (p k i n e : ℕ) (rings : List (List ℕ)) (ends run : List ℕ) → Sized p k i n e rings ends run
-    → (q : ℕ) → q < p * p → (both : Ends) → Sound k both → (q * k + k ≤ length rings) × Sound k both
-head-ready p k i n e rings ends run s q h both f = (rw (s .allRings) (place-end k (p * p) q h), f)
-
--- What is needed to write at place q.
-module _ (p k i : ℕ) (ends run : List ℕ) (s : Ready p k i ends run) (q r : ℕ) (h : (q ≡ r) × (q < p * p)) where
-  pub ends-ready : (both : Ends) → both ≡ endsAt ends r → Sound k both → ¬ (Empty both)
-      → (q * endWords + endWords ≤ length ends) × ((both ≡ endsAt ends q) × (Sound k both × ((k ≤ engine .slots) × ¬ (Empty both))))
-  ends-ready both e f n = (omega (arith, s .allEnds, h .1), (rw (h .0) e, (f, (s .fewSlots, n))))
-
--- what is stored as the ends of ring q are those of the ring filled by j
-pub stored-at : (ends new : List ℕ) (q r : ℕ) (both : Ends) → q ≡ r → new ≡ storeEnds ends q both → new ≡ storeEnds ends r both
-stored-at ends new q r both e h = rw (← e) h
-
--- A plan that takes.
-module _ (p k i n e pointer : ℕ) (rings : List Copy) (ends run : List ℕ) (x : CopyPlan)
-    (hx : PlansFetch p k i n e pointer rings ends run x) (head : CopyHead) (v : x ≡ Take head) where
-  takes-of : Takes p k i n e pointer rings ends run head
-  unfolding PlansFetch
-  takes-of = subst (PlansFetch p k i n e pointer rings ends run) v hx
-
-  pub fetch-filler : head .filler .0 < p
-  fetch-filler = takes-of .filler
-
-  pub fetch-ready : (cells : List (List ℕ)) → Sized p k i n e cells ends run
-      → Ready p k i ends run × ((head .filler .0 < p) × ((head .ends ≡ endsAt ends (ringNumber p i (head .filler .0)))
-      × (Sound k (head .ends) × (¬ (Empty (head .ends)) × (head .accepted ≤ 65535)))))
-  fetch-ready cells s = (
-    s .ready,
-    (
-      takes-of .filler,
-      (
-        takes-of .reads,
-        (
-          takes-of .sound,
-          (takes-of .waits, omega (arith, few-steps n e run (s .counts .fewTasks) (s .counts .fewEdges) (head .accepted) (takes-of .fit .counts))),
-        ),
-      ),
-    ),
-  )
-
--- A plan carried out, for a worker with this row.
-module _ (p k i n e : ℕ) (row : WeakRow) (rings : List Copy) (ends run : List ℕ) (x : CopyPlan)
-    (hx : PlansFetch p k i n e (row .pointer .0) rings ends run x) where
-  abbrev before : Mem → Mem
-  before = old rings ends run
-
-  -- Fetch sets out from the pointer that stands in the worker's row
-  points-at : (limits : Limits) (m : Mem) → Enters limits p k i Fetch (before m) row → pointerIn m i ≡ row .pointer .0
-  points-at limits m enters = sym (ap (λ (r : WeakRow). r .pointer .0) (enters .leads))
-
-  pub fetch-refused : (number detail : ℕ) → x ≡ Refused number detail
-      → FetchesAdmitted n e p k i row rings ends ends run run (stepped.Refused number detail)
-  unfolding FetchesAdmitted PlansFetch ruleOf
-  fetch-refused number detail v limits m y enters =
-      rule-refused limits p k i Fetch (before m) row enters number detail
-      (subst (PlansFetch p k i n e (row .pointer .0) rings ends run) v hx m y (points-at limits m enters))
-
-  module _ (head : CopyHead) (v : x ≡ Take head) where
-    takes : Takes p k i n e (row .pointer .0) rings ends run head
-    takes = takes-of p k i n e (row .pointer .0) rings ends run x hx head v
-
-    -- the ring that the copy leaves
-    abbrev ring : ℕ
-    ring = ringNumber p i (head .filler .0)
-
-    abbrev updates : Mem → List Update
-    updates m =
-        withCount (before m)
-        (putEnds ring (headOn k (endsAt ends ring)) ∷ putHand i (leadsTo Fetch) (copyOf (head .copy)) ∷ putPointer i (after p (head .filler .0)) ∷ [])
-
-    planned : (m : Mem) → Extent n e m → pointerIn m i ≡ row .pointer .0
-        → fetchRule p k i (before m) ≡ accept (Fetched (head .copy)) (updates m)
-    unfolding fetchFrom fetchCopy
-    planned m y h =
-        goes-on p k i (row .pointer .0) rings ends run (takes .points) (rules.at (head .filler .0)) (sym (takes .found)) m h
-        ∙ rw (← takes .reads, ← takes .first, y .0, takes .fit .known)
-        (count-accepted n e (before m) y (Fetched (head .copy)) _ (head .accepted) (takes .fit .counts))
-
-    pub fetch-taken : (new-ends new-run : List ℕ) (next : ℕ)
-        → (new-ends ≡ storeEnds ends ring (headOn k (head .ends))) × (new-run ≡ set run 1 (head .accepted + 1)) → next ≡ after p (head .filler .0)
-        → FetchesAdmitted n e p k i row rings ends new-ends run new-run
-        (stepped.Taken (Fetched (head .copy)) (withPointer next (withHand (row .phase) (head .copy) row)))
-    unfolding FetchesAdmitted written updated ruleOf
-    fetch-taken new-ends new-run next (a, b) f limits m y enters =
-        rw (
-          a,
-          b,
-          f,
-          enters .leads,
-          takes .reads,
-          counts-are n e run (head .accepted) (takes .fit .counts) .0,
-          ← set-again (m .rows) i (withHand (leadsTo Fetch) (head .copy) (rowIn m i)) idle (withPointer (after p (head .filler .0))),
-        )
-        (rule-accepted limits p k i Fetch (before m) row enters (Fetched (head .copy)) (updates m) (planned m y (points-at limits m enters)))
-
--- What is known of the numbers and of the lengths, once the step is admitted.
-module _ (p k i : ℕ) (sizes : WeakSizes) (judged : Judged) (known : Knows p k i sizes judged) (row : WeakRow) (x : WeakAdmitted)
-    (told : Admits row Fetch judged x) (row′ : WeakRow) (v : x ≡ admitted.To row′) where
-  measured : Measured p k i sizes
-  measured = admission-measured p k i sizes row Fetch judged known x told row′ v
-
-  pub row-sized : (rings : List (List ℕ)) (ends run : List ℕ) → (length rings ≡ sizes .rings) × ((length ends ≡ sizes .ends) × (length run ≡ sizes .run))
-      → Sized p k i (sizes .weights) (sizes .preds) rings ends run
-  row-sized rings ends run (r, (e, n)) =
-      record {
-        ready = record {
-          fewWorkers = measured .fewWorkers;
-          fewSlots = measured .fewSlots;
-          worker = measured .worker;
-          allEnds = e ∙ measured .lengths .list list.ends;
-          allWords = n ∙ measured .lengths .list list.run;
-        };
-        counts = record {
-          allWords = n ∙ measured .lengths .list list.run;
-          fewTasks = measured .fewTasks;
-          fewEdges = measured .fewEdges;
-        };
-        allRings = r ∙ measured .lengths .list list.rings;
+      -- what is asked once the scan has stopped
+      pub scan-asks : (cells : List (List ℕ)) → Sized p k i n e cells ends run → HeadFound p k i n e cells run (j .0) both
+      scan-asks cells s = record {
+        fewWorkers = s .fewWorkers;
+        worker = s .worker;
+        filler = stops .0;
+        fewTasks = s .fewTasks;
+        fewEdges = s .fewEdges;
+        allRings = s .allRings;
+        allWords = s .allWords;
+        sound = stops .1 .0;
       }
 
--- What the admission has told.
+      writable : (r : CopyPlan) → Keeps n e run j both r → Writable p k i n e ends run r
+      writable (Refused number detail) kept = tt
+      writable (Take j′ head tail count task predecessor accepted) (a, (b, d)) =
+          rw (a, b) (record { filler = stops .0; reads = ends-are; sound = stops .1 .0; waits = stops .1 .1; counts = d })
+
+      pub scan-takes : (r : CopyPlan) → PlansFound p k i n e rings run j both r → PlansFetch p k i n e pointer rings ends run r
+      unfolding PlansFound PlansFetch
+      scan-takes r plans = ((λ m y q. follows (found.At j both) v m q ∙ plans .0 ends m y ends-are), writable r (plans .1))
+
+-- what is needed to read the head of ring q
+pub head-ready : (p k i n e : ℕ) (rings : List (List ℕ)) (run : List ℕ) (j : ℕ) (both : Ends) → HeadFound p k i n e rings run j both
+    → (q : ℕ) → q < p * p → (q * k + k ≤ length rings) × Sound k both
+head-ready p k i n e rings run j both s q h = (rw (s .allRings) (place-end k (p * p) q h), s .sound)
+
+-- The head is taken from ring q, which is the ring filled by j.
+module _ (p k i : ℕ) (ends run : List ℕ) (j : ℕ) (both : Ends) (accepted : ℕ) (s : Takeable p k i ends run j both accepted)
+    (q : ℕ) (h : (q ≡ ringNumber p i j) × (q < p * p)) where
+  pub ends-ready : (q * endWords + endWords ≤ length ends) × ((both ≡ endsAt ends q) × (Sound k both × ((k ≤ engine .slots) × ¬ (Empty both))))
+  ends-ready = (omega (arith, s .allEnds, h .1), (rw (h .0) (s .reads), (s .sound, (s .fewSlots, s .waits))))
+
+  -- the writes make the plan's updates
+  pub fetch-written : (row : WeakRow) (held : TaskCopy) (ends' : List ℕ) → ends' ≡ storeEnds ends q (headOn k both)
+      → (next : ℕ) → next ≡ after p j
+      → WritesFetch p k i row j (copyOf held) ends ends' run (set run 1 (accepted + 1)) (withPointer next (withHand (row .phase) held row))
+  unfolding WritesFetch written updated
+  fetch-written row held ends' a next f m hr =
+      rw (
+        a,
+        h .0,
+        f,
+        s .reads,
+        s .acceptedWord,
+        hr,
+        ← set-again (m .rows) i (withHand (leadsTo Fetch) held (rowIn m i)) idle (withPointer (after p j)),
+      )
+      refl
+
+-- What is asked of the lengths, once the step is admitted.
+module _ (p k i : ℕ) (sizes : WeakSizes) (f : Measured p k i sizes) (cells : List (List ℕ)) (ends run : List ℕ)
+    (z : (length cells ≡ sizes .rings) × ((length ends ≡ sizes .ends) × (length run ≡ sizes .run))) where
+  pub row-sized : Sized p k i (sizes .weights) (sizes .preds) cells ends run
+  row-sized = record {
+    fewWorkers = f .fewWorkers;
+    fewSlots = f .fewSlots;
+    worker = f .worker;
+    fewTasks = f .fewTasks;
+    fewEdges = f .fewEdges;
+    allRings = z .0 ∙ f .lengths .list list.rings;
+    allEnds = z .1 .0 ∙ f .lengths .list list.ends;
+    allWords = z .1 .1 ∙ f .lengths .list list.run;
+  }
+
+  -- a plan that takes can be written
+  pub row-takeable : (pointer : ℕ) (rings : List Copy) (plan : CopyPlan)
+      → PlansFetch p k i (sizes .weights) (sizes .preds) pointer rings ends run plan
+      → (j : WorkerId) (head tail count : ℕ) (task predecessor : TaskId) (accepted : ℕ) → plan ≡ Take j head tail count task predecessor accepted
+      → Takeable p k i ends run (j .0) (record { head = head; tail = tail; count = count }) accepted
+  unfolding PlansFetch
+  row-takeable pointer rings plan plans j head tail count task predecessor accepted v =
+      let x : Writable p k i (sizes .weights) (sizes .preds) ends run (Take j head tail count task predecessor accepted) = rw v at plans .1 in
+      record {
+        fewWorkers = f .fewWorkers;
+        fewSlots = f .fewSlots;
+        worker = f .worker;
+        filler = x .filler;
+        allEnds = row-sized .allEnds;
+        allWords = row-sized .allWords;
+        reads = x .reads;
+        sound = x .sound;
+        waits = x .waits;
+        acceptedWord = counts-are (sizes .weights) (sizes .preds) run accepted (x .counts) .0;
+        few = omega (arith, few-steps (sizes .weights) (sizes .preds) run (f .fewTasks) (f .fewEdges) accepted (x .counts));
+      }
+
+-- an accepted Fetch leaves the row's other words
+pub hand-and-pointer : (row : WeakRow) (judged : Judged) (x : WeakAdmitted) → Admits row Fetch judged x → (after : WeakRow) → x ≡ admitted.To after
+    → (p j : ℕ) (held : TaskCopy) (left : WeakRow) → left ≡ takenRow p j held after → HandAndPointer row (stepped.Taken (Fetched held) left)
+hand-and-pointer row judged x told after v p j held left o = rw (o, admission-entered row Fetch judged x told after v .1) refl
+
+-- The step by value: its admission, its plan and its writes, then the result.
 module _ (p k i : ℕ) (sizes : WeakSizes) (judged : Judged) (row : WeakRow) (rings : List Copy) (ends run : List ℕ) (x : WeakAdmitted)
     (told : Admits row Fetch judged x) where
   pub row-refused : (number detail : ℕ) → x ≡ admitted.Refused number detail
@@ -271,18 +239,32 @@ module _ (p k i : ℕ) (sizes : WeakSizes) (judged : Judged) (row : WeakRow) (ri
       refused-result limits p k i Fetch (old rings ends run m) number detail
       (admission-refused p k i sizes row Fetch limits (old rings ends run m) e h judged judges x told number detail v)
 
-  module _ (row′ : WeakRow) (v : x ≡ admitted.To row′) where
-    -- what the rule keeps of the row in its new phase, it keeps of the worker's row
-    kept : (r : WeakStepped) → HandAndPointer row′ r → HandAndPointer row r
-    kept (stepped.Refused number detail) h = h
-    kept (stepped.Taken o after) h = h ∙ rw (admission-entered row Fetch judged x told row′ v .1) refl
+  module _ (after : WeakRow) (v : x ≡ admitted.To after) (plan : CopyPlan)
+      (plans : PlansFetch p k i (sizes .weights) (sizes .preds) (after .pointer .0) rings ends run plan) where
+    module _ (limits : Limits) (m : Mem) (judges : Judges limits p k i sizes judged) (e : sizesOf (old rings ends run m) ≡ sizes) (h : rowIn m i ≡ row) where
+      enters : Enters limits p k i Fetch (old rings ends run m) after
+      enters = admission-enters p k i sizes row Fetch limits (old rings ends run m) e h judged judges x told after v
 
-    pub row-fetches : (new-ends new-run : List ℕ) (r : WeakStepped)
-        → FetchesAdmitted (sizes .weights) (sizes .preds) p k i row′ rings ends new-ends run new-run r × HandAndPointer row′ r
-        → Fetches p k i sizes judged row rings ends new-ends run new-run r × HandAndPointer row r
-    unfolding FetchesAdmitted Fetches
-    row-fetches new-ends new-run r (f, w) = (
-      (λ limits m judges e h. f limits m (extent-of sizes (old rings ends run m) e)
-          (admission-enters p k i sizes row Fetch limits (old rings ends run m) e h judged judges x told row′ v)),
-      kept r w,
-    )
+      -- Fetch sets out from the pointer that stands in the worker's row
+      rule-is : (q : CopyPlan) → plan ≡ q → fetchRule p k i (old rings ends run m) ≡ planOf p k i (old rings ends run m) q
+      unfolding PlansFetch
+      rule-is q w =
+          rw (← w) (plans .0 m (extent-of sizes (old rings ends run m) e) (sym (ap (λ (r : WeakRow). r .pointer .0) (enters .leads))))
+
+    pub rule-refuses : (number detail : ℕ) → plan ≡ Refused number detail
+        → Fetches p k i sizes judged row rings ends ends run run (stepped.Refused number detail)
+    unfolding Fetches ruleOf
+    rule-refuses number detail w limits m judges e h =
+        rule-refused limits p k i Fetch (old rings ends run m) after (enters limits m judges e h) number detail
+        (rule-is limits m judges e h (Refused number detail) w)
+
+    pub fetch-made : (j : WorkerId) (head tail count : ℕ) (task predecessor : TaskId) (accepted : ℕ)
+        → plan ≡ Take j head tail count task predecessor accepted
+        → (ends' run' : List ℕ) (left : WeakRow) → WritesFetch p k i after (j .0) (copy (task .0) (predecessor .0)) ends ends' run run' left
+        → Fetches p k i sizes judged row rings ends ends' run run' (stepped.Taken (Fetched (record { task = task; predecessor = predecessor })) left)
+    unfolding Fetches ruleOf WritesFetch
+    fetch-made j head tail count task predecessor accepted w ends' run' left writes limits m judges e h =
+        ap (resultOf (answer.Accepted (Fetched (record { task = task; predecessor = predecessor }))))
+        (writes (old rings ends run m) (enters limits m judges e h .leads))
+        ∙ rule-accepted limits p k i Fetch (old rings ends run m) after (enters limits m judges e h)
+        (Fetched (record { task = task; predecessor = predecessor })) _ (rule-is limits m judges e h (Take j head tail count task predecessor accepted) w)

@@ -13,7 +13,7 @@ use Rattle.weak_rules.specs.Memory.{Mem, tasks, edges, rowIn}
 use Rattle.weak_rules.specs.Plans.{resultOf}
 use Rattle.weak_rules.specs.Steps.{step}
 use Rattle.admission.specs.declared.Judged.{Judged}
-use Rattle.weak_admission.specs.Admission.{sizesOf, Judges, Enters, answerOf, rowsAfter}
+use Rattle.weak_admission.specs.Admission.{sizesOf, Judges, answerOf, rowsAfter}
 use Rattle.weak_admission.specs.declared.WeakSizes.{WeakSizes}
 use Rattle.weak_admission.specs.declared.WeakStepped.{WeakStepped}
 use Rattle.weak_admission.specs.declared.WeakStepped.the-variants.{Refused, Taken}
@@ -25,12 +25,6 @@ lent m rings ends run rows = put list.rings rings (put list.ends ends (put list.
 -- a memory of n tasks and e edges
 abbrev pub Extent : ℕ → ℕ → Mem → Type 0
 Extent n e m = (tasks m ≡ n) × (edges m ≡ e)
-
--- what an admitted Fetch does, by the worker whose row this is in the phase that Fetch leads to
-unfoldable pub FetchesAdmitted : ℕ → ℕ → ℕ → ℕ → ℕ → WeakRow → List Copy → List ℕ → List ℕ → List ℕ → List ℕ → WeakStepped → Type 0
-FetchesAdmitted n e p k i row rings ends ends' run run' r =
-    (limits : Limits) (m : Mem) → Extent n e m → Enters limits p k i step-name.Fetch (lent m rings ends run (m .rows)) row
-    → resultOf (answerOf r) (lent m rings ends' run' (rowsAfter (m .rows) i r)) ≡ step limits p k i step-name.Fetch (lent m rings ends run (m .rows))
 
 -- whatever the other lists hold
 unfoldable pub Fetches : ℕ → ℕ → ℕ → WeakSizes → Judged → WeakRow → List Copy → List ℕ → List ℕ → List ℕ → List ℕ → WeakStepped → Type 0

@@ -1,19 +1,18 @@
 // Fetch of a weak job: everything is read and checked; then the copy leaves its ring. Weights, counters and fixed workers are not read:
 // they are not lent.
 ghost use mathlib.Core.Path.{_≡_};
-ghost use Prim.Native.Nat.{_+_, _≤_, _<_};
-ghost use lib.ListN.{length, set};
-ghost use Rattle.ring.specs.Ring.{Sound, Empty, endsAt, storeEnds, headOn};
+ghost use lib.ListN.{length};
 ghost use Rattle.weak_task.specs.Types.{copyOf};
 ghost use Rattle.weak_rows.specs.Copies.{copiesOf};
-ghost use Rattle.weak_rules.specs.Memory.{ringNumber};
 ghost use Rattle.weak_admission.specs.Admission.{Knows};
-ghost use Rattle.weak_fetch.specs.Fetch.{FetchesAdmitted, Fetches, HandAndPointer};
-ghost use Rattle.weak_fetch.specs.Plan.{Counts, Ready, Sized, PlansCopy, PlansFetch};
+ghost use Rattle.weak_fetch.specs.Fetch.{Fetches, HandAndPointer};
+ghost use Rattle.weak_fetch.specs.Plan.{Sized, HeadFound, PlansFound, PlansFetch};
+ghost use Rattle.weak_fetch.specs.Written.{takenRow, Takeable, WritesFetch};
 use admission::Judged;
 use searches::Found;
 use task::Ends;
 use task::Step;
+use task::TaskId;
 use task::WorkerId;
 use task::refusal;
 use weak_admission::Counted;
@@ -24,31 +23,30 @@ use weak_task::TaskCopy;
 use weak_task::WeakOutcome;
 use weak_task::WeakRow;
 
-// The head that is fetched: its ring's filler and ends, the copy, and the accepted word, each as read.
-pub struct CopyHead {
-    pub filler: WorkerId,
-    pub ends: Ends,
-    pub copy: TaskCopy,
-    pub accepted: u32,
-}
-
+// What Fetch is to do: refused, or the head of this filler's ring is taken. With the ring's ends (head, tail, count), the copy's words and
+// the accepted word, as read.
 pub enum CopyPlan {
     Refused(u32, u32),
-    Take(CopyHead),
+    Take(WorkerId, u32, u32, u32, TaskId, TaskId, u32),
 }
 
-// What is read once the copy is known: R and the accepted word.
-fn plan_copy(
+// Once a ring that isn't empty is found, by its filler and ends: the copy at its head, then R and the accepted word.
+pub fn plan_found(
+    rings: &[[u32; 2]],
     run: &[u32],
+    p: usize,
+    k: usize,
+    worker: WorkerId,
     tasks: usize,
     edges: usize,
     filler: WorkerId,
     ends: Ends,
-    copy: TaskCopy,
 ) -> CopyPlan
-    requires { ⌜ Counts tasks edges (now run) ⌝ }
-    ensures { λ r. ⌜ PlansCopy tasks edges (now (run .entry)) (filler .0) ends (copyOf copy) r ⌝ }
+    requires { ⌜ HeadFound p k (worker .0) tasks edges (now rings) (now run) (filler .0) ends ⌝ }
+    ensures { λ r. ⌜ PlansFound p k (worker .0) tasks edges (copiesOf (now (rings .entry))) (now (run .entry)) filler ends r ⌝ }
 {
+    let ring = searches::ring_number(p, worker, filler);
+    let copy = weak_rows::head_copy(rings, k, ring, ends);
     if !weak_admission::copy_fits(copy, tasks) {
         return CopyPlan::Refused(refusal::DAMAGED, 0);
     }
@@ -56,16 +54,21 @@ fn plan_copy(
     let Counted::At(accepted) = counted else {
         return CopyPlan::Refused(refusal::DAMAGED, 0);
     };
-    CopyPlan::Take(CopyHead {
+    let task = copy.task;
+    let predecessor = copy.predecessor;
+    CopyPlan::Take(
         filler,
-        ends,
-        copy,
+        ends.head,
+        ends.tail,
+        ends.count,
+        task,
+        predecessor,
         accepted,
-    })
+    )
 }
 
 // The pointer, the scan from there, and the head of the ring where it stops.
-fn plan_fetch(
+pub fn plan_fetch(
     rings: &[[u32; 2]],
     ends: &[u32],
     run: &[u32],
@@ -90,75 +93,42 @@ fn plan_fetch(
         Found::Unsound => CopyPlan::Refused(refusal::DAMAGED, 0),
         Found::None => CopyPlan::Refused(refusal::NOTHING_THERE, 0),
         Found::At(filler, both) => {
-            let ring = searches::ring_number(p, worker, filler);
-            let copy = weak_rows::head_copy(rings, k, ring, both);
-            plan_copy(run, tasks, edges, filler, both, copy)
+            plan_found(rings, run, p, k, worker, tasks, edges, filler, both)
         }
     }
 }
 
-// The writes: the head of the filler's ring is taken, one step more is accepted.
-fn take_head(
+// What is written, by the words as read: the head of the filler's ring is taken, one step more is accepted; the row holds the copy, and its
+// pointer is after the filler.
+pub fn write_fetch(
     ends: &mut [u32],
     run: &mut [u32],
-    p: usize,
-    k: usize,
-    worker: WorkerId,
-    head: CopyHead,
-)
-    requires { ⌜
-        Ready p k (worker .0) (now ends) (now run) × ((head .filler .0 < p)
-        × ((head .ends ≡ endsAt (now ends) (ringNumber p (worker .0) (head .filler .0)))
-        × (Sound k (head .ends) × (¬ (Empty (head .ends)) × (head .accepted ≤ 65535)))))
-        ⌝ }
-    ensures { λ r. ⌜ now (ends .exit) ≡ storeEnds (now (ends .entry)) (ringNumber p (worker .0) (head .filler .0)) (headOn k (head .ends)) ⌝ }
-    ensures { λ r. ⌜ now (run .exit) ≡ set (now (run .entry)) 1 (head .accepted + 1) ⌝ }
-{
-    let filler = head.filler;
-    let both = head.ends;
-    ring::take_at(ends, k, searches::ring_number(p, worker, filler), both);
-    run[1] = head.accepted + 1;
-}
-
-// Fetch's rule, for a worker that may fetch; its row is in the phase that Fetch leads to.
-fn fetch_admitted(
-    tasks: usize,
-    edges: usize,
     p: usize,
     k: usize,
     worker: WorkerId,
     row: WeakRow,
-    rings: &[[u32; 2]],
-    ends: &mut [u32],
-    run: &mut [u32],
-) -> WeakStepped
-    requires { ⌜ Sized p k (worker .0) tasks edges (now rings) (now ends) (now run) ⌝ }
+    filler: WorkerId,
+    both: Ends,
+    copy: TaskCopy,
+    accepted: u32,
+) -> WeakRow
+    requires { ⌜ Takeable p k (worker .0) (now ends) (now run) (filler .0) both accepted ⌝ }
     ensures { λ r. ⌜
-        FetchesAdmitted tasks edges p k (worker .0) row (copiesOf (now (rings .entry))) (now (ends .entry)) (now (ends .exit))
-        (now (run .entry)) (now (run .exit)) r
+        WritesFetch p k (worker .0) row (filler .0) (copyOf copy) (now (ends .entry)) (now (ends .exit)) (now (run .entry))
+        (now (run .exit)) r
         ⌝ }
-    ensures { λ r. ⌜ HandAndPointer row r ⌝ }
+    ensures { λ r. ⌜ r ≡ takenRow p (filler .0) copy row ⌝ }
 {
-    let pointer = row.pointer;
-    let plan = plan_fetch(rings, ends, run, p, k, worker, tasks, edges, pointer);
-    match plan {
-        CopyPlan::Refused(number, detail) => WeakStepped::Refused(number, detail),
-        CopyPlan::Take(head) => {
-            take_head(ends, run, p, k, worker, head);
-            let copy = head.copy;
-            let next = searches::after_worker(p, head.filler);
-            WeakStepped::Taken(
-                WeakOutcome::Fetched(copy),
-                WeakRow {
-                    phase: row.phase,
-                    held: copy,
-                    pointer: next,
-                    read: row.read,
-                    write: row.write,
-                    cursor: row.cursor,
-                },
-            )
-        }
+    ring::take_at(ends, k, searches::ring_number(p, worker, filler), both);
+    run[1] = accepted + 1;
+    let pointer = searches::after_worker(p, filler);
+    WeakRow {
+        phase: row.phase,
+        held: copy,
+        pointer,
+        read: row.read,
+        write: row.write,
+        cursor: row.cursor,
     }
 }
 
@@ -185,20 +155,29 @@ pub fn fetch_row(
     ensures { λ r. ⌜ HandAndPointer row r ⌝ }
 {
     let admitted = weak_admission::admit(judged, row, Step::Fetch);
-    match admitted {
-        WeakAdmitted::Refused(number, detail) => WeakStepped::Refused(number, detail),
-        WeakAdmitted::To(after) => {
-            fetch_admitted(
-                sizes.weights,
-                sizes.preds,
-                p,
-                k,
-                worker,
-                after,
-                rings,
-                ends,
-                run,
-            )
+    let after = match admitted {
+        WeakAdmitted::Refused(number, detail) => return WeakStepped::Refused(number, detail),
+        WeakAdmitted::To(after) => after,
+    };
+    let pointer = after.pointer;
+    let plan = plan_fetch(
+        rings,
+        ends,
+        run,
+        p,
+        k,
+        worker,
+        sizes.weights,
+        sizes.preds,
+        pointer,
+    );
+    match plan {
+        CopyPlan::Refused(number, detail) => WeakStepped::Refused(number, detail),
+        CopyPlan::Take(filler, head, tail, count, task, predecessor, accepted) => {
+            let both = Ends { head, tail, count };
+            let copy = TaskCopy { task, predecessor };
+            let left = write_fetch(ends, run, p, k, worker, after, filler, both, copy, accepted);
+            WeakStepped::Taken(WeakOutcome::Fetched(copy), left)
         }
     }
 }
