@@ -1,2 +1,3 @@
-pub mod Parts
+pub mod Plan
+pub mod Written
 pub mod Whole

@@ -1,2 +1,3 @@
 pub mod Release
-pub mod Parts
+pub mod Plan
+pub mod Written

@@ -1,4 +1,4 @@
-use Rattle.weak_release.proofs.Parts.{advance-last, advance-on}
+use Rattle.weak_release.proofs.Written.{advance-last, advance-on}
 use mathlib.Core.Path.{refl}
 use mathlib.Core.Logic.{⊎-elim}
 use borrow.Author.Needs.{needs}
