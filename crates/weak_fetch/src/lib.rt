@@ -19,6 +19,7 @@ use weak_admission::Counted;
 use weak_admission::WeakAdmitted;
 use weak_admission::WeakSizes;
 use weak_admission::WeakStepped;
+use weak_task::CopyCell;
 use weak_task::TaskCopy;
 use weak_task::WeakOutcome;
 use weak_task::WeakRow;
@@ -32,7 +33,7 @@ pub enum CopyPlan {
 
 // Once a ring that isn't empty is found, by its filler and ends: the copy at its head, then R and the accepted word.
 pub fn plan_found(
-    rings: &[[u32; 2]],
+    rings: &[CopyCell],
     run: &[u32],
     p: usize,
     k: usize,
@@ -69,7 +70,7 @@ pub fn plan_found(
 
 // The pointer, the scan from there, and the head of the ring where it stops.
 pub fn plan_fetch(
-    rings: &[[u32; 2]],
+    rings: &[CopyCell],
     ends: &[u32],
     run: &[u32],
     p: usize,
@@ -140,7 +141,7 @@ pub fn fetch_row(
     k: usize,
     worker: WorkerId,
     row: WeakRow,
-    rings: &[[u32; 2]],
+    rings: &[CopyCell],
     ends: &mut [u32],
     run: &mut [u32],
 ) -> WeakStepped

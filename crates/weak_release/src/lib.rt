@@ -22,6 +22,7 @@ use weak_admission::Counted;
 use weak_admission::WeakAdmitted;
 use weak_admission::WeakSizes;
 use weak_admission::WeakStepped;
+use weak_task::CopyCell;
 use weak_task::TaskCopy;
 use weak_task::WeakOutcome;
 use weak_task::WeakRow;
@@ -249,7 +250,7 @@ fn advanced(row: WeakRow, count: u32) -> WeakRow
 
 // What is written for a later copy, by the words as read; the row after it.
 pub fn write_later(
-    rings: &mut [[u32; 2]],
+    rings: &mut [CopyCell],
     ends: &mut [u32],
     run: &mut [u32],
     p: usize,
@@ -281,7 +282,7 @@ pub fn write_later(
 // For a first copy: the weight joins with it, and the owner is the task's worker.
 pub fn write_first(
     fixed: &mut [u32],
-    rings: &mut [[u32; 2]],
+    rings: &mut [CopyCell],
     ends: &mut [u32],
     counters: &mut [i32],
     run: &mut [u32],
@@ -340,7 +341,7 @@ pub fn release_row(
     succ_starts: &[u32],
     succs: &[u32],
     fixed: &mut [u32],
-    rings: &mut [[u32; 2]],
+    rings: &mut [CopyCell],
     ends: &mut [u32],
     counters: &mut [i32],
     buffers: &[u32],
