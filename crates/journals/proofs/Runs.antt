@@ -11,7 +11,7 @@ use Rattle.task.specs.Refusals.{Said, refused, answered, accepted, wrongLength,
 use Rattle.task.specs.declared.Limits.{Limits}
 use Rattle.machine.specs.Machine.{beginning, Machine, acceptedSaid, memoryAfter, eventsAfter, begunIn}
 use Rattle.machine.specs.Runs.{View, Run, begunOf, eventsOf, viewOf}
-use Rattle.journals.specs.Journal.{Journaled, journaledOf, made, Keeping, Accepts, lentToo, fits, says, moves, leaves, journaled, Laws}
+use Rattle.journals.specs.Journal.{Journaled, journaledOf, made, Keeping, Accepts, lentToo, fits, says, moves, journaled, Laws}
 use Rattle.journals.specs.Net.{Net, LastStep}
 use Rattle.journals.specs.Runs.{beginKept, KeptRun, listsOf, lastBegun, standingView}
 use Rattle.journals.proofs.Net.{left-moved, net, last-step}
