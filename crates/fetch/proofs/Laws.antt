@@ -14,6 +14,7 @@ use Rattle.task.specs.declared.Ends.{Ends}
 use Rattle.task.specs.declared.Limits.{Limits}
 use Rattle.task.specs.declared.Row.{Row}
 use Rattle.task.specs.declared.Step.the-variants.{Fetch}
+use Rattle.task.specs.declared.StepAnswer.the-variants as answer
 use Rattle.task.specs.declared.StepOutcome.the-variants.{Fetched}
 use Rattle.task.specs.declared.TaskId.{TaskId}
 use Rattle.task.specs.declared.WorkerId.{WorkerId}
@@ -25,13 +26,13 @@ use Rattle.memory.specs.Updates.{updated, written}
 use Rattle.memory.proofs.Fields.{set-again}
 use Rattle.rules.specs.Memory.{Mem, allSteps, ringNumber, rowIn, withHand, withPointer, pointerIn}
 use Rattle.rules.specs.Updates.{Update, putEnds, putHand, putPointer}
-use Rattle.rules.specs.Plans.{accept, withCount, counted}
+use Rattle.rules.specs.Plans.{accept, withCount, counted, resultOf, carriedOut}
 use Rattle.rules.specs.Steps.{scan, fetchTask, fetchFrom, fetchRule, ruleOf}
 use Rattle.plans.proofs.Searches.{Looked, search-looked}
 use Rattle.searches.specs.Searches.{foundOf, Reads}
 use Rattle.searches.specs.declared.Found.{Found}
 use Rattle.searches.specs.declared.Found.the-variants as found
-use Rattle.admission.specs.Admission.{Measured, Knows, Admits, Enters}
+use Rattle.admission.specs.Admission.{Measured, Knows, entered, Admits, Enters}
 use Rattle.admission.specs.declared.Admitted.{Admitted}
 use Rattle.admission.specs.declared.Admitted.the-variants as admitted
 use Rattle.admission.specs.declared.Sizes.{Sizes}
@@ -39,8 +40,8 @@ use Rattle.admission.specs.declared.Judged.{Judged}
 use Rattle.admission.specs.declared.Stepped.{Stepped}
 use Rattle.admission.specs.declared.Stepped.the-variants as stepped
 use Rattle.admission.proofs.Rows.{admission-measured, admission-refused, admission-entered, admission-enters, few-steps, refused-result, rule-refused, rule-accepted}
-use Rattle.fetch.specs.Fetch.{lent, Extent, FetchesAdmitted, Fetches, HandAndPointer}
-use Rattle.fetch.specs.Plan.{Readable, Sized, Head, scanOf, PlansTask, Reachable, PlansFound, Takes, PlansFetch, Takeable, fetchedRow}
+use Rattle.fetch.specs.Fetch.{lent, Extent, FetchesFound, FetchesAdmitted, Fetches, HandAndPointer}
+use Rattle.fetch.specs.Plan.{Readable, Sized, Head, scanOf, Fetchable, PlansTask, Reachable, Scanned, Finds, PlansFound, Takes, PlansFetch, Takeable, fetchedRow}
 use Rattle.fetch.specs.declared.FetchPlan.{FetchPlan}
 use Rattle.fetch.specs.declared.FetchPlan.the-variants.{Refused, Take}
 
@@ -179,6 +180,46 @@ row-taken p j task row next e = rw e refl
 pub stored-at : (ends new : List ℕ) (q r : ℕ) (both : Ends) → q ≡ r → new ≡ storeEnds ends q both → new ≡ storeEnds ends r both
 stored-at ends new q r both e h = rw (← e) h
 
+-- The head of a ring is taken: the rule's plan, and the memory that its writes leave.
+module _ (p k i : ℕ) where
+  abbrev updates : Head → List ℕ → List ℕ → List ℕ → Mem → List Update
+  updates head rings ends run m =
+      withCount (old rings ends run m)
+      (putEnds (ringNumber p i (head .filler .0)) (headOn k (endsAt ends (ringNumber p i (head .filler .0))))
+      ∷ putHand i (leadsTo Fetch) (head .task .0)
+      ∷ putPointer i (after p (head .filler .0))
+      ∷ [])
+
+  head-planned : (n steps : ℕ) (rings ends run : List ℕ) (head : Head) → head .ends ≡ endsAt ends (ringNumber p i (head .filler .0))
+      → head .task .0 ≡ getD rings (slotAt k (ringNumber p i (head .filler .0)) (head .ends .head)) 0 → Fetchable n steps run head
+      → (m : Mem) → Extent n steps m
+      → fetchFrom p k i (old rings ends run m) (rules.at (head .filler .0)) ≡ accept (Fetched (head .task)) (updates head rings ends run m)
+  unfolding fetchFrom fetchTask counted allSteps
+  head-planned n steps rings ends run head reads first f m e =
+      rw (
+        ← reads,
+        ← first,
+        e .1,
+        e .0,
+        lt-ltb (head .task .0) n (f .known),
+        lt-ltb (getD run 1 0) steps (rw (← f .counts) (f .accepted)),
+      )
+
+  head-taken : (rings ends run : List ℕ) (head : Head) → head .ends ≡ endsAt ends (ringNumber p i (head .filler .0)) → head .accepted ≡ getD run 1 0
+      → (row : Row) (m : Mem) → row ≡ entered Fetch (rowIn m i)
+      → lent m rings (storeEnds ends (ringNumber p i (head .filler .0)) (headOn k (head .ends))) (set run 1 (head .accepted + 1))
+      (set (m .rows) i (fetchedRow p (head .filler .0) (head .task) row))
+      ≡ written (updates head rings ends run m) (old rings ends run m)
+  unfolding written updated
+  head-taken rings ends run head reads counts row m l =
+      rw (
+        l,
+        reads,
+        counts,
+        ← set-again (m .rows) i (withHand (leadsTo Fetch) (head .task) (rowIn m i)) idle (withPointer (after p (head .filler .0))),
+      )
+      refl
+
 -- A plan that takes.
 abbrev takeOf : Head → FetchPlan
 takeOf head = Take (head .filler) (head .ends .head) (head .ends .tail) (head .ends .count) (head .task) (head .accepted)
@@ -222,47 +263,77 @@ module _ (p k i n steps : ℕ) (row : Row) (rings ends run : List ℕ) (x : Fetc
     takes : Takes p k i n steps (row .pointer .0) rings ends run head
     takes = takes-of p k i n steps (row .pointer .0) rings ends run x hx head v
 
-    -- the ring that the task leaves
-    abbrev ring : ℕ
-    ring = ringNumber p i (head .filler .0)
-
-    abbrev updates : Mem → List Update
-    updates m =
-        withCount (before m)
-        (putEnds ring (headOn k (endsAt ends ring)) ∷ putHand i (leadsTo Fetch) (head .task .0) ∷ putPointer i (after p (head .filler .0)) ∷ [])
-
     planned : (m : Mem) → Extent n steps m → pointerIn m i ≡ row .pointer .0
-        → fetchRule p k i (before m) ≡ accept (Fetched (head .task)) (updates m)
-    unfolding fetchFrom fetchTask counted allSteps
+        → fetchRule p k i (before m) ≡ accept (Fetched (head .task)) (updates p k i head rings ends run m)
     planned m e h =
         goes-on p k i (row .pointer .0) rings ends run (takes .points) (rules.at (head .filler .0)) (sym (takes .found)) m h
-        ∙ rw (
-          ← takes .reads,
-          ← takes .first,
-          e .1,
-          e .0,
-          lt-ltb (head .task .0) n (takes .task .known),
-          lt-ltb (getD run 1 0) steps (rw (← takes .task .counts) (takes .task .accepted)),
-        )
+        ∙ head-planned p k i n steps rings ends run head (takes .reads) (takes .first) (takes .task) m e
 
     pub fetch-taken : (new-ends new-run : List ℕ) (r : Stepped)
-        → (new-ends ≡ storeEnds ends ring (headOn k (head .ends))) × (new-run ≡ set run 1 (head .accepted + 1))
+        → (new-ends ≡ storeEnds ends (ringNumber p i (head .filler .0)) (headOn k (head .ends))) × (new-run ≡ set run 1 (head .accepted + 1))
         → r ≡ stepped.Taken (Fetched (head .task)) (fetchedRow p (head .filler .0) (head .task) row)
         → FetchesAdmitted n steps p k i row rings ends new-ends run new-run r × HandAndPointer row r
-    unfolding FetchesAdmitted written updated ruleOf
+    unfolding FetchesAdmitted ruleOf
     fetch-taken new-ends new-run r (a, b) f = (
-      λ limits m e enters. rw (
-        f,
-        a,
-        b,
-        enters .leads,
-        takes .reads,
-        takes .task .counts,
-        ← set-again (m .rows) i (withHand (leadsTo Fetch) (head .task) (rowIn m i)) idle (withPointer (after p (head .filler .0))),
-      )
-          (rule-accepted limits p k i Fetch (before m) row enters (Fetched (head .task)) (updates m) (planned m e (points-at limits m enters))),
+      λ limits m e enters. rw (f, a, b)
+          (ap (resultOf (answer.Accepted (Fetched (head .task))))
+          (head-taken p k i rings ends run head (takes .reads) (takes .task .counts) row m (enters .leads))
+          ∙ rule-accepted limits p k i Fetch (before m) row enters (Fetched (head .task)) (updates p k i head rings ends run m)
+          (planned m e (points-at limits m enters))),
       rw f refl,
     )
+
+-- The same from the end of a scan on.
+module _ (p k i n steps : ℕ) (row : Row) (rings ends run : List ℕ) (x : Found) (scanned : Scanned p k i ends x) where
+  pub scanned-reachable : Reachable p k x
+  scanned-reachable = go x scanned
+    where
+      go : (y : Found) → Scanned p k i ends y → Reachable p k y
+      go found.Unsound s = tt
+      go found.None s = tt
+      go (found.At j both) (h, (e, (f, w))) = (h, f)
+
+  module _ (z : FetchPlan) (hz : PlansFound p k i n steps rings run x z) where
+    pub found-refused : (number detail : ℕ) → z ≡ Refused number detail
+        → FetchesFound n steps p k i row rings ends ends run run x (stepped.Refused number detail)
+    unfolding FetchesFound PlansFound carriedOut
+    found-refused number detail v m e l = rw (subst (PlansFound p k i n steps rings run x) v hz ends m e (reads x scanned)) refl
+      where
+        reads : (y : Found) → Scanned p k i ends y → Reads (λ j. endsAt ends (ringNumber p i j)) y
+        reads found.Unsound s = tt
+        reads found.None s = tt
+        reads (found.At j both) (h, (q, (f, w))) = q
+
+    module _ (head : Head) (v : z ≡ takeOf head) where
+      finds : Finds p k i n steps rings run x head
+      unfolding PlansFound
+      finds = subst (PlansFound p k i n steps rings run x) v hz
+
+      there : Scanned p k i ends (found.At (head .filler) (head .ends))
+      there = subst (Scanned p k i ends) (finds .is) scanned
+
+      pub found-ready : Sized p k i rings ends run → steps ≤ 65535 → Takeable p k i ends run (head .filler .0) (head .ends) (head .accepted)
+      found-ready s l =
+          record {
+            ready = s .ready;
+            filler = there .0;
+            reads = there .1 .0;
+            sound = there .1 .1 .0;
+            waits = there .1 .1 .1;
+            few = omega (arith, finds .task .accepted);
+          }
+
+      pub found-taken : (new-ends new-run : List ℕ) (r : Stepped)
+          → (new-ends ≡ storeEnds ends (ringNumber p i (head .filler .0)) (headOn k (head .ends))) × (new-run ≡ set run 1 (head .accepted + 1))
+          → r ≡ stepped.Taken (Fetched (head .task)) (fetchedRow p (head .filler .0) (head .task) row)
+          → FetchesFound n steps p k i row rings ends new-ends run new-run x r × HandAndPointer row r
+      unfolding FetchesFound carriedOut
+      found-taken new-ends new-run r (a, b) f = (
+        λ m e l. rw (f, a, b, finds .is, head-planned p k i n steps rings ends run head (there .1 .0) (finds .first) (finds .task) m e)
+            (ap (resultOf (answer.Accepted (Fetched (head .task))))
+            (head-taken p k i rings ends run head (there .1 .0) (finds .task .counts) row m l)),
+        rw f refl,
+      )
 
 -- What is known of the numbers and of the lengths, once the step is admitted.
 module _ (p k i : ℕ) (sizes : Sizes) (judged : Judged) (known : Knows p k i sizes judged) (row : Row) (x : Admitted)

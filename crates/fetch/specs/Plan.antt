@@ -82,6 +82,13 @@ Reachable p k found.Unsound = Unit {0}
 Reachable p k found.None = Unit {0}
 Reachable p k (found.At j both) = (j .0 < p) × Sound k both
 
+-- it isn't empty, and these are its ends
+abbrev pub Scanned : (p k i : ℕ) → List ℕ → searches.Found → Type 0
+Scanned p k i ends found.Unsound = Unit {0}
+Scanned p k i ends found.None = Unit {0}
+Scanned p k i ends (found.At j both) =
+    (j .0 < p) × ((both ≡ endsAt ends (ringNumber p i (j .0))) × (Sound k both × ¬ (Empty both)))
+
 -- the head of the ring found may be fetched
 pub record Finds (p k i n steps : ℕ) (rings run : List ℕ) (x : searches.Found) (head : Head) : Type 0 where
   pub is : x ≡ found.At (head .filler) (head .ends)

@@ -7,8 +7,8 @@ ghost use Rattle.ring.specs.Ring.{storeEnds, headOn};
 ghost use Rattle.rules.specs.Memory.{ringNumber};
 ghost use Rattle.admission.specs.Admission.{Knows};
 ghost use Rattle.admission.specs.declared.Stepped.{Stepped};
-ghost use Rattle.fetch.specs.Fetch.{FetchesAdmitted, Fetches, HandAndPointer};
-ghost use Rattle.fetch.specs.Plan.{Readable, Sized, Reachable, PlansTask, PlansFound, PlansFetch, Takeable, fetchedRow};
+ghost use Rattle.fetch.specs.Fetch.{FetchesFound, FetchesAdmitted, Fetches, HandAndPointer};
+ghost use Rattle.fetch.specs.Plan.{Readable, Sized, Reachable, Scanned, PlansTask, PlansFound, PlansFetch, Takeable, fetchedRow};
 use admission::Admitted;
 use admission::Judged;
 use admission::Sizes;
@@ -149,6 +149,38 @@ pub fn write_fetch(
             cursor: row.cursor,
         },
     )
+}
+
+// Fetch from the end of a scan on, for a worker whose row is in the phase that Fetch leads to.
+pub fn fetch_found(
+    tasks: usize,
+    steps: usize,
+    p: usize,
+    k: usize,
+    worker: WorkerId,
+    row: Row,
+    rings: &[u32],
+    ends: &mut [u32],
+    run: &mut [u32],
+    found: Found,
+) -> Stepped
+    requires { ⌜
+        Sized p k (worker .0) (now rings) (now ends) (now run) × ((steps ≤ 65535) × Scanned p k (worker .0) (now ends) found)
+        ⌝ }
+    ensures { λ r. ⌜
+        FetchesFound tasks steps p k (worker .0) row (now (rings .entry)) (now (ends .entry)) (now (ends .exit))
+        (now (run .entry)) (now (run .exit)) found r
+        ⌝ }
+    ensures { λ r. ⌜ HandAndPointer row r ⌝ }
+{
+    let plan = plan_found(rings, run, p, k, worker, tasks, steps, found);
+    match plan {
+        FetchPlan::Refused(number, detail) => Stepped::Refused(number, detail),
+        FetchPlan::Take(filler, head, tail, count, task, accepted) => {
+            let both = Ends { head, tail, count };
+            write_fetch(ends, run, p, k, worker, filler, both, task, accepted, row)
+        }
+    }
 }
 
 // Fetch's rule, for a worker that may fetch; its row is in the phase that Fetch leads to.
