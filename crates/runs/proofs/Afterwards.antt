@@ -27,7 +27,7 @@ use Rattle.runs.specs.AtRest.{AtRest}
 use Rattle.runs.proofs.Invariant.{meaning}
 use Rattle.runs.proofs.Begun.{all-listed}
 use Rattle.runs.proofs.Waiting.{waiting-none}
-use Rattle.runs.proofs.Idle.{unsuited, own-row}
+use Rattle.views.proofs.Idle.{unsuited, own-row}
 use Rattle.runs.proofs.Honest.{systemIn, ends-sound, honest-under, honest-run}
 use Rattle.runs.proofs.Live.{row-phase, row-pointer, scan-sound}
 use Rattle.runs.proofs.LiveRelease.{places-good, pending-none}

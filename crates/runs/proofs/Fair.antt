@@ -20,7 +20,7 @@ use Rattle.runs.proofs.Calls.{plain-laws}
 use Rattle.runs.proofs.Honest.{honest-run}
 use Rattle.runs.proofs.Invariant.{state-shaped}
 use Rattle.runs.proofs.Spares.{pointerOf, spared-fetch, spared, taking, pointer-on}
-use Rattle.runs.proofs.Turns.{fetches-count, Spared, Turn, Turns, Taken, taken-soon}
+use Rattle.views.proofs.Turns.{fetches-count, Spared, Turn, Turns, Taken, taken-soon}
 
 module _ (p k : ℕ) where
   abbrev lists : Mem → ℕ → ℕ → List ℕ

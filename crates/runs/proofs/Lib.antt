@@ -16,14 +16,12 @@ pub mod Recounts
 pub mod Events
 pub mod Weights
 pub mod Spares
-pub mod Turns
 pub mod Fair
 pub mod Live
 pub mod LiveRelease
 pub mod Demand
 pub mod Corollaries
 pub mod Wrong
-pub mod Idle
 pub mod Afterwards
 pub mod Undamaged
 pub mod Hosted

@@ -1,4 +1,6 @@
 pub mod Recounts
 pub mod Finishing
 pub mod Numbers
+pub mod Turns
+pub mod Idle
 pub mod Examples

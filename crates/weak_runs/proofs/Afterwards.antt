@@ -10,7 +10,7 @@ use Rattle.task.specs.declared.Step.the-variants.{Fetch, Start, Complete, Relea
 use Rattle.plans.specs.Sizes.{Fits}
 use Rattle.weak_rules.specs.Memory.{Mem, edges, rowIn, rootsWord, entriesIn}
 use Rattle.weak_rules.proofs.Follows.{step-follows}
-use Rattle.runs.proofs.Idle.{unsuited, own-row}
+use Rattle.views.proofs.Idle.{unsuited, own-row}
 use Rattle.weak_runs.specs.Calls.{Run, memoryOf, viewOf}
 use Rattle.weak_runs.specs.Demand.{Finished}
 use Rattle.weak_runs.specs.Corollaries.{FinishedSays}

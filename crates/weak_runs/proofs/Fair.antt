@@ -29,7 +29,7 @@ use Rattle.weak_algorithm.proofs.Accepted.{step-does}
 use Rattle.runs.proofs.Invariant.{Shaped, from-shaped}
 use Rattle.runs.proofs.Meaning.{Acts, acts}
 use Rattle.runs.proofs.Spares.{OwnerSpared, kept-spared, joined-spared, other-spared, owner-takes}
-use Rattle.runs.proofs.Turns.{fetches-count, Spared, Turn, Turns, Taken, taken-soon}
+use Rattle.views.proofs.Turns.{fetches-count, Spared, Turn, Turns, Taken, taken-soon}
 use Rattle.weak_runs.specs.Calls.{Call, isFetch, weakCalls, memoryOf}
 use Rattle.weak_runs.specs.Fairness.{fetches, TakenWithin, FairFetching}
 use Rattle.weak_runs.proofs.Calls.{weak-laws}
