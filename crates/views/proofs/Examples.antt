@@ -23,7 +23,7 @@ use Rattle.memory.specs.Memory.{Mem, memOf}
 use Rattle.memory.proofs.Examples.{PairRow, pairs, pair, rowOf}
 use Rattle.plans.specs.Memory.{ringNumber, endsIn, degreeIn, phaseIn, placesIn}
 use Rattle.split_lists.specs.Reading.{queueIn}
-use Rattle.views.specs.Damage.{NoDamage}
+use Rattle.views.specs.Damage.{NoDamage, NoDamageIn}
 use Rattle.views.specs.Range.{Within}
 use Rattle.views.specs.Recorded.{lastFetched, entryBy, entriesOf}
 use Rattle.views.specs.Graphs.{Agree, OneGraph}
@@ -47,6 +47,10 @@ past =
     ∷ record { call = stepCall engine 2 4 0 Fetch; said = answered 1 (5 ∷ []) }
     ∷ record { call = stepCall engine 2 4 1 Fetch; said = answered 1 (7 ∷ []) }
     ∷ []
+
+-- a Fetch that is answered so
+abbrev fetching : Said → Event Call
+fetching said = record { call = stepCall engine 2 4 0 Fetch; said = said }
 
 -- the limit on tasks of a call's own
 abbrev tasksAllowed : Call → ℕ
@@ -98,6 +102,9 @@ pub record Examples : Type 0 where
   -- 10 is no damage, 8 and 12 are, whatever the detail
   pub harmless : NoDamage (refused 10 0) × NoDamage (refused 11 3) × NoDamage accepted
   pub damage : ¬ (NoDamage (refused 8 0)) × ¬ (NoDamage (refused 12 3))
+  -- of some answers, the earliest among them
+  pub allHarmless : NoDamageIn (fetching accepted ∷ fetching (refused 9 1) ∷ [])
+  pub earlier : ¬ (NoDamageIn (fetching accepted ∷ fetching (refused 8 0) ∷ []))
   -- "within ±67,107,840", both ends among them
   pub within : Within (pos 67107840) × Within (negsuc 67107839)
   pub without : ¬ (Within (pos 67107841)) × ¬ (Within (negsuc 67107840))
@@ -127,6 +134,11 @@ examples =
         record { notDamaged = λ d e. unequal cc; notFull = λ d e. unequal cc },
       );
       damage = (λ h. h .notDamaged 0 refl, λ h. h .notFull 3 refl);
+      allHarmless = (
+        record { notDamaged = λ d e. unequal cc; notFull = λ d e. unequal cc },
+        (record { notDamaged = λ d e. unequal cc; notFull = λ d e. unequal cc }, tt),
+      );
+      earlier = λ h. h .1 .0 .notDamaged 0 refl;
       within = (record { low = leZ-yes tt; high = leZ-yes tt }, record { low = leZ-yes tt; high = leZ-yes tt });
       without = (λ h. h .high .le, λ h. h .low .le);
       entries = refl;
