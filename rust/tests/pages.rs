@@ -109,7 +109,7 @@ fn headings(page: &str) -> impl Iterator<Item = String> + '_ {
 #[test]
 fn the_theorem_stands_as_in_its_file() {
     let specs = text("crates/runs/specs/Demand.antt");
-    let first = "pub record OneRun (r : Run) : Type 0 where";
+    let first = "pub record OneRun (v : View Mem Call) : Type 0 where";
     let record = specs.lines().skip_while(|&line| line != first);
     let lines = record.take_while(|line| !line.is_empty());
     let fields: Vec<&str> = lines.filter(|line| !line.trim_start().starts_with("--")).collect();
