@@ -163,11 +163,11 @@ fn lines(files: &[PathBuf]) -> usize {
 #[test]
 fn what_is_counted() {
     let counts = [
-        ("10,600 lines of code", 10_600, lines(&files("src", "rt"))),
-        ("10,000 lines of definitions", 10_000, lines(&files("specs", "antt"))),
-        ("65,000 lines of proof", 65_000, lines(&files("proofs", "antt"))),
-        ("about 380 wrong programs", 380, files("must-fail", "edit").len()),
-        ("the proofs of 93 crates", 93, entries(&file("crates")).len()),
+        ("11,200 lines of code", 11_200, lines(&files("src", "rt"))),
+        ("11,200 lines of definitions", 11_200, lines(&files("specs", "antt"))),
+        ("68,000 lines of proof", 68_000, lines(&files("proofs", "antt"))),
+        ("about 400 wrong programs", 400, files("must-fail", "edit").len()),
+        ("the proofs of 100 crates", 100, entries(&file("crates")).len()),
     ];
     let page = text(FRONT);
     for (told, about, counted) in counts {
