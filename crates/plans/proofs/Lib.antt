@@ -11,3 +11,4 @@ pub mod Examples
 pub mod Accepted
 pub mod Kept
 pub mod Forms
+pub mod Sought

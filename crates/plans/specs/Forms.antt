@@ -9,13 +9,14 @@ use lib.Dec.{ltb, leb, eqb}
 use lib.IntN.{ℤ, pos}
 use Rattle.lists.specs.Lists.{allOf}
 use Rattle.lists.specs.Circles.{around}
-use Rattle.choice.specs.Least.{load, least}
+use Rattle.ring.specs.Ring.{Sound, Full}
+use Rattle.choice.specs.Least.{load, Least, least}
 use Rattle.choice.specs.Form.{Form, chosen, each}
 use Rattle.memory.specs.Family.{Family}
 use Rattle.memory.specs.Memory.{Mem}
-use Rattle.plans.specs.Memory.{ringNumber, counterIn}
+use Rattle.plans.specs.Memory.{ringNumber, endsIn, counterIn}
 use Rattle.plans.specs.Words.{counterFits, countersFit}
-use Rattle.plans.specs.Tables.{Beyond2^30, BadCounter}
+use Rattle.plans.specs.Tables.{Beyond2^30, BadCounter, BadEnds, StopsAt, offeredEnds}
 
 -- "target j"
 abbrev pub targetBy : Form → ℕ
@@ -36,6 +37,24 @@ module _ {F : Family} where
         DamagedAt = λ q. ⊥;
         fitsAt = λ q. true;
       }
+
+-- What Release's table says where a target is sought, of the rings filled by worker i whose owners are offered.
+module _ {F : Family} (f : Form) (p k i : ℕ) (m : Mem F) where
+  -- damaged ends, the rings before it, from the target's on, being full
+  abbrev pub BadOffered : Type 0
+  BadOffered = (j : ℕ) × Least (f .Candidate) (f .sum) j × BadEnds (length (f .offered j)) k (Full k) (offeredEnds p i m (f .offered j))
+
+  -- "all P rings filled by this worker are full", where all P workers are candidates
+  abbrev pub AllFull : Type 0
+  AllFull = (o : ℕ) → f .Candidate o → Sound k (endsIn m (ringNumber p o i)) × Full k (endsIn m (ringNumber p o i))
+
+  -- e is the place of the owner, of those offered from target j on, whose ring is "the first ring filled by i that isn't full"
+  abbrev pub RoomAt : ℕ → ℕ → Type 0
+  RoomAt j e = Least (f .Candidate) (f .sum) j × StopsAt (length (f .offered j)) k (Full k) (offeredEnds p i m (f .offered j)) e
+
+  -- the counter of the ring really used is damaged, where it is read only then (of `own` never: it was read for the target)
+  abbrev pub BadUsed : Type 0
+  BadUsed = (j : ℕ) × (e : ℕ) × RoomAt j e × f .DamagedAt (ringNumber p (getD (f .offered j) e 0) i)
 
 -- Two further forms, which guard the definition: of marks and of lent sums. No call has them; the marks are a list of P words.
 

@@ -5,19 +5,17 @@ use Prim.Native.Nat.{ℕ, _+_, _*_, _≤_, _<_}
 use mathlib.Core.Path.{_≡_}
 use mathlib.Core.Logic.{_⊎_}
 use mathlib.Core.List.{List, [], _∷_}
-use lib.ListN.{length, getD}
 use Rattle.task.specs.Refusals.{damaged, nothingThere, ringsFull, recordFull}
 use Rattle.task.specs.Rows.{Refusal, row, only}
 use Rattle.task.specs.declared.Limits.{Limits}
 use Rattle.task.specs.declared.Step.{Step}
 use Rattle.task.specs.declared.Step.the-variants.{Fetch, Start, Complete, Release}
-use Rattle.ring.specs.Ring.{Sound, Empty, Full}
-use Rattle.choice.specs.Least.{Least}
+use Rattle.ring.specs.Ring.{Empty}
 use Rattle.choice.specs.Form.{Form}
 use Rattle.plans.specs.Tables.{headedRows}
-use Rattle.plans.specs.Forms.{own}
+use Rattle.plans.specs.Forms.{own, BadOffered, AllFull, BadUsed}
 pub use Rattle.plans.specs.Tables.{BeyondPK, rootCount, beginRows, Beyond2^30, BadCounter, BadPlaces, BadRange, GoesOn, BadEnds, StopsAt, scanned, scannedEnds, offeredEnds}
-use Rattle.rules.specs.Memory.{Mem, tasks, edges, ringNumber, endsIn, headWord, counterIn, weightIn, degreeIn, succCount, rowIn, held, pointerIn, entriesIn, acceptedIn, oldest, successor}
+use Rattle.rules.specs.Memory.{Mem, tasks, edges, ringNumber, headWord, counterIn, weightIn, degreeIn, succCount, rowIn, held, pointerIn, entriesIn, acceptedIn, oldest, successor}
 
 -- "accepted word 3N+E or more"
 abbrev pub BadAccepted : Mem → Type 0
@@ -76,10 +74,6 @@ completeRows p i m =
 abbrev pub Ready : Mem → ℕ → Type 0
 Ready m i = _≡_ {A = ℕ} (degreeIn m (successor m i)) 1
 
--- e is the place of the owner, of those offered from target j on, whose ring is "the first ring filled by i that isn't full"
-abbrev pub RoomAt : Form → ℕ → ℕ → ℕ → Mem → ℕ → ℕ → Type 0
-RoomAt f p k i m j e = Least (f .Candidate) (f .sum) j × StopsAt (length (f .offered j)) k (Full k) (offeredEnds p i m (f .offered j)) e
-
 -- of a Release by form f
 abbrev pub releaseRows : Form → ℕ → ℕ → ℕ → Mem → List Refusal
 releaseRows f p k i m =
@@ -100,12 +94,12 @@ releaseRows f p k i m =
     -- 8: a word that is read for the target, since one is sought: of document 01's form "counter beyond ±2^30", of all P·P
     ∷ row damaged (only 0 (Ready m i × f .Damaged))
     -- 8: damaged ends, the rings before it, from the target's on, being full
-    ∷ row damaged (only 0 (Ready m i × ((j : ℕ) × Least (f .Candidate) (f .sum) j × BadEnds (length (f .offered j)) k (Full k) (offeredEnds p i m (f .offered j)))))
+    ∷ row damaged (only 0 (Ready m i × BadOffered f p k i m))
     -- 11: "Release: degree would be 0 and all P rings filled by this worker are full", "the successor"; "11 comes after the words
     -- that it reads"
-    ∷ row ringsFull (only (successor m i) (Ready m i × ((o : ℕ) → f .Candidate o → Sound k (endsIn m (ringNumber p o i)) × Full k (endsIn m (ringNumber p o i)))))
+    ∷ row ringsFull (only (successor m i) (Ready m i × AllFull f p k i m))
     -- 8: the counter of the ring really used, where it is read here (of document 01's form never: it was read for the target)
-    ∷ row damaged (only 0 (Ready m i × ((j : ℕ) × (e : ℕ) × RoomAt f p k i m j e × f .DamagedAt (ringNumber p (getD (f .offered j) e 0) i))))
+    ∷ row damaged (only 0 (Ready m i × BadUsed f p k i m))
     -- 8: "weight over 65,535", of the successor that is placed
     ∷ row damaged (only 0 (Ready m i × (65535 < weightIn m (successor m i))))
     -- 8: the accepted word, last

@@ -1,12 +1,12 @@
 -- Release follows its rows of the table.
 use Prim.Native.Nat.{ℕ, _≤_, _<_}
-use mathlib.Core.Path.{_≡_, refl, sym, ap, subst, _∙_}
+use mathlib.Core.Path.{_≡_, refl, sym, subst}
 use mathlib.Core.Bool.{true, cond}
 use mathlib.Core.Logic.{_⊎_, inl, inr}
 use mathlib.Core.List.{List}
 use native.Mathlib.Omega.{arith}
 use native.Mathlib.Decide.{decLt}
-use lib.ListN.{length, getD, drop}
+use lib.ListN.{length, drop}
 use lib.Dec.{eqb}
 use Rattle.lists.proofs.Decided.{stable}
 use Rattle.lists.proofs.Told.{Told, told-true, told-false, told-yes, same-told, le-told, lt-told, and-told, only-told, under-told}
@@ -17,19 +17,18 @@ use Rattle.weak_task.specs.Types.{unfixed}
 use Rattle.weak_task.specs.Says.{outcomeSays}
 use Rattle.ring.specs.Ring.{Sound, Full, sound, full}
 use Rattle.ring.proofs.Ends.{sound-told, full-told}
-use Rattle.choice.specs.Least.{Least}
-use Rattle.choice.specs.Form.{Offered, Form}
+use Rattle.choice.specs.Form.{Form}
 use Rattle.choice.specs.Search.{Found, unsound, none, at}
-use Rattle.choice.proofs.Least.{least-one}
-use Rattle.choice.proofs.Form.{Chooses, target-is}
-use Rattle.plans.specs.Forms.{targetBy}
+use Rattle.choice.proofs.Form.{Chooses}
+use Rattle.plans.specs.Forms.{targetBy, AllFull}
 use Rattle.weak_rules.specs.Memory.{Mem, tasks, edges, ringNumber, endsIn, weightIn, fixedIn, firstSucc, pastSucc, succCount, rowIn, oldest, successor}
 use Rattle.weak_rules.specs.Words.{fixedFits}
 use Rattle.weak_rules.specs.Plans.{counted}
 use Rattle.weak_rules.specs.Steps.{findRoom, releaseTo, releaseFirst, releaseLater, releaseRule}
-use Rattle.weak_rules.specs.Tables.{GoesOn, BadEnds, StopsAt, offeredEnds, FirstCopy, LaterCopy, RoomAt, releaseRows}
+use Rattle.weak_rules.specs.Tables.{offeredEnds, FirstCopy, LaterCopy, releaseRows}
 use Rattle.weak_rules.proofs.Plans.{PlanFollows, given-row, passed-row, refuse-row, checked-row, counted-row}
-use Rattle.plans.proofs.Searches.{Sought, stop-unique, all-not-bad, stop-not-bad, room-looked}
+use Rattle.plans.proofs.Searches.{Sought, all-not-bad, stop-not-bad, room-looked}
+use Rattle.plans.proofs.Sought.{least-target, none-damaged, all-full, one-open, used-told}
 use Rattle.weak_rules.proofs.Words.{fixed-told}
 
 module _ (f : Form) (p k i : ℕ) (m : Mem) where
@@ -43,71 +42,29 @@ module _ (f : Form) (p k i : ℕ) (m : Mem) where
     not-later : {C : ℕ → Type 0} → ¬ ((o : ℕ) × LaterCopy p m i o × C o)
     not-later (o, (e, h), c) = omega (arith, first, e, h, few)
 
-    -- where no word read for the target is damaged: "target j", and the rings looked at from there on
+    -- where no word read for the target is damaged
     module _ (good : ¬ (f .Damaged)) where
-      abbrev j : ℕ
-      j = targetBy f
-
       abbrev owners : List ℕ
-      owners = f .offered j
-
-      abbrev offers : ℕ → Ends
-      offers = offeredEnds p i m owners
-
-      least-j : Least (f .Candidate) (f .sum) j
-      least-j = target-is chooses good .0
-
-      from-j : Offered p (f .Candidate) j owners
-      from-j = chooses .offers j (least-j .candidate)
-
-      not-damaged : ¬ (BadEnds (length owners) k (Full k) offers)
-          → ¬ (FirstCopy m i × ((h : ℕ) × Least (f .Candidate) (f .sum) h × BadEnds (length (f .offered h)) k (Full k) (offeredEnds p i m (f .offered h))))
-      not-damaged n (r, (h, t, b)) = n (subst (λ (x : ℕ). BadEnds (length (f .offered x)) k (Full k) (offeredEnds p i m (f .offered x))) (least-one t least-j) b)
-
-      -- the rings looked at are all that worker i fills for candidates
-      all-full : GoesOn k (Full k) offers (length owners) → (o : ℕ) → f .Candidate o → Sound k (endsIn m (ringNumber p o i)) × Full k (endsIn m (ringNumber p o i))
-      all-full g o c =
-          let (e, l, q) = from-j .every o c in
-          subst (λ (x : ℕ). Sound k (endsIn m (ringNumber p x i)) × Full k (endsIn m (ringNumber p x i))) q (g e l)
-
-      -- the counter of the ring found, told of whichever target and place
-      used-told : (o e : ℕ) → StopsAt (length owners) k (Full k) offers e → o ≡ getD owners e 0
-          → Told (f .fitsAt (ringNumber p o i)) (¬ (FirstCopy m i × ((h : ℕ) × (d : ℕ) × RoomAt f p k i m h d × f .DamagedAt (ringNumber p (getD (f .offered h) d 0) i))))
-          (FirstCopy m i × ((h : ℕ) × (d : ℕ) × RoomAt f p k i m h d × f .DamagedAt (ringNumber p (getD (f .offered h) d 0) i)))
-      used-told o e stop q = go (chooses .toldAt (ringNumber p o i))
-        where
-          same : (h d : ℕ) → RoomAt f p k i m h d → getD (f .offered h) d 0 ≡ o
-          same h d (t, s) =
-              let w : h ≡ j = least-one t least-j in
-              ap (λ (x : ℕ). getD (f .offered x) d 0) w
-              ∙ ap (λ (n : ℕ). getD owners n 0)
-              (stop-unique (length owners) k (Full k) offers
-              (subst (λ (x : ℕ). StopsAt (length (f .offered x)) k (Full k) (offeredEnds p i m (f .offered x)) d) w s) stop)
-              ∙ sym q
-
-          go : Told (f .fitsAt (ringNumber p o i)) (¬ (f .DamagedAt (ringNumber p o i))) (f .DamagedAt (ringNumber p o i))
-              → Told (f .fitsAt (ringNumber p o i)) (¬ (FirstCopy m i × ((h : ℕ) × (d : ℕ) × RoomAt f p k i m h d × f .DamagedAt (ringNumber p (getD (f .offered h) d 0) i))))
-              (FirstCopy m i × ((h : ℕ) × (d : ℕ) × RoomAt f p k i m h d × f .DamagedAt (ringNumber p (getD (f .offered h) d 0) i)))
-          go (told-true t n) = told-true t (λ (r, (h, d, s, b)). n (subst (λ (x : ℕ). f .DamagedAt (ringNumber p x i)) (same h d s) b))
-          go (told-false t b) = told-false t (first, (j, e, (least-j, stop), subst (λ (x : ℕ). f .DamagedAt (ringNumber p x i)) q b))
+      owners = f .offered (targetBy f)
 
       to-follows : (g : Found) → Sought k (Full k) (λ o. endsIn m (ringNumber p o i)) owners g → PlanFollows (rowsFrom 8) (releaseTo f p k i m g)
       unfolding releaseTo
-      to-follows unsound bad = given-row damaged 0 _ (first, (j, least-j, bad))
+      to-follows unsound bad = given-row damaged 0 _ (first, (targetBy f, least-target f p k i m chooses good, bad))
       to-follows none all =
-          passed-row outcomeSays damaged 0 _ (releaseTo f p k i m none) (not-damaged (all-not-bad (length owners) k (Full k) offers all))
+          passed-row outcomeSays damaged 0 _ (releaseTo f p k i m none)
+          (λ c. none-damaged f p k i m chooses good (all-not-bad (length owners) k (Full k) (offeredEnds p i m owners) all) (c .1))
           (passed-row outcomeSays damaged 0 _ (releaseTo f p k i m none) not-later
-          (given-row ringsFull (successor m i) _ (inl (first, all-full all))))
+          (given-row ringsFull (successor m i) _ (inl (first, all-full f p k i m chooses good all))))
       to-follows (at o) (e, stop, q) =
-          passed-row outcomeSays damaged 0 _ (releaseTo f p k i m (at o)) (not-damaged (stop-not-bad (length owners) k (Full k) offers stop))
+          passed-row outcomeSays damaged 0 _ (releaseTo f p k i m (at o))
+          (λ c. none-damaged f p k i m chooses good (stop-not-bad (length owners) k (Full k) (offeredEnds p i m owners) stop) (c .1))
           (passed-row outcomeSays damaged 0 _ (releaseTo f p k i m (at o)) not-later
           (passed-row outcomeSays ringsFull (successor m i) _ (releaseTo f p k i m (at o)) not-full
-          (checked-row outcomeSays _ _ _ (used-told o e stop q) (λ _.
+          (checked-row outcomeSays _ _ _ (used-told f p k i m chooses good e stop first o q) (λ _.
           checked-row outcomeSays _ _ _ (under-told _ first (le-told (weightIn m (successor m i)) 65535)) (λ _. counted-row m _ _)))))
         where
-          not-full : ¬ ((FirstCopy m i × ((h : ℕ) → f .Candidate h → Sound k (endsIn m (ringNumber p h i)) × Full k (endsIn m (ringNumber p h i))))
-              ⊎ ((h : ℕ) × LaterCopy p m i h × Full k (endsIn m (ringNumber p h i))))
-          not-full (inl c) = stop .stops (c .1 (getD owners e 0) (from-j .taken e (stop .inside) .candidate) .1)
+          not-full : ¬ ((FirstCopy m i × AllFull f p k i m) ⊎ ((h : ℕ) × LaterCopy p m i h × Full k (endsIn m (ringNumber p h i))))
+          not-full (inl c) = one-open f p k i m chooses good e stop (c .1)
           not-full (inr c) = not-later c
 
     first-follows : PlanFollows (rowsFrom 7) (releaseFirst f p k i m)
@@ -132,9 +89,7 @@ module _ (f : Form) (p k i : ℕ) (m : Mem) where
         go (told-false e n) = told-false e n
 
     abbrev ElevenMet : Type 0
-    ElevenMet =
-        (FirstCopy m i × ((o : ℕ) → f .Candidate o → Sound k (endsIn m (ringNumber p o i)) × Full k (endsIn m (ringNumber p o i))))
-        ⊎ ((o : ℕ) × LaterCopy p m i o × Full k (endsIn m (ringNumber p o i)))
+    ElevenMet = (FirstCopy m i × AllFull f p k i m) ⊎ ((o : ℕ) × LaterCopy p m i o × Full k (endsIn m (ringNumber p o i)))
 
     eleven-told : Told (full k ends) ElevenMet (¬ ElevenMet)
     eleven-told = go (full-told k ends)

@@ -4,7 +4,6 @@ use Prim.Native.Nat.{ℕ, _+_, _*_, _≤_, _<_}
 use mathlib.Core.Path.{_≡_}
 use mathlib.Core.Logic.{_⊎_}
 use mathlib.Core.List.{List, [], _∷_}
-use lib.ListN.{length, getD}
 use Rattle.task.specs.Types.{nil}
 use Rattle.task.specs.Refusals.{damaged, nothingThere, ringsFull, recordFull}
 use Rattle.task.specs.Rows.{Refusal, row, only}
@@ -13,9 +12,8 @@ use Rattle.task.specs.declared.Step.{Step}
 use Rattle.task.specs.declared.Step.the-variants.{Fetch, Start, Complete, Release}
 use Rattle.weak_task.specs.Types.{Copy, unfixed}
 use Rattle.ring.specs.Ring.{Sound, Empty, Full}
-use Rattle.choice.specs.Least.{Least}
 use Rattle.choice.specs.Form.{Form}
-use Rattle.plans.specs.Forms.{own}
+use Rattle.plans.specs.Forms.{own, BadOffered, AllFull, BadUsed}
 use Rattle.plans.specs.Tables.{headedRows}
 pub use Rattle.plans.specs.Tables.{BeyondPK, rootCount, beginRows, Beyond2^30, BadCounter, BadPlaces, BadRange, GoesOn, BadEnds, StopsAt, scanned, scannedEnds, offeredEnds}
 use Rattle.weak_rules.specs.Memory.{Mem, tasks, edges, ringNumber, endsIn, headItem, counterIn, weightIn, degreeIn, fixedIn, rootsWord, succCount, rowIn, held, pointerIn, entriesIn, acceptedIn, oldest, successor}
@@ -97,10 +95,6 @@ FirstCopy m i = fixedIn m (successor m i) ≡ unfixed .0
 abbrev pub LaterCopy : ℕ → Mem → ℕ → ℕ → Type 0
 LaterCopy p m i o = (fixedIn m (successor m i) ≡ o) × (o < p)
 
--- e is the place of the owner, of those offered from target j on, whose ring is "the first ring filled by i that isn't full"
-abbrev pub RoomAt : Form → ℕ → ℕ → ℕ → Mem → ℕ → ℕ → Type 0
-RoomAt f p k i m j e = Least (f .Candidate) (f .sum) j × StopsAt (length (f .offered j)) k (Full k) (offeredEnds p i m (f .offered j)) e
-
 -- of a Release by form f
 abbrev pub releaseRows : Form → ℕ → ℕ → ℕ → Mem → List Refusal
 releaseRows f p k i m =
@@ -121,15 +115,15 @@ releaseRows f p k i m =
     -- 8: a word that is read for the first copy's target: of document 01's form "counter beyond ±2^30", of all P·P
     ∷ row damaged (only 0 (FirstCopy m i × f .Damaged))
     -- 8: damaged ends, the rings before it, from the target's on, being full
-    ∷ row damaged (only 0 (FirstCopy m i × ((j : ℕ) × Least (f .Candidate) (f .sum) j × BadEnds (length (f .offered j)) k (Full k) (offeredEnds p i m (f .offered j)))))
+    ∷ row damaged (only 0 (FirstCopy m i × BadOffered f p k i m))
     -- 8: of a later copy, damaged ends of "that worker's ring"
     ∷ row damaged (only 0 ((o : ℕ) × LaterCopy p m i o × ¬ (Sound k (endsIn m (ringNumber p o i)))))
     -- 11: all P rings filled by this worker are full, or of a later copy "exactly if that ring is full"; "the successor"
     ∷ row ringsFull (only (successor m i)
-    ((FirstCopy m i × ((o : ℕ) → f .Candidate o → Sound k (endsIn m (ringNumber p o i)) × Full k (endsIn m (ringNumber p o i))))
+    ((FirstCopy m i × AllFull f p k i m)
     ⊎ ((o : ℕ) × LaterCopy p m i o × Full k (endsIn m (ringNumber p o i)))))
     -- 8: the counter of the ring really used, where it is read here (of document 01's form never: it was read for the target)
-    ∷ row damaged (only 0 (FirstCopy m i × ((j : ℕ) × (e : ℕ) × RoomAt f p k i m j e × f .DamagedAt (ringNumber p (getD (f .offered j) e 0) i))))
+    ∷ row damaged (only 0 (FirstCopy m i × BadUsed f p k i m))
     -- 8: "weight over 65,535", of the successor whose first copy is placed
     ∷ row damaged (only 0 (FirstCopy m i × (65535 < weightIn m (successor m i))))
     -- 8: R and the accepted word, last
