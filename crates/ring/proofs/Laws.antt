@@ -1,17 +1,17 @@
 -- Laws over plain lists and numbers that the functions' proofs cite.
 use Prim.Native.Nat.{ℕ, _+_, _-_, _*_, _%_, _≤_, _<_}
-use mathlib.Core.Path.{_≡_, refl}
+use mathlib.Core.Path.{_≡_, refl, sym, _∙_}
 use mathlib.Core.Bool.{Bool, true, false, _&&_}
 use mathlib.Core.List.{List}
 use lib.Dec.{ltb, eqb}
 use lib.ListN.{length, set}
 use native.Mathlib.Omega.{arith}
-use native.Mathlib.Nat.{mod-lt}
-use borrow.Author.Tests.{lt-ltb, le-ltb, lt-leb, le-leb}
+use native.Mathlib.Nat.{mod-lt, mod-eq-of-lt}
+use borrow.Author.Tests.{lt-ltb, le-ltb, lt-leb, le-leb, eq-eqb, ne-eqb}
 use Rattle.lists.specs.Circles.{after}
 use Rattle.lists.proofs.Told.{Told, told-true, told-false, same-told}
 use Rattle.task.specs.declared.Ends.{Ends}
-use Rattle.ring.specs.Ring.{sound, slotAt, endsAt, storeEnds, headOn, tailOn, ringsOf, appendedAt, Inside}
+use Rattle.ring.specs.Ring.{Empty, sound, empty, slotAt, endsAt, storeEnds, headOn, tailOn, ringsOf, appendedAt, Inside}
 
 and-false : (b : Bool) → (b && false) ≡ false
 and-false true = refl
@@ -52,6 +52,22 @@ module _ (k : ℕ) (e : Ends) where
         below : Told leads ((e .head + e .count) % k ≡ e .tail) (¬ ((e .head + e .count) % k ≡ e .tail)) → leads ≡ (ltb (e .tail) k && leads)
         below (told-true v l) = rw (v, lt-ltb (e .tail) k (rw (← l) (mod-lt (e .head + e .count) (omega (arith, h)))))
         below (told-false v l) = rw (v, and-false (ltb (e .tail) k))
+
+  -- The two tests together: of a ring that isn't empty, and of an empty one, which is sound where head is a slot and tail the same one.
+  pub some-there : ¬ (Empty e) → false ≡ (sound k e && empty e)
+  unfolding empty
+  some-there n = rw (ne-eqb (e .count) 0 n, and-false (sound k e))
+
+  module _ (none : Empty e) where
+    pub none-there : (b : Bool) → b ≡ sound k e → b ≡ (sound k e && empty e)
+    unfolding empty
+    none-there b h = rw (h, eq-eqb (e .count) 0 none, and-right (sound k e))
+
+    pub ends-meet : e .head < k → eqb (e .head) (e .tail) ≡ (sound k e && empty e)
+    ends-meet h = none-there _ (sound-tail h (omega (arith, none)) (e .head) leads)
+      where
+        leads : e .head ≡ (e .head + e .count) % k
+        leads = sym (mod-eq-of-lt {n = e .head + e .count} {m = k} (omega (arith, none, h)) ∙ omega (arith, none))
 
 -- Ring q of all rings.
 module _ (slots ends : List ℕ) (k q : ℕ) where

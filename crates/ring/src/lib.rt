@@ -3,6 +3,7 @@
 use task::Ends;
 use task::TaskId;
 ghost use mathlib.Core.Path.{_≡_};
+ghost use mathlib.Core.Bool.{_&&_};
 ghost use Prim.Native.Nat.{_+_, _*_, _%_, _≤_, _<_};
 ghost use lib.ListN.{length, getD};
 ghost use Rattle.lists.specs.Circles.{after};
@@ -38,10 +39,17 @@ pub fn is_sound(ends: Ends, k: usize) -> bool
     reached(ends.head as usize + ends.count as usize, k) == ends.tail as usize
 }
 
-pub fn is_empty(ends: Ends) -> bool
-    ensures { λ r. ⌜ r ≡ empty ends ⌝ }
+// Empty and sound: an empty ring's head leads to itself, so its tail is the same slot.
+pub fn is_sound_empty(ends: Ends, k: usize) -> bool
+    ensures { λ r. ⌜ r ≡ (sound k ends && empty ends) ⌝ }
 {
-    ends.count == 0
+    if ends.count != 0 {
+        return false;
+    }
+    if k <= ends.head as usize {
+        return false;
+    }
+    ends.head == ends.tail
 }
 
 pub fn is_full(ends: Ends, k: usize) -> bool

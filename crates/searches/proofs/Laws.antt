@@ -1,7 +1,7 @@
 -- Laws over plain lists and numbers that the functions' proofs cite.
 use Prim.Native.Nat.{ℕ, zero, suc, _+_, _-_, _%_, _<_}
 use mathlib.Core.Path.{_≡_, refl, sym, ap, _∙_}
-use mathlib.Core.Bool.{Bool, true, false, not}
+use mathlib.Core.Bool.{Bool, true, false, not, _&&_}
 use mathlib.Core.List.{List, _∷_}
 use native.Mathlib.Omega.{arith}
 use native.Mathlib.Nat.{suc-sub-suc, sub-zero, mod-eq-of-lt}
@@ -11,7 +11,7 @@ use Rattle.lists.specs.Circles.{after, around}
 use Rattle.lists.proofs.Blocks.{tabulate-same}
 use Rattle.lists.proofs.Circles.{mod-after}
 use Rattle.task.specs.declared.Ends.{Ends}
-use Rattle.ring.specs.Ring.{endsAt}
+use Rattle.ring.specs.Ring.{endsAt, sound, empty}
 use Rattle.choice.specs.Search.{Found, unsound, none, at, search}
 use Rattle.choice.proofs.Search.{search-nil, search-unsound, search-stops-here, search-goes-on}
 
@@ -23,6 +23,24 @@ ends-read words q r e he hq = he ∙ ap (endsAt words) hq
 pub ends-test : (test : Ends → Bool) (words : List ℕ) (q r : ℕ) (e : Ends) (b v : Bool) → b ≡ test e → e ≡ endsAt words q → q ≡ r → not b ≡ v
     → not (test (endsAt words r)) ≡ v
 ends-test test words q r e b v hb he hq h = rw (← hq, ← he, ← hb) h
+
+both-hold : (a b : Bool) → not (a && b) ≡ false → (not a ≡ false) × (not b ≡ false)
+both-hold true b h = (refl, h)
+both-hold false true h = (h, refl)
+both-hold false false h = (h, h)
+
+second-fails : (a b : Bool) → not (a && b) ≡ true → not a ≡ false → not b ≡ true
+second-fails true b h s = h
+second-fails false true h s = sym s
+second-fails false false h s = refl
+
+-- a ring that was found sound and empty, and one that wasn't, though it is sound
+module _ (k : ℕ) (words : List ℕ) (q r : ℕ) (e : Ends) (b : Bool) (tested : b ≡ (sound k e && empty e)) (read : e ≡ endsAt words q) (hq : q ≡ r) where
+  pub sound-empty : not b ≡ false → (not (sound k (endsAt words r)) ≡ false) × (not (empty (endsAt words r)) ≡ false)
+  sound-empty h = both-hold (sound k (endsAt words r)) (empty (endsAt words r)) (ends-test (λ x. sound k x && empty x) words q r e b false tested read hq h)
+
+  pub not-empty : not b ≡ true → not (sound k (endsAt words r)) ≡ false → not (empty (endsAt words r)) ≡ true
+  not-empty h = second-fails (sound k (endsAt words r)) (empty (endsAt words r)) (ends-test (λ x. sound k x && empty x) words q r e b true tested read hq h)
 
 -- j, j+1, … modulo n, `left` numbers: those that a search around n still has to look at
 unfoldable pub onward : ℕ → ℕ → ℕ → List ℕ

@@ -39,7 +39,8 @@ pub enum Found {
     At(WorkerId, Ends),
 }
 
-// Fetch's scan: the owner's rings, their fillers from `from` upward, modulo p, up to the first that isn't empty.
+// Fetch's scan: the owner's rings, their fillers from `from` upward, modulo p, up to the first that isn't empty. Most
+// rings that it meets are empty: a sound one is passed by the short test, and the one where it stops is judged in full.
 pub fn find_task(ends: &[u32], p: usize, k: usize, owner: WorkerId, from: WorkerId) -> Found
     requires { ⌜ (owner .0 < p) × ((from .0 < p) × ((p ≤ engine .workers) × (length (now ends) ≡ p * p * endWords))) ⌝ }
     ensures { λ r.
@@ -57,19 +58,19 @@ pub fn find_task(ends: &[u32], p: usize, k: usize, owner: WorkerId, from: Worker
         count: 0,
     };
     let filler = loop {
-        if fillers == 0 {
-            return Found::None;
-        }
         both = ring::ends_at(ends, ring_number(p, owner, j));
-        if !ring::is_sound(both, k) {
-            return Found::Unsound;
-        }
-        if !ring::is_empty(both) {
+        if !ring::is_sound_empty(both, k) {
             break j;
         }
         fillers -= 1;
+        if fillers == 0 {
+            return Found::None;
+        }
         j = after_worker(p, j);
     };
+    if !ring::is_sound(both, k) {
+        return Found::Unsound;
+    }
     Found::At(filler, both)
 }
 
