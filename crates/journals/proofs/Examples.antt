@@ -14,7 +14,7 @@ use Rattle.machine.specs.Standing.{callsOf, withoutLast, standing, stepsIn, bac
 use Rattle.machine.proofs.Examples.{Store, storeOf, Call, clear, write, setMark, read, answer, kindOf, store}
 use Rattle.memory.specs.Updates.{storeWords, wordsFrom}
 use Rattle.journals.specs.Journal.{Journaled, journaledOf, WithBack, made, backCall, Keeping, Accepts, fits, says, moves, leaves, journaled, Laws}
-use Rattle.journals.specs.Net.{below, standsOf, Net, own}
+use Rattle.journals.specs.Net.{below, standsOf, Net, onlyOwn}
 use Rattle.journals.proofs.Net.{net}
 
 -- a step keeps a 1 and the word before it
@@ -195,11 +195,11 @@ abbrev stepped : Journaled Store
 stepped = journaledOf (storeOf 5 0 1) (group 0 ++ replicate 16 0)
 
 record Own : Type 0 where
-  theirs : own store keeping (made (write 6) ∷ backCall 0 ∷ made (write 7) ∷ []) stepped [] ≡ true
-  another : own store keeping (made (write 6) ∷ backCall 0 ∷ backCall 0 ∷ []) stepped [] ≡ false
+  theirs : onlyOwn store keeping (made (write 6) ∷ backCall 0 ∷ made (write 7) ∷ []) stepped [] ≡ true
+  another : onlyOwn store keeping (made (write 6) ∷ backCall 0 ∷ backCall 0 ∷ []) stepped [] ≡ false
   -- a refused one takes nothing back, and a begin leaves nothing to be taken back
-  none : own store keeping (made clear ∷ backCall 0 ∷ []) stepped [] ≡ true
+  none : onlyOwn store keeping (made clear ∷ backCall 0 ∷ []) stepped [] ≡ true
 
 owns : Own
-unfolding storeWords wordsFrom acceptedOf began recalled withoutLast standing fits says moves leaves below own
+unfolding storeWords wordsFrom acceptedOf began recalled withoutLast standing fits says moves leaves below onlyOwn
 owns = record { theirs = refl; another = refl; none = refl }

@@ -16,7 +16,7 @@ use Rattle.machine.proofs.Lists.{memory-on, events-on}
 use Rattle.machine.proofs.Standing.{standing-recalled}
 use Rattle.memory.proofs.Fields.{length-words}
 use Rattle.journals.specs.Journal.{Journaled, journaledOf, WithBack, made, backCall, groupPlace, groupAt, Keeping, Accepts, fits, last, saysBy, says, journalBy, moves, leaves, kindOf, journaled, TakesBack, Laws}
-use Rattle.journals.specs.Net.{belowBy, below, standsOf, Net, ownBy, own, LastStep}
+use Rattle.journals.specs.Net.{belowBy, below, standsOf, Net, onlyOwnBy, onlyOwn, LastStep}
 use Rattle.journals.proofs.Groups.{group-there}
 use Rattle.journals.proofs.Held.{reached, reached-is, calls-over, calls-parted, Held, there, again, counted, held-later, Found, found}
 
@@ -33,7 +33,7 @@ module _ {M C B : Type 0} (on : Machine M C) (by : Keeping M C B) where
     unfolding fits
     fit = eq-eqb _ _ long
 
-    says-made : (c : C) → says on by (made c) x ≡ on .says c (x .memory)
+    pub says-made : (c : C) → says on by (made c) x ≡ on .says c (x .memory)
     unfolding says
     says-made c = go (on .kind c)
       where
@@ -176,13 +176,17 @@ module _ {M C B : Type 0} (on : Machine M C) (by : Keeping M C B) where
           }
 
       -- the last step among them, and what a step back makes of it
-      last-of : 0 < stepsIn on es → LastStep on by b x
+      last-of : 0 < stepsIn on es → LastStep on by b x es
       unfolding moves
       last-of some =
           record {
             earlier = s .earlier ++ callsOf (f .earlier);
             step = f .step .call;
             since = callsOf (f .since);
+            before = s .earlier;
+            rest = callsOf (f .earlier);
+            parted = refl;
+            standing = ap callsOf (f .is) ∙ calls-parted on [] (f .since) (f .step) (f .earlier);
             memory = s .memory ∙ ap (λ (l : List (Event C)). reached on l m) (f .is) ∙ sym (along (f .since ++ (f .step ∷ f .earlier)))
                 ∙ ap (λ (cs : List C). memoryAfter on cs b) (calls-parted on (s .earlier) (f .since) (f .step) (f .earlier));
             accepts = rw (along (f .earlier)) (f .forwards, there on by laws m (f .step) (f .earlier) (x .journal) (f .holds));
@@ -301,7 +305,7 @@ module _ {M C B : Type 0} (on : Machine M C) (by : Keeping M C B) where
         go (suc n) e = omega arith
 
     -- or the calls take back no step but their own
-    own-stand : (k : Kind) (a : Bool) (past : Past) → ownBy on by k a past ≡ true → k ≡ back → a ≡ true → 0 < stepsIn on (standsOf on by past)
+    own-stand : (k : Kind) (a : Bool) (past : Past) → onlyOwnBy on by k a past ≡ true → k ≡ back → a ≡ true → 0 < stepsIn on (standsOf on by past)
     own-stand back true past o q a = ltb-true 0 (stepsIn on (standsOf on by past)) o
     own-stand back false past o q a = unequal cc
     own-stand beginning f past o q a = unequal cc
@@ -310,11 +314,11 @@ module _ {M C B : Type 0} (on : Machine M C) (by : Keeping M C B) where
     own-stand lookup f past o q a = unequal cc
 
     abbrev Backed : List (WithBack C B) → Journaled M → Past → Type 0
-    Backed cs x past = (_≡_ {A = ℕ} (by .count b) 0) ⊎ (own on by cs x past ≡ true)
+    Backed cs x past = (_≡_ {A = ℕ} (by .count b) 0) ⊎ (onlyOwn on by cs x past ≡ true)
 
     every-call : (cs : List (WithBack C B)) (y x : Journaled M) (past : Past) → Backed cs x past → Inv y x past
         → Inv (begunIn J cs x y) (memoryAfter J cs x) (eventsAfter J cs x past)
-    unfolding memoryAfter eventsAfter begunIn own
+    unfolding memoryAfter eventsAfter begunIn onlyOwn
     every-call [] y x past o i = i
     every-call (c ∷ cs) y x past o i = go o (every-call cs (nextBegun c x y) (leaves on by c x) (after c x past))
       where
@@ -324,7 +328,7 @@ module _ {M C B : Type 0} (on : Machine M C) (by : Keeping M C B) where
         go : Backed (c ∷ cs) x past → (Backed cs (leaves on by c x) (after c x past) → Inv (nextBegun c x y) (leaves on by c x) (after c x past) → End) → End
         go (inl z) later = later (inl z) (each c y x past (some-stand c (y .memory) x past z (i .0)) i)
         go (inr o) later =
-            let (first, rest) = and-true (ownBy on by (kindOf on by c) (acceptedSaid (says on by c x)) past) (own on by cs (leaves on by c x) _) o in
+            let (first, rest) = and-true (onlyOwnBy on by (kindOf on by c) (acceptedSaid (says on by c x)) past) (onlyOwn on by cs (leaves on by c x) _) o in
             later (inr rest) (each c y x past (own-stand (kindOf on by c) (acceptedSaid (says on by c x)) past first) i)
 
     -- From b and a journal of the stated length on.
@@ -364,11 +368,11 @@ module _ {M C B : Type 0} (on : Machine M C) (by : Keeping M C B) where
       net z = net-by (inl z)
 
       -- PROMISE: from any memory on, where the calls take back no step but their own
-      pub net-own : own on by cs first [] ≡ true → Net on by b begun lists events
+      pub net-own : onlyOwn on by cs first [] ≡ true → Net on by b begun lists events
       net-own o = net-by (inr o)
 
       -- PROMISE: where the accepted word isn't 0 there is a last step, and a step back answers as right after it and takes it back
-      pub last-step : _≡_ {A = ℕ} (by .count b) 0 → ¬ (_≡_ {A = ℕ} (by .count (lists .memory)) 0) → LastStep on by b lists
+      pub last-step : _≡_ {A = ℕ} (by .count b) 0 → ¬ (_≡_ {A = ℕ} (by .count (lists .memory)) 0) → LastStep on by b lists (standsOf on by events)
       last-step z n =
           let s = throughout (inl z) .0 in
           last-of begun lists (standsOf on by events) s (omega (arith, n, steps-in begun lists (standsOf on by events) s z))

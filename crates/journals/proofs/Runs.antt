@@ -12,7 +12,7 @@ use Rattle.task.specs.declared.Limits.{Limits}
 use Rattle.machine.specs.Machine.{beginning, Machine, acceptedSaid, memoryAfter, eventsAfter, begunIn}
 use Rattle.machine.specs.Runs.{View, Run, begunOf, eventsOf, viewOf}
 use Rattle.journals.specs.Journal.{Journaled, journaledOf, made, Keeping, Accepts, lentToo, fits, says, moves, journaled, Laws}
-use Rattle.journals.specs.Net.{Net, LastStep}
+use Rattle.journals.specs.Net.{standsOf, Net, LastStep}
 use Rattle.journals.specs.Runs.{beginKept, KeptRun, listsOf, lastBegun, standingView}
 use Rattle.journals.proofs.Net.{left-moved, net, last-step}
 
@@ -69,7 +69,8 @@ module _ {M C B : Type 0} (on : Machine M C) (beginBy : Limits → (p k : ℕ) �
         (eventsAfter (journaled on by) (r .calls) x [])) (sym begun-is) (net on by laws begun blank blank-long (r .calls) none-begun)
 
     -- the last step of a run: the calls before it are a run too
-    pub run-last : ¬ (_≡_ {A = ℕ} (by .count (listsOf on beginBy by r .memory)) 0) → LastStep on by begun (listsOf on beginBy by r)
+    pub run-last : ¬ (_≡_ {A = ℕ} (by .count (listsOf on beginBy by r .memory)) 0)
+        → LastStep on by begun (listsOf on beginBy by r) (standsOf on by (eventsOf (journaled on by) (beginKept on beginBy by) r))
     run-last = rw begun-is (last-step on by laws begun blank blank-long (r .calls) none-begun)
 
     -- the run that stands

@@ -114,7 +114,7 @@ module _ {M C B : Type 0} (on : Machine M C) (by : Keeping M C B) where
     pub back-sized : (b : B) (g : List ℕ) (m : M) → TakesBack b g m → by .size (by .backLeaves b g m) ≡ by .size m
     pub eight : (c : C) (m : M) → Accepts on forward c m → _≡_ {A = ℕ} (length (by .words c m)) 8
     pub room : (c : C) (m : M) → Accepts on forward c m → 8 * by .count m + 8 ≤ by .size m
-    -- "16 at an accepted word of 0"
+    -- at an accepted word of 0 it is refused; with which number, and when it is accepted else, the family's table says
     pub none : (b : B) (g : List ℕ) (m : M) → _≡_ {A = ℕ} (by .count m) 0 → acceptedSaid (by .backSays b g m) ≡ false
     -- "all lent words outside the journal are then those before that step": in every memory in which both are accepted
     pub exact : (b : B) (c : C) (m : M) → Accepts on forward c m → TakesBack b (by .words c m) (on .leaves c m)

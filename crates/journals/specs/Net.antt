@@ -42,25 +42,30 @@ module _ {M C B : Type 0} (on : Machine M C) (by : Keeping M C B) where
     pub long : length (x .journal) ≡ by .size (x .memory)
 
   -- an accepted step back takes back a step among these events
-  abbrev pub ownBy : Kind → Bool → List (Event (WithBack C B)) → Bool
-  ownBy beginning a past = true
-  ownBy forward a past = true
-  ownBy back true past = ltb 0 (stepsIn on (standsOf past))
-  ownBy back false past = true
-  ownBy aside a past = true
-  ownBy lookup a past = true
+  abbrev pub onlyOwnBy : Kind → Bool → List (Event (WithBack C B)) → Bool
+  onlyOwnBy beginning a past = true
+  onlyOwnBy forward a past = true
+  onlyOwnBy back true past = ltb 0 (stepsIn on (standsOf past))
+  onlyOwnBy back false past = true
+  onlyOwnBy aside a past = true
+  onlyOwnBy lookup a past = true
 
   -- the calls take back no step but their own and those of `past`
-  unfoldable pub own : List (WithBack C B) → Journaled M → List (Event (WithBack C B)) → Bool
-  own [] x past = true
-  own (c ∷ cs) x past =
-      ownBy (kindOf on by c) (acceptedSaid (says on by c x)) past && own cs (leaves on by c x) (recalled (journaled on by) (eventOf (journaled on by) c x) past)
+  unfoldable pub onlyOwn : List (WithBack C B) → Journaled M → List (Event (WithBack C B)) → Bool
+  onlyOwn [] x past = true
+  onlyOwn (c ∷ cs) x past =
+      onlyOwnBy (kindOf on by c) (acceptedSaid (says on by c x)) past && onlyOwn cs (leaves on by c x) (recalled (journaled on by) (eventOf (journaled on by) c x) past)
 
-  -- the last step that stands, calls from b on before it, calls aside since
-  pub record LastStep (b : M) (x : Journaled M) : Type 0 where
+  -- Of the events that stand, the last step, with the calls from b on before it and the calls aside since.
+  pub record LastStep (b : M) (x : Journaled M) (stands : List (Event C)) : Type 0 where
     pub earlier : List C
     pub step : C
     pub since : List C
+    -- those of the last begin's run are what stands
+    pub before : List C
+    pub rest : List C
+    pub parted : earlier ≡ before ++ rest
+    pub standing : callsOf stands ≡ rest ++ (step ∷ since)
     pub memory : x .memory ≡ memoryAfter on (earlier ++ (step ∷ since)) b
     pub accepts : Accepts on forward step (memoryAfter on earlier b)
     pub asides : AllAside on since

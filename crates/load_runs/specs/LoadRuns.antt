@@ -23,8 +23,9 @@ windowsIn limits v m results = windowLoads limits (v .workers) m (v .memory .wei
 unfoldable pub finishedIn : Mem → ℕ → Entry ℕ → ℕ
 finishedIn m i e = cond (eqb (e .worker) i) (weightIn m (e .item)) 0
 
--- PROMISE: "entries recorded" are the accepted Completes: a call for load windows is never answered 8, is accepted with limits, an m and a length that
--- suit, shows in each word what the Completes of its window finished, and of a finished run the whole weight
+-- PROMISE, of what every run shows (`load-runs`): "entries recorded" are the accepted Completes: a call for load windows is never answered 8, is
+-- accepted with limits, an m and a length that suit, shows in each word what the Completes of its window finished, and of a finished run the whole
+-- weight
 pub record LoadRuns (v : View Mem Call) : Type 0 where
   -- no recorded word is damaged, whatever the limits, m and the result list
   pub undamaged : (limits : Limits) (m : ℕ) (results : List ℕ) (d : ℕ)

@@ -72,7 +72,7 @@ abbrev bySums : ℕ → List ℕ → List ℤ → Mem → Form
 bySums p marks sums m = lent p marks sums m
 
 pub record FormExamples : Type 0 where
-  -- No. 10, "P 2, worker 0 closing: the diamond's 1 and 2 both go to 1"
+  -- No. 10, P 2, worker 0 closing: the diamond's tasks 1 and 2 both go to worker 1
   pub closing : released 2 (marked 2 (1 ∷ 0 ∷ [])) 2 4 0 completed ≡ taskPlaced 1 1 ∷ taskPlaced 2 1 ∷ []
   -- all open: as today
   pub allOpen : released 2 (marked 2 (0 ∷ 0 ∷ [])) 2 4 0 completed ≡ answers 2 4 (by 0 Release ∷ by 0 Release ∷ []) completed
@@ -85,12 +85,12 @@ pub record FormExamples : Type 0 where
   pub openRead : released 1 (marked 2 (1 ∷ 0 ∷ [])) 2 4 0 (counterAt 3 completed) ≡ refused 8 0 ∷ []
   -- "11 means that all rings of open owners filled by the caller are full"
   pub openFull : released 3 (marked 2 (0 ∷ 1 ∷ [])) 2 2 0 fan ≡ taskPlaced 1 0 ∷ taskPlaced 2 0 ∷ refused 11 3 ∷ []
-  -- No. 14, "the diamond with sums (1, 0) lent at every Release: 1 and 2 to worker 1; equal sums: lowest open; −2^31 is least"
+  -- No. 14, the diamond with sums 1 and 0 lent at every Release: tasks 1 and 2 go to worker 1; on equal sums the lowest open one; −2^31 is the least
   pub lentSums : released 2 (bySums 2 (0 ∷ 0 ∷ []) (pos 1 ∷ pos 0 ∷ [])) 2 4 0 completed ≡ taskPlaced 1 1 ∷ taskPlaced 2 1 ∷ []
   pub lentEqual : released 2 (bySums 2 (0 ∷ 0 ∷ []) (pos 7 ∷ pos 7 ∷ [])) 2 4 0 completed ≡ taskPlaced 1 0 ∷ taskPlaced 2 0 ∷ []
   pub lentOpen : released 1 (bySums 2 (1 ∷ 0 ∷ []) (pos 7 ∷ pos 7 ∷ [])) 2 4 0 completed ≡ taskPlaced 1 1 ∷ []
   pub lentLeast : released 1 (bySums 2 (0 ∷ 0 ∷ []) (pos 0 ∷ negsuc 2147483647 ∷ [])) 2 4 0 completed ≡ taskPlaced 1 1 ∷ []
-  -- 14.3: a bad counter elsewhere is no 8, that of the ring really used is, and "with all open rings full it is 11"
+  -- a bad counter elsewhere is no 8, that of the ring really used is, and with all open rings full it is 11
   pub elsewhere : released 1 (bySums 2 (0 ∷ 0 ∷ []) (pos 1 ∷ pos 0 ∷ [])) 2 4 0 (counterAt 0 completed) ≡ taskPlaced 1 1 ∷ []
   pub used : released 1 (bySums 2 (0 ∷ 0 ∷ []) (pos 1 ∷ pos 0 ∷ [])) 2 4 0 (counterAt 2 completed) ≡ refused 8 0 ∷ []
   pub fullFirst : released 3 (bySums 2 (0 ∷ 1 ∷ []) (pos 0 ∷ pos 0 ∷ [])) 2 2 0 (counterAt 2 (counterAt 3 fan)) ≡ taskPlaced 1 0 ∷ taskPlaced 2 0 ∷ refused 11 3 ∷ []

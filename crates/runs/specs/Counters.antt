@@ -26,7 +26,7 @@ AddsUp p s = items.AddsUp (nil .0) (weightOf s) p s
 unfoldable pub inHandOf : Mem → ℕ → List ℕ
 inHandOf m i = cond (eqb (rowIn m i .phase) 0) [] (held m i ∷ [])
 
--- PROMISE: after every list of a run's calls
+-- PROMISE, of what every run shows (`counters-add-up`): after every list of its calls
 pub record CountersAddUp (v : View Mem Call) : Type 0 where
   -- no ring's list is read from damaged ends, as an empty one
   pub ends : (i j : ℕ) → i < v .workers → j < v .workers → Sound (v .slots) (endsIn (v .memory) (ringNumber (v .workers) i j))

@@ -27,9 +27,9 @@ unfoldable pub wordsOf : List (Entry ℕ) → List ℕ
 wordsOf [] = []
 wordsOf (e ∷ es) = e .item ∷ e .worker ∷ wordsOf es
 
--- PROMISE: "After every list of a run's calls the accepted word is the number of its accepted steps, the entries word that of its accepted Completes.
--- The record begins with one entry for each of these Completes, in their order: the task that the worker's last accepted Fetch before it
--- answered, and that worker." The words behind them are begin's zeros.
+-- PROMISE, of what every run shows (`run-words`): "After every list of a run's calls the accepted word is the number of its accepted steps, the
+-- entries word that of its accepted Completes. The record begins with one entry for each of these Completes, in their order: the task that the
+-- worker's last accepted Fetch before it answered, and that worker." The words behind them are begin's zeros.
 pub record RunWords (v : View Mem Call) : Type 0 where
   -- "Two run words: entries recorded, steps accepted."
   pub run : v .memory .run ≡ acceptedCompletes (v .events) ∷ acceptedSteps (v .events) ∷ []

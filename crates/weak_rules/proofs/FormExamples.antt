@@ -71,7 +71,7 @@ pub record FormExamples : Type 0 where
   -- "Later weak copies still follow their task to a closing worker": no mark is read
   pub laterCopy : released 1 (marked (1 ∷ 0 ∷ [])) 2 4 1 later ≡ copyPlaced (copy 3 2) 0 ∷ []
   pub laterUnread : released 1 (marked (1 ∷ 7 ∷ [])) 2 4 1 later ≡ copyPlaced (copy 3 2) 0 ∷ []
-  -- No. 14: "A later weak copy doesn't look at the sums."
+  -- No. 14: a later copy doesn't look at the sums
   pub lentSums : released 2 (bySums (0 ∷ 0 ∷ []) (pos 1 ∷ pos 0 ∷ [])) 2 4 0 completed ≡ copyPlaced (copy 1 0) 1 ∷ copyPlaced (copy 2 0) 1 ∷ []
   pub lentLater : released 1 (bySums (0 ∷ 0 ∷ []) (pos 1 ∷ pos 0 ∷ [])) 2 4 1 later ≡ copyPlaced (copy 3 2) 0 ∷ []
   pub elsewhere : released 1 (bySums (0 ∷ 0 ∷ []) (pos 1 ∷ pos 0 ∷ [])) 2 4 0 (counterAt 0 completed) ≡ copyPlaced (copy 1 0) 1 ∷ []

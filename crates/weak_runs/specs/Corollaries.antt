@@ -52,11 +52,11 @@ NeverEarly v =
     (x : ℕ) (b : Copy) → x < acceptedCompletes (v .events) → Before (graphOf v) b (copyWords (v .memory) x)
     → (y : ℕ) × (y < x) × (copyWords (v .memory) y ≡ b)
 
--- while a worker holds a copy, an entry is free for it: in memory begun and stepped by the engine Complete never meets 12
+-- while a worker holds a copy, an entry is free for it
 abbrev pub HoldingOpen : View Mem Call → Type 0
 HoldingOpen v = (i : ℕ) → i < v .workers → ¬ (_≡_ {A = ℕ} (rowIn (v .memory) i .phase) 0) → entriesIn (v .memory) < copiesIn v
 
--- whatever the limits, P, K and worker
+-- in memory begun and stepped by the engine Complete never meets 12, whatever the limits, P, K and worker
 abbrev pub NeverFull : View Mem Call → Type 0
 NeverFull v = (limits : Limits) (p k i d : ℕ) → ¬ (stepSays (step limits p k i Complete (v .memory) .answer) ≡ refused recordFull d)
 

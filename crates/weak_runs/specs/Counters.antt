@@ -18,7 +18,7 @@ use Rattle.weak_runs.specs.Calls.{Call, View}
 unfoldable pub openOf : Mem → ℕ → List ℕ
 openOf m i = joined (tasks m) (λ t. cond (eqb (fixedIn m t) i && not (eqb (degreeIn m t) 0)) (t ∷ []) [])
 
--- PROMISE: after every list of a run's calls
+-- PROMISE, of what every run shows (`counters-add-up`): after every list of its calls
 pub record CountersAddUp (v : View Mem Call) : Type 0 where
   -- no ring's list is read from damaged ends, as an empty one
   pub ends : (i j : ℕ) → i < v .workers → j < v .workers → Sound (v .slots) (endsIn (v .memory) (ringNumber (v .workers) i j))

@@ -20,7 +20,7 @@ pub record NoCopy (v : View Mem Call) (t : ℕ) : Type 0 where
   pub inHand : (i : ℕ) → i < v .workers → ¬ (_≡_ {A = ℕ} (rowIn (v .memory) i .phase) 0) → ¬ (held (v .memory) i .task ≡ t)
   pub recorded : (x : ℕ) → x < acceptedCompletes (v .events) → ¬ (copyWords (v .memory) x .task ≡ t)
 
--- PROMISE: after every list of a run's calls
+-- PROMISE, of what every run shows (`fixed-workers`): after every list of its calls
 pub record FixedWorkers (v : View Mem Call) : Type 0 where
   -- "65,535 before, else below P"
   pub words : (t : ℕ) → t < tasks (v .lent) → (fixedIn (v .memory) t ≡ unfixed .0) ⊎ (fixedIn (v .memory) t < v .workers)

@@ -27,9 +27,9 @@ unfoldable pub wordsOf : List (Entry Copy) → List ℕ
 wordsOf [] = []
 wordsOf (e ∷ es) = e .item .task ∷ e .item .predecessor ∷ e .worker ∷ wordsOf es
 
--- PROMISE: the accepted word is the number of the run's accepted steps, the entries word that of its accepted Completes, and the third is R. The record
--- begins with one entry for each of these Completes, in their order: the copy that the worker's last accepted Fetch before it answered, and that
--- worker. The words behind them are begin's zeros.
+-- PROMISE, of what every run shows (`run-words`): the accepted word is the number of the run's accepted steps, the entries word that of its accepted
+-- Completes, and the third is R. The record begins with one entry for each of these Completes, in their order: the copy that the worker's last
+-- accepted Fetch before it answered, and that worker. The words behind them are begin's zeros.
 pub record RunWords (v : View Mem Call) : Type 0 where
   pub run : v .memory .run ≡ acceptedCompletes (v .events) ∷ acceptedSteps (v .events) ∷ rootsOf v ∷ []
   pub recorded : v .memory .executed
