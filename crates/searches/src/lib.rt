@@ -58,14 +58,14 @@ pub fn find_task(ends: &[u32], p: usize, k: usize, owner: WorkerId, from: Worker
         count: 0,
     };
     let filler = loop {
+        if fillers == 0 {
+            return Found::None;
+        }
         both = ring::ends_at(ends, ring_number(p, owner, j));
         if !ring::is_sound_empty(both, k) {
             break j;
         }
         fillers -= 1;
-        if fillers == 0 {
-            return Found::None;
-        }
         j = after_worker(p, j);
     };
     if !ring::is_sound(both, k) {
