@@ -31,3 +31,4 @@ pub mod Pair
 pub mod LongTile
 pub mod Examples
 pub mod ItemExamples
+pub mod Guards

@@ -30,3 +30,4 @@ pub mod Hosted
 pub mod Links
 pub mod Examples
 pub mod Wrong
+pub mod Guards
