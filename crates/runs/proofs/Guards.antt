@@ -51,9 +51,13 @@ use Rattle.runs.proofs.LongTile.{tiles}
 abbrev pub completes : ℕ → List Event
 completes n = replicate n (record { call = stepCall engine 2 2 0 Complete; said = accepted })
 
--- a run of P workers and K slots, begun on `lent`, with so many accepted Completes, and what memory it shows
+-- limits of so many tasks
+abbrev pub few : ℕ → Limits
+few n = record { tasks = n; edges = 0; workers = 2; slots = 2 }
+
+-- a run of P workers and K slots, begun on `lent`, with so many accepted Completes, and what memory it shows; begin's limits are of no step below
 abbrev pub shown : (p k : ℕ) (lent memory : Mem) → ℕ → View Mem Call
-shown p k lent memory n = record { limits = engine; workers = p; slots = k; lent = lent; memory = memory; events = completes n }
+shown p k lent memory n = record { limits = few 1; workers = p; slots = k; lent = lent; memory = memory; events = completes n }
 
 -- the memory that begin and these calls leave, with words forged
 abbrev pub forged : (p k : ℕ) → Mem → List examples.Call → List Update → ℕ → View Mem Call
@@ -67,10 +71,7 @@ tiled = forged 2 2 tiles
 abbrev pub early : List Update → ℕ → View Mem Call
 early us = forged 2 4 diamond [] (putEntry 0 0 0 ∷ putEntry 1 2 0 ∷ putEntry 2 3 0 ∷ putEntry 3 1 0 ∷ us)
 
--- limits of two tasks, and a memory of two tasks shown by a run on three
-abbrev pub two : Limits
-two = record { tasks = 2; edges = 0; workers = 2; slots = 2 }
-
+-- a memory of two tasks, shown by a run on three
 abbrev pub mistaken : View Mem Call
 mistaken = shown 2 2 tiles (fresh 2 2 twoRoots) 0
 
@@ -97,9 +98,9 @@ pub record Guards : Type 0 where
   pub heldEarly : ¬ (HeldBehind (early (putHand 1 1 3 ∷ []) 2))
   -- and with four accepted Completes, 3 before 1
   pub recordedEarly : ¬ (NeverEarly (early [] 4))
-  -- N entries, worker 1 with a task in hand; and worker 0's Complete meets 12
+  -- N entries, and worker 1 with a task in hand; its Complete meets 12, with other limits, P and K than begin's
   pub heldInVain : ¬ (HoldingOpen (tiled [] (putEntries 3 ∷ putHand 1 1 1 ∷ []) 0))
-  pub twelve : ¬ (NeverFull (tiled [] (putEntries 3 ∷ putHand 0 2 0 ∷ []) 0))
+  pub twelve : ¬ (NeverFull (shown 1 3 tiles (written (putEntries 3 ∷ putHand 1 2 1 ∷ []) (fresh 2 2 tiles)) 0))
   -- worker 1's Release goes to worker 0
   pub longTileForEmpty : ¬ (Lightest lying)
   -- a step with another P is accepted, and a begin with another K
@@ -111,8 +112,8 @@ pub record Guards : Type 0 where
   pub writtenBeyond : ¬ (BeyondLimits mistaken)
   pub stepNotKept : ¬ (AcceptedKept mistaken)
   pub beginNotKept : ¬ (AcceptedKept mistaken)
-  -- a root waits
-  pub oneMore : ¬ (NoMore (tiled [] [] 0))
+  -- a root waits, for a worker, P, K and limits other than begin's
+  pub oneMore : ¬ (NoMore (shown 1 3 tiles (fresh 2 2 tiles) 0))
   -- each step of worker 1 that would still be accepted
   pub stillFetches : ¬ (FinishedSays (tiled [] [] 0))
   pub stillStarts : ¬ (FinishedSays (tiled fetched [] 0))
@@ -154,15 +155,15 @@ guards =
       heldEarly = λ promised. absent (promised 1 1 (omega arith) (λ e. omega (arith, e)) one-before-three);
       recordedEarly = λ promised. absent (promised 2 1 (omega arith) one-before-three);
       heldInVain = λ promised. omega (arith, promised 1 (omega arith) (λ e. omega (arith, e)));
-      twelve = λ promised. promised preview 2 2 0 0 refl;
+      twelve = λ promised. promised preview 2 2 1 0 refl;
       longTileForEmpty = λ promised. heavier promised (accepted-step engine 2 2 1 Release (lying .memory) tt .allowed .made);
       otherWorkers = λ promised. accepted-fits _ tt (promised engine 2 2 (λ e. omega (arith, e .0)) .0 1 Fetch);
       otherSlots = λ promised. accepted-fits _ tt (promised engine 2 2 (λ e. omega (arith, e .1)) .1);
-      stepBeyond = λ promised. unequal (cc (promised two 2 2 (λ w. omega (arith, w .fewTasks)) .0 1 Fetch .0));
-      beginBeyond = λ promised. unequal (cc (promised two 2 2 (λ w. omega (arith, w .fewTasks)) .1 .0));
-      writtenBeyond = λ promised. omega (arith, ap acceptedIn (promised two 2 2 (λ w. omega (arith, w .fewTasks)) .0 1 Fetch .1));
-      stepNotKept = λ promised. omega (arith, promised two 2 2 .0 1 Fetch tt .fewTasks);
-      beginNotKept = λ promised. omega (arith, promised two 2 2 .1 tt .fewTasks);
+      stepBeyond = λ promised. unequal (cc (promised (few 2) 2 2 (λ w. omega (arith, w .fewTasks)) .0 1 Fetch .0));
+      beginBeyond = λ promised. unequal (cc (promised (few 2) 2 2 (λ w. omega (arith, w .fewTasks)) .1 .0));
+      writtenBeyond = λ promised. omega (arith, ap acceptedIn (promised (few 2) 2 2 (λ w. omega (arith, w .fewTasks)) .0 1 Fetch .1));
+      stepNotKept = λ promised. omega (arith, promised (few 2) 2 2 .0 1 Fetch tt .fewTasks);
+      beginNotKept = λ promised. omega (arith, promised (few 2) 2 2 .1 tt .fewTasks);
       oneMore = λ promised. promised preview 2 2 1 Fetch tt;
       stillFetches = λ promised. unequal (cc (promised 1 (omega arith) preview kept .0));
       stillStarts = λ promised. unequal (cc (promised 1 (omega arith) preview kept .1));

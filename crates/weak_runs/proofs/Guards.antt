@@ -41,7 +41,7 @@ use Rattle.weak_rules.proofs.Examples as examples
 use Rattle.weak_rules.proofs.Examples.{lent, fresh, memoryAfter, by, twoRoots}
 use Rattle.weak_rules.proofs.Moves.{accepted-step}
 use Rattle.views.proofs.Numbers.{accepted-fits}
-use Rattle.runs.proofs.Guards.{completes, two, misled, small-kept}
+use Rattle.runs.proofs.Guards.{completes, few, misled, small-kept}
 use Rattle.weak_runs.specs.Calls.{Call, View}
 use Rattle.weak_runs.specs.Counters.{openOf}
 use Rattle.weak_runs.specs.Corollaries.{OneHolder, WaitingBehind, HeldBehind, NeverEarly, HoldingOpen, NeverFull, Lightest, OtherNumbers, BeyondLimits, AcceptedKept, NoMore, FinishedSays}
@@ -50,9 +50,9 @@ use Rattle.weak_runs.specs.Corollaries.{OneHolder, WaitingBehind, HeldBe
 abbrev pub tiles : Mem
 tiles = lent 2 2 (60 ∷ 1 ∷ 1 ∷ 1 ∷ []) (0 ∷ 0 ∷ 0 ∷ 2 ∷ 3 ∷ []) (0 ∷ 1 ∷ 2 ∷ [])
 
--- a run of P workers and K slots, begun on the tiles, with so many accepted Completes, and what memory it shows
+-- a run of P workers and K slots, begun on the tiles, with so many accepted Completes, and what memory it shows; begin's limits are of no step below
 abbrev pub shown : (p k : ℕ) (memory : Mem) → ℕ → View Mem Call
-shown p k memory n = record { limits = engine; workers = p; slots = k; lent = tiles; memory = memory; events = completes n }
+shown p k memory n = record { limits = few 1; workers = p; slots = k; lent = tiles; memory = memory; events = completes n }
 
 -- the memory that begin and these calls leave, with words forged
 abbrev pub forged : List examples.Call → List Update → ℕ → View Mem Call
@@ -91,9 +91,9 @@ pub record Guards : Type 0 where
   pub heldEarly : ¬ (HeldBehind (early (putHand 1 1 (copy 3 2) ∷ []) 3))
   -- and with five accepted Completes, task 3's copy before it
   pub recordedEarly : ¬ (NeverEarly (early [] 5))
-  -- E + R entries, worker 1 with a copy in hand; and worker 0's Complete meets 12
+  -- E + R entries, and worker 1 with a copy in hand; its Complete meets 12, with other limits, P and K than begin's
   pub heldInVain : ¬ (HoldingOpen (forged [] (putEntries 5 ∷ putHand 1 1 (copy 1 65535) ∷ []) 0))
-  pub twelve : ¬ (NeverFull (forged [] (putEntries 5 ∷ putHand 0 2 (copy 0 65535) ∷ []) 0))
+  pub twelve : ¬ (NeverFull (shown 1 3 (written (putEntries 5 ∷ putHand 1 2 (copy 1 65535) ∷ []) (fresh 2 2 tiles)) 0))
   -- worker 1's Release goes to worker 0
   pub longTileForEmpty : ¬ (Lightest lying)
   -- a step with another P is accepted, and a begin with another K
@@ -105,8 +105,8 @@ pub record Guards : Type 0 where
   pub writtenBeyond : ¬ (BeyondLimits mistaken)
   pub stepNotKept : ¬ (AcceptedKept mistaken)
   pub beginNotKept : ¬ (AcceptedKept mistaken)
-  -- a root waits
-  pub oneMore : ¬ (NoMore (forged [] [] 0))
+  -- a root waits, for a worker, P, K and limits other than begin's
+  pub oneMore : ¬ (NoMore (shown 1 3 (fresh 2 2 tiles) 0))
   -- each step of worker 1 that would still be accepted
   pub stillFetches : ¬ (FinishedSays (forged [] [] 0))
   pub stillStarts : ¬ (FinishedSays (forged fetched [] 0))
@@ -132,15 +132,15 @@ guards =
       heldEarly = λ promised. absent (promised 1 (copy 2 1) (omega arith) (λ e. omega (arith, e)) two-before-three);
       recordedEarly = λ promised. absent (promised 3 (copy 2 1) (omega arith) two-before-three);
       heldInVain = λ promised. omega (arith, promised 1 (omega arith) (λ e. omega (arith, e)));
-      twelve = λ promised. promised preview 2 2 0 0 refl;
+      twelve = λ promised. promised preview 2 2 1 0 refl;
       longTileForEmpty = λ promised. heavier promised (accepted-step engine 2 2 1 Release (lying .memory) tt .allowed .made);
       otherWorkers = λ promised. accepted-fits _ tt (promised engine 2 2 (λ e. omega (arith, e .0)) .0 1 Fetch);
       otherSlots = λ promised. accepted-fits _ tt (promised engine 2 2 (λ e. omega (arith, e .1)) .1);
-      stepBeyond = λ promised. unequal (cc (promised two 2 2 (λ w. omega (arith, w .fewTasks)) .0 1 Fetch .0));
-      beginBeyond = λ promised. unequal (cc (promised two 2 2 (λ w. omega (arith, w .fewTasks)) .1 .0));
-      writtenBeyond = λ promised. omega (arith, ap acceptedIn (promised two 2 2 (λ w. omega (arith, w .fewTasks)) .0 1 Fetch .1));
-      stepNotKept = λ promised. omega (arith, promised two 2 2 .0 1 Fetch tt .fewTasks);
-      beginNotKept = λ promised. omega (arith, promised two 2 2 .1 tt .fewTasks);
+      stepBeyond = λ promised. unequal (cc (promised (few 2) 2 2 (λ w. omega (arith, w .fewTasks)) .0 1 Fetch .0));
+      beginBeyond = λ promised. unequal (cc (promised (few 2) 2 2 (λ w. omega (arith, w .fewTasks)) .1 .0));
+      writtenBeyond = λ promised. omega (arith, ap acceptedIn (promised (few 2) 2 2 (λ w. omega (arith, w .fewTasks)) .0 1 Fetch .1));
+      stepNotKept = λ promised. omega (arith, promised (few 2) 2 2 .0 1 Fetch tt .fewTasks);
+      beginNotKept = λ promised. omega (arith, promised (few 2) 2 2 .1 tt .fewTasks);
       oneMore = λ promised. promised preview 2 2 1 Fetch tt;
       stillFetches = λ promised. unequal (cc (promised 1 (omega arith) preview kept .0));
       stillStarts = λ promised. unequal (cc (promised 1 (omega arith) preview kept .1));
