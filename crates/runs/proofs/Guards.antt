@@ -1,5 +1,5 @@
--- What no run shows: forged views, each refused by the predicate of `specs/Corollaries.antt` that it is against. A predicate that said less (a premise
--- more, a part of its conclusion less) would not refuse its view.
+-- What no run shows: forged views, each refused by the predicate of `specs/Corollaries.antt` that it is against. Of `OtherNumbers`, `BeyondLimits`,
+-- `AcceptedKept` and `FinishedSays` a view is against several parts at once: there each refutation goes by another part.
 use Prim.Native.Nat.{ℕ, zero, suc, _*_, _≤_, _<_}
 use mathlib.Core.Path.{_≡_, refl, ap}
 use mathlib.Core.List.{List, [], _∷_}
