@@ -85,6 +85,10 @@ unfolding countersFit
 small-fit [] h = refl
 small-fit (c ∷ counters) h = rw (small-fits c (h 0 (omega arith)), small-fit counters (λ q l. h (suc q) (omega (arith, l))))
 
+-- P as a constant.
+pub squared : {n p q : ℕ} → p ≡ q → n ≡ p * p → n ≡ q * q
+squared e h = h ∙ ap (λ x. x * x) e
+
 -- Those before place q are small if no test said otherwise.
 pub record SmallTo (counters : List ℤ) (q : ℕ) (small : Bool) : Type 0 where
   pub each : small ≡ true → (i : ℕ) → i < q → mag (getD counters i (pos 0)) ≤ 67108864

@@ -163,16 +163,33 @@ fn choose_narrow(counters: &[i32], p: usize) -> WorkerId
     best
 }
 
+// The same, with P as a constant for common ones: the compiler then writes the loops out.
+fn choose_small(counters: &[i32], p: usize) -> WorkerId
+    requires { ⌜ (length (now counters) ≡ p * p) × ((1 ≤ p) × ((p ≤ engine .workers) × Small (now counters))) ⌝ }
+    ensures { λ r. ⌜ r .0 ≡ least (allOf p) (load p (now (counters .entry))) ⌝ }
+{
+    if p == 4 {
+        return choose_narrow(counters, 4);
+    }
+    if p == 16 {
+        return choose_narrow(counters, 16);
+    }
+    choose_narrow(counters, p)
+}
+
 // The target, or that a counter is out of its range. Fewer than 16 counters are looked at faster one by one.
 pub fn choose(counters: &[i32], p: usize) -> Choice
     requires { ⌜ (length (now counters) ≡ p * p) × ((1 ≤ p) × (p ≤ engine .workers)) ⌝ }
     ensures { λ r. ⌜ Chosen p (now (counters .entry)) r ⌝ }
 {
+    if p == 2 {
+        return choose_wide(counters, 2);
+    }
     if p < 4 {
         return choose_wide(counters, p);
     }
     if all_small(counters) {
-        return Choice::Target(choose_narrow(counters, p));
+        return Choice::Target(choose_small(counters, p));
     }
     choose_wide(counters, p)
 }
