@@ -32,3 +32,4 @@ pub mod LongTile
 pub mod Examples
 pub mod ItemExamples
 pub mod Guards
+pub mod OnePlace

@@ -9,3 +9,4 @@ pub mod Undamaged
 pub mod Hosted
 pub mod HostedFair
 pub mod Corollaries
+pub mod OnePlace

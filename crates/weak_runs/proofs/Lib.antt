@@ -31,3 +31,4 @@ pub mod Links
 pub mod Examples
 pub mod Wrong
 pub mod Guards
+pub mod OnePlace

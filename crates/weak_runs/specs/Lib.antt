@@ -9,3 +9,4 @@ pub mod AtRest
 pub mod Hosted
 pub mod HostedFair
 pub mod Corollaries
+pub mod OnePlace
