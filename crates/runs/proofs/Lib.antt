@@ -33,3 +33,7 @@ pub mod Examples
 pub mod ItemExamples
 pub mod Guards
 pub mod OnePlace
+pub mod NextRelease
+pub mod RoomSoon
+pub mod RoomExamples
+pub mod PlaceExamples

@@ -10,3 +10,4 @@ pub mod Hosted
 pub mod HostedFair
 pub mod Corollaries
 pub mod OnePlace
+pub mod RoomSoon

@@ -32,3 +32,6 @@ pub mod Examples
 pub mod Wrong
 pub mod Guards
 pub mod OnePlace
+pub mod RoomSoon
+pub mod RoomExamples
+pub mod PlaceExamples
