@@ -1,5 +1,6 @@
 // The graph check that every call on a graph shares: 2, 1, 3, 4, 5 in order.
 ghost use mathlib.Core.Path.{_≡_};
+ghost use mathlib.Core.Bool.{true};
 ghost use lib.ListN.{length};
 ghost use Rattle.graph.specs.Graph.{graphOf};
 ghost use Rattle.graph.specs.Conditions.{Sized};
@@ -91,4 +92,13 @@ pub fn check_graph(
         return refused(refusal::WRONG_LENGTH, 0);
     }
     check_tables(n, starts, preds, order)
+}
+
+// The check of a graph by itself; the order is its own scratch.
+pub fn check(limits: Limits, weights: &[u32], starts: &[u32], preds: &[u32]) -> Answer
+    ensures { λ r. ⌜ r ≡ checkAnswer limits true true (now (weights .entry)) (now (starts .entry)) (now (preds .entry)) ⌝ }
+{
+    let mut order = [0u32; 1024];
+    let checked = check_graph(limits, true, true, weights, starts, preds, &mut order);
+    checked.answer
 }
