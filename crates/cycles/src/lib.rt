@@ -4,13 +4,13 @@ ghost use mathlib.Core.Path.{_≡_};
 ghost use mathlib.Core.Logic.{_↔_};
 ghost use mathlib.Core.List.{[], _∷_};
 ghost use Prim.Native.Nat.{ℕ, _+_, _≤_, _<_};
-ghost use lib.ListN.{length, getD, take};
+ghost use lib.ListN.{length, getD};
 ghost use Rattle.lists.specs.Decided.{holds};
 ghost use Rattle.lists.specs.Lists.{occ};
 ghost use Rattle.graph.specs.Graph.{Among, part, graphOf, Edge, Leads};
 ghost use Rattle.graph.specs.Conditions.{Good, Sound, ToCycle};
 ghost use Rattle.graph.specs.Decide.{onCycle?};
-ghost use Rattle.graph.specs.Stripping.{Stripped};
+ghost use Rattle.graph.specs.Stripping.{HandsOut};
 ghost use Rattle.graph.specs.Check.{firstOnCycle};
 ghost use Rattle.cycles.specs.Marks.{Has, Marked, Grown};
 ghost use Rattle.cycles.specs.Ranks.{NoneBelow, Lows, LowestBefore};
@@ -223,7 +223,7 @@ pub fn first_on_cycle(
         ⌝ }
     ensures { λ r. ⌜
         (r .first ≡ firstOnCycle (graphOf n (now (starts .entry)) (now (preds .entry))))
-        × ((r .stripped ≤ n) × Stripped (graphOf n (now (starts .entry)) (now (preds .entry))) (take (r .stripped) (now (order .exit))))
+        × HandsOut (graphOf n (now (starts .entry)) (now (preds .entry))) (now (order .entry)) (now (order .exit)) (r .stripped)
         ⌝ }
 {
     let stripped = strip::strip(n, starts, preds, left, order);

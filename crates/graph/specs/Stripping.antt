@@ -3,7 +3,7 @@ use Prim.Native.Nat.{ℕ, zero, suc, _≤_, _<_}
 use mathlib.Core.Path.{_≡_}
 use mathlib.Core.Logic.{_↔_}
 use mathlib.Core.List.{List, [], _∷_, _++_}
-use lib.ListN.{length, take, getD}
+use lib.ListN.{length, take, drop, getD}
 use Rattle.lists.specs.Decided.{Smallest}
 use Rattle.lists.specs.Lists.{occ}
 use Rattle.task.specs.declared.Answer.{Answer}
@@ -63,7 +63,13 @@ pub record JudgedBy (g : Graph) (order : List ℕ) : Type 0 where
   pub names : (d : ℕ) → (answerSays (tablesAnswer g) ≡ refused cycle d) ↔ Smallest (λ t. Left order t × OnCycle g t) d
   pub accepts : (answerSays (tablesAnswer g) ≡ accepted) ↔ (length order ≡ g .tasks)
 
--- the order that a check hands out where it has judged 5, as the first words of a list; before that it leaves the list
+-- the order as the first words of a list; the words behind them stay
+pub record HandsOut (g : Graph) (before words : List ℕ) (stripped : ℕ) : Type 0 where
+  pub few : stripped ≤ g .tasks
+  pub order : Stripped g (take stripped words)
+  pub behind : drop stripped words ≡ drop stripped before
+
+-- the order that a check hands out where it has judged 5; before that it leaves the list
 pub record Ordered (g : Graph) (answer : Answer) (before words : List ℕ) (stripped : ℕ) : Type 0 where
-  pub handed : Judges5 answer → (stripped ≤ g .tasks) × Stripped g (take stripped words)
+  pub handed : Judges5 answer → HandsOut g before words stripped
   pub kept : ¬ (Judges5 answer) → (stripped ≡ 0) × (words ≡ before)

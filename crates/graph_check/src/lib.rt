@@ -64,7 +64,8 @@ pub fn check_tables(n: usize, starts: &[u32], preds: &[u32], order: &mut [u32]) 
 
 // The whole check of weights and predecessor tables. Where it judges 5 it hands out the order of stripping, so that no call
 // is answered without it. `within` says that the call's other numbers are within their limits, `others` that its other
-// lists have their lengths.
+// lists have their lengths. The contract leaves one thing free: which of the orders that can be stripped it hands out, behind
+// the tasks without successors. The words behind the order stay.
 pub fn check_graph(
     limits: Limits,
     within: bool,

@@ -4,8 +4,8 @@ use mathlib.Core.Path.{_≡_, refl, sym, ap, _∙_}
 use mathlib.Core.List.{List, [], _∷_, _++_, append-nil}
 use native.Mathlib.Omega.{arith}
 use native.Mathlib.Decide.{ℕ-discrete, decLt}
-use lib.ListN.{length, getD, set, take, length-set}
-use lib.Seq.{length-take-le, take-set-le, take-all, getD-set-same, getD-set-other, append-snoc}
+use lib.ListN.{length, getD, set, take, drop, length-set}
+use lib.Seq.{length-take-le, take-set-le, take-all, drop-set-lt, drop-drop, getD-set-same, getD-set-other, append-snoc}
 use Rattle.lists.specs.Decided.{tally}
 use Rattle.lists.specs.Lists.{occ}
 use Rattle.lists.proofs.Decided.{stable, tally-yes, tally-no, tally-le-one, tally-pos}
@@ -15,6 +15,13 @@ use Rattle.lists.proofs.Prefixes.{occ-single, occ-more, occ-more-hit, occ-store
 use Rattle.graph.specs.Graph.{Among}
 use Rattle.graph.specs.Stripping.{keepIf}
 use Rattle.strip.specs.Queue.{stripped, queuedAt, Queued, nonesBelow, Falling, Emptied, Lowered}
+
+-- lists that agree from place m on agree from place n on
+pub drop-later : (a b : List ℕ) (m n : ℕ) → m ≤ n → drop m a ≡ drop m b → drop n a ≡ drop n b
+drop-later a b m n h e = sym (at a) ∙ ap (drop (n - m)) e ∙ at b
+  where
+    at : (l : List ℕ) → drop (n - m) (drop m l) ≡ drop n l
+    at l = drop-drop (n - m) m l ∙ ap (λ (k : ℕ). drop k l) {x = m + (n - m)} {y = n} (omega (arith, h))
 
 -- a task without successors left is counted as 1, another as 0
 pub stripped-none : (left : List ℕ) (u : ℕ) → getD left u 0 ≡ 0 → stripped left u ≡ 1
@@ -110,6 +117,7 @@ module _ (left queue : List ℕ) (tail : ℕ) (q : Queued left queue tail) where
           counts = fewer-counts;
           joins = λ v. joined v (ℕ-discrete v u);
           front = take-set-le tail queue tail u (omega arith);
+          behind = drop-set-lt (tail + 1) queue tail u (omega arith);
           longer = omega arith;
         }
       where
@@ -125,6 +133,7 @@ module _ (left queue : List ℕ) (tail : ℕ) (q : Queued left queue tail) where
           counts = fewer-counts;
           joins = λ v. ap (λ (k : ℕ). queuedAt queue tail v + k) (sym (same v (ℕ-discrete v u)));
           front = refl;
+          behind = refl;
           longer = omega arith;
         }
       where
@@ -178,19 +187,21 @@ module _ (left queue : List ℕ) (tail t : ℕ) where
   queue-none n = sym (append-nil (take tail queue)) ∙ ap (λ (l : List ℕ). take tail queue ++ l) (sym (keep-no (ℕ-discrete (getD left t 0) 0) t [] n))
 
 -- no task yet
-pub falling-none : (n : ℕ) (left queue : List ℕ) → length queue ≡ 1024 → Falling n n left queue 0
-falling-none n left queue r = record { room = r; few = omega arith; falls = refl }
+pub falling-none : (n : ℕ) (left queue : List ℕ) → length queue ≡ 1024 → Falling n n left queue queue 0
+falling-none n left queue r = record { room = r; few = omega arith; falls = refl; behind = refl }
 
 -- the tasks from t on, after those from t + 1 on
-pub falling-more : (t k n : ℕ) (left queue queue′ : List ℕ) (tail tail′ : ℕ) → k ≡ suc t → Falling k n left queue tail → length queue′ ≡ 1024
-    → take tail′ queue′ ≡ take tail queue ++ keepIf (ℕ-discrete (getD left t 0) 0) t [] → tail′ ≤ tail + 1 → Falling t n left queue′ tail′
+pub falling-more : (t k n : ℕ) (left queue₀ queue queue′ : List ℕ) (tail tail′ : ℕ) → k ≡ suc t → Falling k n left queue₀ queue tail → length queue′ ≡ 1024
+    → take tail′ queue′ ≡ take tail queue ++ keepIf (ℕ-discrete (getD left t 0) 0) t []
+    → (tail ≤ tail′) × ((tail′ ≤ tail + 1) × (drop tail′ queue′ ≡ drop tail′ queue)) → Falling t n left queue₀ queue′ tail′
 unfolding nonesBelow
-falling-more t k n left queue queue′ tail tail′ e f r q m =
+falling-more t k n left queue₀ queue queue′ tail tail′ e f r q (l, (m, d)) =
     record {
       room = r;
       few = omega (arith, f .few);
       falls = ap (λ (l : List ℕ). l ++ nonesBelow left t) q
           ∙ keep-behind (ℕ-discrete (getD left t 0) 0) t (take tail queue) (nonesBelow left t) ∙ rw e at (f .falls);
+      behind = d ∙ drop-later queue queue₀ tail tail′ l (f .behind);
     }
 
 nones-beyond : (left : List ℕ) (n u : ℕ) → n ≤ u → occ u (nonesBelow left n) ≡ 0
@@ -208,7 +219,7 @@ nones-at left (suc n) u h = go (ℕ-discrete u n) (nones-at left n u)
     go (no m) rec = keep-miss (ℕ-discrete (getD left n 0) 0) n (nonesBelow left n) u m ∙ rec (omega arith)
 
 -- all of them: the queue holds the tasks without successors, and no other
-module _ (n : ℕ) (left queue : List ℕ) (tail : ℕ) (f : Falling 0 n left queue tail) where
+module _ (n : ℕ) (left queue₀ queue : List ℕ) (tail : ℕ) (f : Falling 0 n left queue₀ queue tail) where
   pub falling-all : take tail queue ≡ nonesBelow left n
   unfolding nonesBelow
   falling-all = sym (append-nil (take tail queue)) ∙ f .falls
@@ -237,13 +248,13 @@ module _ (n : ℕ) (left queue : List ℕ) (tail : ℕ) (f : Falling 0 n left qu
       few u (yes k) = omega (arith, looked u k)
       few u (no m) = omega (arith, beyond u (omega arith))
 
-pub falling-done : (k n : ℕ) (left queue : List ℕ) (tail : ℕ) → k ≡ 0 → Falling k n left queue tail → Falling 0 n left queue tail
-falling-done k n left queue tail e f = rw e at f
+pub falling-done : (k n : ℕ) (left queue₀ queue : List ℕ) (tail : ℕ) → k ≡ 0 → Falling k n left queue₀ queue tail → Falling 0 n left queue₀ queue tail
+falling-done k n left queue₀ queue tail e f = rw e at f
 
 -- no word yet
 pub lowered-none : (left queue : List ℕ) (tail : ℕ) → Queued left queue tail → Lowered [] left left queue queue tail tail
 lowered-none left queue tail q =
-    record { queued = q; counts = λ u. omega (arith, occ-nil ℕ-discrete u); joins = λ u. refl; front = refl; longer = omega arith }
+    record { queued = q; counts = λ u. omega (arith, occ-nil ℕ-discrete u); joins = λ u. refl; front = refl; behind = refl; longer = omega arith }
 
 module _ (words left₀ left queue₀ queue : List ℕ) (tail₀ tail i : ℕ) (h : i < length words) (l : Lowered (take i words) left₀ left queue₀ queue tail₀ tail) where
   -- the next word's task has a successor left
@@ -265,6 +276,7 @@ module _ (words left₀ left queue₀ queue : List ℕ) (tail₀ tail i : ℕ) (
         counts = λ u. omega (arith, l .counts u, m .counts u, occ-more words i h u, occ-single u (getD words i 0));
         joins = λ u. omega (arith, l .joins u, m .joins u);
         front = take-same queue′ queue tail₀ tail (l .longer) (m .front) ∙ l .front;
+        behind = m .behind ∙ drop-later queue queue₀ tail tail′ (m .longer) (l .behind);
         longer = omega (arith, l .longer, m .longer);
       }
 

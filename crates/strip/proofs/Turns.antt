@@ -5,7 +5,7 @@ use mathlib.Core.Logic.{_↔_}
 use mathlib.Core.List.{List, [], _∷_}
 use native.Mathlib.Omega.{arith}
 use native.Mathlib.Decide.{ℕ-discrete, decLt}
-use lib.ListN.{length, getD, take, length-append}
+use lib.ListN.{length, getD, take, drop, length-append}
 use lib.Seq.{length-take-le, getD-take, take-take, getD-append-seam, take-append-seam}
 use Rattle.lists.specs.Lists.{occ}
 use Rattle.lists.specs.Sums.{sumOf}
@@ -14,7 +14,7 @@ use Rattle.lists.proofs.Sums.{sum-zero, sum-prefix, sumOf-nil, sumOf-single, su
 use Rattle.lists.proofs.Prefixes.{occ-snoc, take-more, occ-more-hit, occ-take-le, occ-early, take-same}
 use Rattle.graph.specs.Graph.{Graph, Among, predsOf, Edge}
 use Rattle.graph.specs.Conditions.{Sound, ToCycle}
-use Rattle.graph.specs.Stripping.{Strips, Whole, Left, Sink, keepIf, sink?, sinksBelow, sinksOf, Stripped}
+use Rattle.graph.specs.Stripping.{Strips, Whole, Left, Sink, keepIf, sink?, sinksBelow, sinksOf, HandsOut}
 use Rattle.graph.proofs.Parts.{occ-preds, preds-beyond}
 use Rattle.graph.proofs.Stripping.{last-task, strips-short, strip-leaves}
 use Rattle.strip.specs.Queue.{queuedAt, nonesBelow, Falling, Emptied, Lowered}
@@ -56,8 +56,8 @@ module _ (g : Graph) (sound : Sound g) (left queue : List ℕ) where
     nones-sinks zero = refl
     nones-sinks (suc u) = keep-same (ℕ-discrete (getD left u 0) 0) (sink? g u) u (nonesBelow left u) (none-sink u) (sink-none u) ∙ ap (λ (l : List ℕ). keepIf (sink? g u) u l) (nones-sinks u)
 
-    pub strip-starts : (tail : ℕ) → length left ≡ 1024 → Falling 0 (g .tasks) left queue tail → Stripping g left queue 0 tail
-    strip-starts tail l f =
+    pub strip-starts : (queue₀ : List ℕ) (tail : ℕ) → length left ≡ 1024 → Falling 0 (g .tasks) left queue₀ queue tail → Stripping g left queue 0 tail
+    strip-starts queue₀ tail l f =
         record {
           emptied = m;
           reached = omega arith;
@@ -68,10 +68,10 @@ module _ (g : Graph) (sound : Sound g) (left queue : List ℕ) where
         }
       where
         m : Emptied (g .tasks) left queue tail
-        m = falling-emptied (g .tasks) left queue tail f (sound .sized .tasks) l
+        m = falling-emptied (g .tasks) left queue₀ queue tail f (sound .sized .tasks) l
 
         all : take tail queue ≡ sinksOf g
-        all = falling-all (g .tasks) left queue tail f ∙ nones-sinks (g .tasks)
+        all = falling-all (g .tasks) left queue₀ queue tail f ∙ nones-sinks (g .tasks)
 
         size : length (sinksOf g) ≡ tail
         size = ap length (sym all) ∙ length-take-le tail queue (omega (arith, m .queued .short, m .queued .room))
@@ -205,12 +205,13 @@ module _ (g : Graph) (sound : Sound g) (left queue : List ℕ) where
           queued : 0 < occ t (take tail queue)
           queued = omega (arith, s .emptied .looked t (last-task g (take tail queue) t p), stripped-none left t none)
 
-      pub strip-ends : ((tail ≤ g .tasks) × Stripped g (take tail queue)) × ((t : ℕ) → t < g .tasks → (0 < getD left t 0) ↔ ToCycle g t)
-      strip-ends = (
-        (
-          omega (arith, strips-short queue-strips, length-take-le tail queue queue-length),
-          record { strips = queue-strips; whole = queue-whole; sinks = take-take (length (sinksOf g)) tail queue (s .some) ∙ s .first },
-        ),
+      pub strip-ends : (queue₀ : List ℕ) → drop tail queue ≡ drop tail queue₀ → HandsOut g queue₀ queue tail × ((t : ℕ) → t < g .tasks → (0 < getD left t 0) ↔ ToCycle g t)
+      strip-ends queue₀ rest = (
+        record {
+          few = omega (arith, strips-short queue-strips, length-take-le tail queue queue-length);
+          order = record { strips = queue-strips; whole = queue-whole; sinks = take-take (length (sinksOf g)) tail queue (s .some) ∙ s .first };
+          behind = rest;
+        },
         λ t h. (λ m. strip-leaves queue-strips queue-whole t h .0 (some-left t h m), λ c. left-some t h (strip-leaves queue-strips queue-whole t h .1 c)),
       )
         where

@@ -3,7 +3,7 @@ use Prim.Native.Nat.{ℕ, zero, suc, _+_, _≤_, _<_}
 use mathlib.Core.Path.{_≡_}
 use mathlib.Core.List.{List, [], _++_}
 use native.Mathlib.Decide.{ℕ-discrete}
-use lib.ListN.{length, getD, take}
+use lib.ListN.{length, getD, take, drop}
 use Rattle.lists.specs.Decided.{tally}
 use Rattle.lists.specs.Lists.{occ}
 use Rattle.graph.specs.Graph.{Among}
@@ -30,11 +30,12 @@ unfoldable pub nonesBelow : List ℕ → ℕ → List ℕ
 nonesBelow left zero = []
 nonesBelow left (suc u) = keepIf (ℕ-discrete (getD left u 0) 0) u (nonesBelow left u)
 
--- of the tasks from k up to n, those without successors are queued, falling
-pub record Falling (k n : ℕ) (left queue : List ℕ) (tail : ℕ) : Type 0 where
+-- of the tasks from k up to n, those without successors are queued, falling; the words behind them stay as in queue₀
+pub record Falling (k n : ℕ) (left queue₀ queue : List ℕ) (tail : ℕ) : Type 0 where
   pub room : length queue ≡ 1024
   pub few : tail + k ≤ n
   pub falls : take tail queue ++ nonesBelow left k ≡ nonesBelow left n
+  pub behind : drop tail queue ≡ drop tail queue₀
 
 -- of the tasks below n, those without successors left are queued; no other is
 pub record Emptied (n : ℕ) (left queue : List ℕ) (tail : ℕ) : Type 0 where
@@ -42,10 +43,11 @@ pub record Emptied (n : ℕ) (left queue : List ℕ) (tail : ℕ) : Type 0 where
   pub looked : (u : ℕ) → u < n → queuedAt queue tail u ≡ stripped left u
   pub beyond : (u : ℕ) → n ≤ u → queuedAt queue tail u ≡ 0
 
--- each word took one successor from its task; a task is queued behind the others when its last one goes
+-- each word took one successor from its task; a task is queued behind the others when its last one goes; no word besides changes
 pub record Lowered (words left left′ queue queue′ : List ℕ) (tail tail′ : ℕ) : Type 0 where
   pub queued : Queued left′ queue′ tail′
   pub counts : (u : ℕ) → getD left′ u 0 + occ u words ≡ getD left u 0
   pub joins : (u : ℕ) → queuedAt queue′ tail′ u + stripped left u ≡ queuedAt queue tail u + stripped left′ u
   pub front : take tail queue′ ≡ take tail queue
+  pub behind : drop tail′ queue′ ≡ drop tail′ queue
   pub longer : tail ≤ tail′

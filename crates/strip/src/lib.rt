@@ -5,17 +5,17 @@ ghost use mathlib.Core.Logic.{_↔_};
 ghost use Prim.Native.Nat.{ℕ, _+_, _≤_, _<_};
 ghost use mathlib.Core.List.{[], _∷_, _++_};
 ghost use native.Mathlib.Decide.{ℕ-discrete};
-ghost use lib.ListN.{length, getD, take};
+ghost use lib.ListN.{length, getD, take, drop};
 ghost use Rattle.lists.specs.Lists.{occ};
 ghost use Rattle.graph.specs.Graph.{graphOf};
 ghost use Rattle.graph.specs.Conditions.{Sound, ToCycle};
-ghost use Rattle.graph.specs.Stripping.{keepIf, Stripped};
+ghost use Rattle.graph.specs.Stripping.{keepIf, HandsOut};
 ghost use Rattle.strip.specs.Queue.{Queued, Falling, Lowered};
 
 // Queues the tasks without successors, the last first, and answers how many there are.
 fn queue_sinks(n: usize, left: &[u32], queue: &mut [u32]) -> usize
     requires { ⌜ (n ≤ 1024) × ((length (now left) ≡ 1024) × (length (now queue) ≡ 1024)) ⌝ }
-    ensures { λ r. ⌜ Falling 0 n (now (left .entry)) (now (queue .exit)) r ⌝ }
+    ensures { λ r. ⌜ Falling 0 n (now (left .entry)) (now (queue .entry)) (now (queue .exit)) r ⌝ }
 {
     let mut tail = 0;
     let mut t = n;
@@ -31,7 +31,7 @@ fn queue_if(left: &[u32], queue: &mut [u32], tail: usize, t: usize) -> usize
     requires { ⌜ ((t < length (now left)) × (t < 1024)) × (tail < length (now queue)) ⌝ }
     ensures { λ r. ⌜
         (take r (now (queue .exit)) ≡ take tail (now (queue .entry)) ++ keepIf (ℕ-discrete (getD (now (left .entry)) t 0) 0) t [])
-        × (r ≤ tail + 1)
+        × ((tail ≤ r) × ((r ≤ tail + 1) × (drop r (now (queue .exit)) ≡ drop r (now (queue .entry)))))
         ⌝ }
 {
     if left[t] == 0 {
@@ -78,7 +78,7 @@ pub fn strip(n: usize, starts: &[u32], preds: &[u32], left: &mut [u32], order: &
         × ((u : ℕ) → getD (now left) u 0 ≡ occ u (now preds))))
         ⌝ }
     ensures { λ r. ⌜
-        ((r ≤ n) × Stripped (graphOf n (now (starts .entry)) (now (preds .entry))) (take r (now (order .exit))))
+        HandsOut (graphOf n (now (starts .entry)) (now (preds .entry))) (now (order .entry)) (now (order .exit)) r
         × ((t : ℕ) → t < n → (0 < getD (now (left .exit)) t 0) ↔ ToCycle (graphOf n (now (starts .entry)) (now (preds .entry))) t)
         ⌝ }
 {

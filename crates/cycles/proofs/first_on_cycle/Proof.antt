@@ -15,7 +15,7 @@ same-length-2 : tie.Need-same-length-2
 same-length-2 c = search needs
 
 returns : tie.Need-returns
-returns c = let s = c .before .before .before .before .before .strip in (all-gone _ _ (omega (arith, s .kept .1 .1 .1 .1 .0, c .before .before .before .before .before .before .before .before .before .before .before .before .pre .1 .1 .0, c .before .before .before .before .before .before .before .before .before .before .before .before .pre .0 .sized .tasks)) (c .if1 .taken) (s .ensures .0 .1), s .ensures .0)
+returns c = let s = c .before .before .before .before .before .strip in (all-gone _ _ (omega (arith, s .kept .1 .1 .1 .1 .0, c .before .before .before .before .before .before .before .before .before .before .before .before .pre .1 .1 .0, c .before .before .before .before .before .before .before .before .before .before .before .before .pre .0 .sized .tasks)) (c .if1 .taken) (s .ensures .0 .order), s .ensures .0)
 
 by-ranks-requires : tie.Need-by-ranks-requires
 by-ranks-requires c κs = let s = c .before .before .before .before .before .before .strip in (c .before .before .before .before .before .before .before .before .before .before .before .before .before .pre .0, (omega (arith, s .kept .1 .1 .1 .0, c .before .before .before .before .before .before .before .before .before .before .before .before .before .pre .1 .0), s .ensures .1))

@@ -7,7 +7,7 @@ use Rattle.strip.proofs.queue_sinks.Statement.{statement}
 use Rattle.strip.proofs.queue_sinks.Tie as tie
 
 abbrev Inv-loop : tie.InvT-loop
-Inv-loop n left queue₀ tail₀ t₀ queue tail t = Falling t n left queue tail
+Inv-loop n left queue₀ tail₀ t₀ queue tail t = Falling t n left queue₀ queue tail
 
 abbrev μ-loop : tie.MeasureT-loop
 μ-loop n left queue₀ tail₀ t₀ queue tail t = t
@@ -27,13 +27,13 @@ loop-less c = omega arith
 loop-again : tie.Need-loop-again Inv-loop μ-loop
 loop-again c =
     let at = c .before .before .before .before .before .loop in
-    falling-more _ (at .t) _ _ _ _ _ _ (omega arith) (at .inv) (omega arith) (c .before .before .queue-if .ensures .0) (c .before .before .queue-if .ensures .1)
+    falling-more _ (at .t) _ _ _ _ _ _ _ (omega arith) (at .inv) (omega arith) (c .before .before .queue-if .ensures .0) (c .before .before .queue-if .ensures .1)
 
 same-length : tie.Need-same-length Inv-loop μ-loop
 same-length c = omega arith
 
 returns : tie.Need-returns Inv-loop μ-loop
-returns c = falling-done (c .before .loop .t) _ _ _ _ (omega arith) (c .before .loop .inv)
+returns c = falling-done (c .before .loop .t) _ _ _ _ _ (omega arith) (c .before .loop .inv)
 
 pub queue-sinks-spec : {M : Type 1} → statement M
 queue-sinks-spec =
