@@ -42,10 +42,7 @@ pub extern "C" fn yolluvek_check_graph(
         ⌝ }
 {
     let limits = limits(most_tasks, most_edges);
-    let mut order = [0u32; 1024];
-    let check = graph_check::check_graph(limits, true, true, weights, starts, preds, &mut order);
-    let answer = check.answer;
-    replies::reply_of(answer)
+    replies::reply_of(graph_check::check(limits, weights, starts, preds))
 }
 
 // The same check, and where it accepts successor starts, successors and degrees.
