@@ -4,11 +4,12 @@ use mathlib.Core.Path.{_≡_, refl}
 use mathlib.Core.List.{[], _∷_}
 use native.Mathlib.Decide.{ℕ-discrete}
 use lib.ListN.{length}
-use Rattle.lists.specs.Lists.{occOf, joined}
-use Rattle.lists.specs.Sums.{sumTo}
+use Rattle.lists.specs.Lists.{occOf, placeOf, joined}
+use Rattle.lists.specs.Sums.{sumTo, sumOf}
 use Rattle.task.specs.Types.{nil}
 use Rattle.graph.specs.Graph.{Graph, graphOf, part, edgeCount}
 use Rattle.graph.specs.Successors.{succsBelow, roots}
+use Rattle.exchange.specs.Pairs.{differently, pairsDiffering}
 use Rattle.system.specs.System.{missing}
 use Rattle.copies.specs.Copies.{Copy, copy, sameCopy, taskCopies, nextCopies, isCopy, copiesOf, rootCopies, allCopies}
 use Rattle.copies.specs.Weak.{allRecorded, lastDue, owed}
@@ -44,6 +45,12 @@ pub tailed-neighbours : (copiesOf tailed .preds (copy 4 3) ≡ copy 3 1 ∷ copy
     × (copiesOf tailed .succs (copy 3 2) ≡ copy 4 3 ∷ [])
 unfolding ℕ-discrete occOf joined part succsBelow roots sameCopy taskCopies nextCopies isCopy copiesOf
 tailed-neighbours = (refl, refl, refl)
+
+-- two orders: the copies of 1 and 2 the other way round, and the two copies of 3
+pub diamond-pairs : _≡_ {A = ℕ} (pairsDiffering sameCopy (allCopies diamond) (root ∷ copy 1 0 ∷ copy 2 0 ∷ copy 3 1 ∷ copy 3 2 ∷ [])
+    (root ∷ copy 2 0 ∷ copy 1 0 ∷ copy 3 2 ∷ copy 3 1 ∷ [])) 2
+unfolding ℕ-discrete occOf placeOf sumOf joined part succsBelow roots sameCopy nextCopies rootCopies allCopies differently pairsDiffering
+diamond-pairs = refl
 
 -- E + R = 5 copies, and 3·5 + 4 = 4E + 3R = 19 steps
 pub diamond-counts : (_≡_ {A = ℕ} (edgeCount diamond + length (roots diamond)) 5)

@@ -4,3 +4,4 @@ pub mod Weak
 pub mod Runs
 pub mod Agree
 pub mod Unordered
+pub mod Exchanges

@@ -9,6 +9,7 @@ use Rattle.task.specs.Types.{nil}
 pub use Rattle.weak_task.specs.Types.{Copy, copy}
 use Rattle.graph.specs.Graph.{Graph, predsOf}
 use Rattle.graph.specs.Successors.{succsOf, roots}
+use Rattle.exchange.specs.Pairs.{Exchanges}
 use Rattle.system.specs.System.{Items}
 
 -- copies are the same if both numbers are
@@ -58,6 +59,10 @@ rootCopies g = map (λ r. copy r (nil .0)) (roots g)
 -- all of them: the roots', then those that each task makes
 unfoldable pub allCopies : Graph → List Copy
 allCopies g = rootCopies g ++ joined (g .tasks) (nextCopies g)
+
+-- the exchanges between two orders of them
+abbrev pub CopyExchanges : Graph → List Copy → List Copy → Type 0
+CopyExchanges g = Exchanges sameCopy (isCopy g) (allCopies g) (Before g)
 
 -- "a predecessor twice in one task", turned round
 abbrev pub NoneTwice : Graph → Type 0

@@ -1,13 +1,29 @@
--- Laws of the number of pairs that two lists order differently: what the first item of the second list adds to it.
-use Prim.Native.Nat.{_+_, _≤_}
+-- The pairs that two lists order differently, counted along the first list, and its laws: what the first item of the second list adds to it.
+use Prim.Native.Nat.{ℕ, _+_, _*_, _≤_}
 use mathlib.Core.Path.{_≡_, refl}
 use mathlib.Core.List.{List, [], _∷_, _++_}
 use native.Mathlib.Omega.{arith}
+use native.Mathlib.Decide.{decLt}
 use lib.ListN.{length}
-use Rattle.lists.specs.Lists.{occOf}
+use Rattle.lists.specs.Decided.{tally}
+use Rattle.lists.specs.Lists.{occOf, placeOf}
 use Rattle.lists.proofs.Occurrences.{occ-cons, occ-hit, occ-not-head, occ-not-tail}
 use Rattle.lists.proofs.Positions.{earlier, earlier-skip, earlier-first, earlier-none}
-use Rattle.exchange.specs.Exchange.{ahead, differ}
+
+module _ {A : Type 0} (same : Discrete A) where
+  -- how many of the items in l come before x in b
+  unfoldable pub ahead : A → List A → List A → ℕ
+  ahead x [] b = 0
+  ahead x (z ∷ l) b = tally (decLt (placeOf same z b) (placeOf same x b)) + ahead x l b
+
+  -- how many pairs a and b order differently: x before z in a, z before x in b
+  unfoldable pub differ : List A → List A → ℕ
+  differ [] b = 0
+  differ (x ∷ a) b = ahead x a b + differ a b
+
+  -- 1 if u comes before t in a and t before u in b, else 0
+  abbrev pub crossing : List A → List A → A → A → ℕ
+  crossing a b u t = tally (decLt (placeOf same u a) (placeOf same t a)) * tally (decLt (placeOf same t b) (placeOf same u b))
 
 module _ {A : Type 0} (same : Discrete A) where
   -- nothing comes before the first

@@ -9,9 +9,9 @@ use lib.ListN.{length}
 use Rattle.lists.specs.Lists.{occOf}
 use Rattle.lists.proofs.Occurrences.{occ-nil, occ-cons, occ-hit, occ-append, occ-insert, occ-around, occ-none, occ-apart}
 use Rattle.lists.proofs.Positions.{Before, before-member, before-cons, before-first, before-joined, before-more}
-use Rattle.exchange.specs.Exchange.{Unordered, Exchanged, Allows, Chain, none, more, differ}
+use Rattle.exchange.specs.Exchange.{Unordered, Exchanged, Allows, Chain, none, more}
 use Rattle.exchange.proofs.Allowed.{exchange-allowed, leads-before}
-use Rattle.exchange.proofs.Counts.{differ-first}
+use Rattle.exchange.proofs.Counts.{differ, differ-first}
 
 -- n exchanges lead from a to b
 data Swaps {A : Type 0} (E : A → A → Type 0) : List A → List A → ℕ → Type 0 where

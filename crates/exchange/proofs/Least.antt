@@ -7,12 +7,13 @@ use native.Mathlib.Omega.{arith}
 use native.Mathlib.Decide.{ℕ-discrete, decLt}
 use native.Mathlib.Nat.{zero-add, zero-mul, mul-zero}
 use Rattle.lists.specs.Decided.{tally}
-use Rattle.lists.specs.Lists.{occOf, placeOf}
+use Rattle.lists.specs.Lists.{occOf, placeOf, allOf}
 use Rattle.lists.proofs.Decided.{tally-yes, tally-no, tally-le-one, tally-pos, tally-same}
+use Rattle.lists.proofs.Blocks.{occ-all}
 use Rattle.lists.proofs.Positions.{Before, earlier, neighbours-before, before-swap}
-use Rattle.exchange.specs.Exchange.{Exchanged, Allows, Chain, none, more, times, ahead, differ, crossing}
+use Rattle.exchange.specs.Exchange.{Exchanged, Allows, Chain, none, more, times}
 use Rattle.exchange.specs.Pairs.{pairsDiffering, eachOnce}
-use Rattle.exchange.proofs.Counts.{differ-self}
+use Rattle.exchange.proofs.Counts.{ahead, differ, crossing, differ-self}
 use Rattle.exchange.proofs.Pairs.{differ-pairs}
 
 module _ {A : Type 0} (same : Discrete A) where
@@ -54,12 +55,16 @@ chain-least same want E one {b = c} (more p s r) =
       chain-least same want E one r,
     )
 
+-- so it has as many as there are such pairs of items, at least
+pub chain-least-pairs : {A : Type 0} (same : Discrete A) (want : A → ℕ) (items : List A) (E : A → A → Type 0) → ((a : A) → want a ≤ 1)
+    → ((a : A) → occOf same a items ≡ want a) → {a b : List A} {n : ℕ} → Chain same want E a b n → pairsDiffering same items a b ≤ n
+chain-least-pairs same want items E one all {a} {b} r =
+    rw (← differ-pairs same want one items a b all (chain-first same r .once) (chain-last same r .once)) (chain-least same want E one r)
+
 -- the same for the tasks 0 .. n−1
 pub chain-least-tasks : (n : ℕ) (E : ℕ → ℕ → Type 0) {a b : List ℕ} {k : ℕ} → Chain ℕ-discrete (eachOnce n) E a b k
-    → pairsDiffering n a b ≤ k
-chain-least-tasks n E {a} {b} r =
-    rw (← differ-pairs n a b (chain-first ℕ-discrete r .once) (chain-last ℕ-discrete r .once))
-    (chain-least ℕ-discrete (eachOnce n) E (λ t. tally-le-one (decLt t n)) r)
+    → pairsDiffering ℕ-discrete (allOf n) a b ≤ k
+chain-least-tasks n E r = chain-least-pairs ℕ-discrete (eachOnce n) (allOf n) E (λ t. tally-le-one (decLt t n)) (occ-all n) r
 
 module _ {A : Type 0} (same : Discrete A) (want : A → ℕ) (E : A → A → Type 0) (one : (a : A) → want a ≤ 1) where
   -- a chain without detours exchanges only what its end has the other way round, and goes on without detours

@@ -1,22 +1,22 @@
--- For lists that hold each of the tasks 0 .. n−1 once, the exchanges are as many as the pairs of tasks that the two lists order differently.
+-- For lists that hold each of the items once, the exchanges are as many as the pairs of items that the two lists order differently.
 use Prim.Native.Nat.{ℕ, _+_, _*_, _≤_, _<_}
-use mathlib.Core.Path.{_≡_, refl, _∙_}
+use mathlib.Core.Path.{_≡_, refl, sym, _∙_}
 use mathlib.Core.Bool.{Bool, true, false, cond, not}
 use mathlib.Core.List.{List, [], _∷_}
 use native.Mathlib.Omega.{arith}
-use native.Mathlib.Decide.{ℕ-discrete, decLt}
+use native.Mathlib.Decide.{decLt}
 use native.Mathlib.Nat.{zero-mul, one-mul, lt-irrefl}
 use lib.Dec.{ltb}
 use borrow.Author.Tests.{lt-ltb, le-ltb}
 use Rattle.lists.specs.Decided.{tally}
-use Rattle.lists.specs.Lists.{occOf, occ, placeOf}
-use Rattle.lists.specs.Sums.{sumTo, sumOf}
-use Rattle.lists.proofs.Decided.{tally-yes, tally-no, tally-le-one}
+use Rattle.lists.specs.Lists.{occOf, placeOf}
+use Rattle.lists.specs.Sums.{sumOf}
+use Rattle.lists.proofs.Decided.{tally-no}
 use Rattle.lists.proofs.Occurrences.{occ-cons, occ-hit, occ-apart}
-use Rattle.lists.proofs.Sums.{sum-same, sum-zero, sum-pairs, sumOf-same, sumOf-all}
+use Rattle.lists.proofs.Sums.{sumOf-same, sumOf-both}
 use Rattle.lists.proofs.Positions.{place-apart, earlier, earlier-skip, earlier-first, earlier-none}
-use Rattle.exchange.specs.Exchange.{ahead, differ, crossing}
 use Rattle.exchange.specs.Pairs.{differently, bit, pairsDiffering}
+use Rattle.exchange.proofs.Counts.{ahead, differ, crossing}
 
 module _ {A : Type 0} (same : Discrete A) where
   ahead-sum : (x : A) (l b : List A) → ahead same x l b ≡ sumOf (λ z. earlier same z x b) l
@@ -82,47 +82,61 @@ one-of-both true false = refl
 one-of-both false true = refl
 one-of-both false false = refl
 
-module _ (a b : List ℕ) where
-  abbrev pub cross : ℕ → ℕ → ℕ
-  cross = crossing ℕ-discrete a b
+sumOf-add : {A : Type 0} (f g : A → ℕ) (l : List A) → sumOf (λ x. f x + g x) l ≡ sumOf f l + sumOf g l
+unfolding sumOf
+sumOf-add f g [] = refl
+sumOf-add f g (x ∷ l) = omega (arith, sumOf-add f g l)
+
+module _ {A : Type 0} (same : Discrete A) (a b : List A) where
+  abbrev cross : A → A → ℕ
+  cross = crossing same a b
 
   -- a pair is ordered differently if it crosses one way or the other
-  pub cross-pair : (u t : ℕ) → ¬ (u ≡ t) → 0 < occ u a → 0 < occ u b → cross t u + cross u t ≡ bit (differently a b u t)
+  pub cross-pair : (u t : A) → ¬ (u ≡ t) → 0 < occOf same u a → 0 < occOf same u b → cross t u + cross u t ≡ bit (differently same a b u t)
   unfolding differently
   cross-pair u t n h g =
       rw (
-        less-bit (placeOf ℕ-discrete u a) (placeOf ℕ-discrete t a),
-        less-bit (placeOf ℕ-discrete u b) (placeOf ℕ-discrete t b),
-        more-bit (placeOf ℕ-discrete u a) (placeOf ℕ-discrete t a) (place-apart ℕ-discrete u t a h n),
-        more-bit (placeOf ℕ-discrete u b) (placeOf ℕ-discrete t b) (place-apart ℕ-discrete u t b g n),
-      ) (one-of-both (ltb (placeOf ℕ-discrete u a) (placeOf ℕ-discrete t a)) (ltb (placeOf ℕ-discrete u b) (placeOf ℕ-discrete t b)))
+        less-bit (placeOf same u a) (placeOf same t a),
+        less-bit (placeOf same u b) (placeOf same t b),
+        more-bit (placeOf same u a) (placeOf same t a) (place-apart same u t a h n),
+        more-bit (placeOf same u b) (placeOf same t b) (place-apart same u t b g n),
+      ) (one-of-both (ltb (placeOf same u a) (placeOf same t a)) (ltb (placeOf same u b) (placeOf same t b)))
 
-  cross-self : (t : ℕ) → cross t t ≡ 0
-  cross-self t = rw (tally-no (decLt (placeOf ℕ-discrete t a) (placeOf ℕ-discrete t a)) (lt-irrefl (placeOf ℕ-discrete t a))) (zero-mul (earlier ℕ-discrete t t b))
+  cross-self : (t : A) → cross t t ≡ 0
+  cross-self t = rw (tally-no (decLt (placeOf same t a) (placeOf same t a)) (lt-irrefl (placeOf same t a))) (zero-mul (earlier same t t b))
 
-  cross-pairs : (n : ℕ) → ((u : ℕ) → u < n → 0 < occ u a) → ((u : ℕ) → u < n → 0 < occ u b)
-      → sumTo n (λ t. sumTo n (cross t)) ≡ pairsDiffering n a b
-  unfolding pairsDiffering
-  cross-pairs n p q =
+  -- the sum over all ordered pairs, as one over the unordered
+  cross-pairs : (items : List A) → ((t : A) → occOf same t items ≤ 1) → ((t : A) → 0 < occOf same t items → (0 < occOf same t a) × (0 < occOf same t b))
+      → sumOf (λ x. sumOf (cross x) items) items ≡ pairsDiffering same items a b
+  unfolding pairsDiffering sumOf
+  cross-pairs [] one held = refl
+  cross-pairs (u ∷ items) one held =
       omega (
         arith,
-        sum-pairs n cross,
-        sum-zero n (λ t. cross t t) (λ t h. cross-self t),
-        sum-same n (λ t. sumTo t (λ u. bit (differently a b u t))) (λ t. sumTo t (λ u. cross t u + cross u t)) both,
+        cross-self u,
+        sumOf-add (λ x. cross x u) (λ x. sumOf (cross x) items) items,
+        sumOf-add (λ x. cross x u) (cross u) items,
+        sumOf-same same (λ x. cross x u + cross u x) (λ t. bit (differently same a b u t)) items both,
+        cross-pairs items (λ t. omega (arith, one t, occ-cons same t u items)) (λ t h. held t (omega (arith, h, occ-cons same t u items))),
       )
     where
-      both : (t : ℕ) → t < n → sumTo t (λ u. cross t u + cross u t) ≡ sumTo t (λ u. bit (differently a b u t))
+      here : (0 < occOf same u a) × (0 < occOf same u b)
+      here = held u (omega (arith, occ-hit same u u items refl))
+
+      both : (t : A) → 0 < occOf same t items → cross t u + cross u t ≡ bit (differently same a b u t)
       both t h =
-          sum-same t (λ u. bit (differently a b u t)) (λ u. cross t u + cross u t)
-          (λ u g. cross-pair u t (λ e. omega arith) (p u (omega arith)) (q u (omega arith)))
+          cross-pair u t (λ e. occ-apart same t u items h (omega (arith, one u, occ-hit same u u items refl)) (sym e)) (here .0) (here .1)
 
--- a list that holds each of the tasks 0 .. n−1 once holds task u
-pub holds-each : (n : ℕ) (l : List ℕ) → ((t : ℕ) → occ t l ≡ tally (decLt t n)) → (u : ℕ) → u < n → 0 < occ u l
-holds-each n l e u h = omega (arith, e u, tally-yes (decLt u n) h)
+-- lists that hold the items that are wanted, each once
+module _ {A : Type 0} (same : Discrete A) (want : A → ℕ) (one : (t : A) → want t ≤ 1) (items a b : List A)
+    (all : (t : A) → occOf same t items ≡ want t) (p : (t : A) → occOf same t a ≡ want t) (q : (t : A) → occOf same t b ≡ want t) where
+  pub held : (t : A) → 0 < occOf same t items → (0 < occOf same t a) × (0 < occOf same t b)
+  held t h = (omega (arith, h, all t, p t), omega (arith, h, all t, q t))
 
-pub differ-pairs : (n : ℕ) (a b : List ℕ) → ((t : ℕ) → occ t a ≡ tally (decLt t n)) → ((t : ℕ) → occ t b ≡ tally (decLt t n))
-    → differ ℕ-discrete a b ≡ pairsDiffering n a b
-differ-pairs n a b p q =
-    differ-sum ℕ-discrete a b (λ t. omega (arith, p t, tally-le-one (decLt t n))) ∙ sumOf-all (λ x. sumOf (cross a b x) a) n a p
-    ∙ sum-same n (λ x. sumTo n (cross a b x)) (λ x. sumOf (cross a b x) a) (λ x h. sumOf-all (cross a b x) n a p)
-    ∙ cross-pairs a b n (holds-each n a p) (holds-each n b q)
+  pub differ-pairs : differ same a b ≡ pairsDiffering same items a b
+  differ-pairs =
+      differ-sum same a b (λ t. omega (arith, p t, one t))
+      ∙ sumOf-both same (λ x. sumOf (crossing same a b x) a) a items (λ t. p t ∙ sym (all t))
+      ∙ sumOf-same same (λ x. sumOf (crossing same a b x) a) (λ x. sumOf (crossing same a b x) items) items
+      (λ x h. sumOf-both same (crossing same a b x) a items (λ t. p t ∙ sym (all t)))
+      ∙ cross-pairs same a b items (λ t. omega (arith, all t, one t)) held

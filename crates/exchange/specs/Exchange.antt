@@ -3,8 +3,7 @@
 -- other; the exchanges are exactly as many as these pairs." Of items of any type whose equality is decided, and any edges between them.
 use Prim.Native.Nat.{ℕ, suc, _+_, _*_, _<_}
 use mathlib.Core.Path.{_≡_}
-use mathlib.Core.List.{List, [], _∷_, _++_}
-use native.Mathlib.Decide.{decLt}
+use mathlib.Core.List.{List, _∷_, _++_}
 use Rattle.lists.specs.Decided.{tally}
 use Rattle.lists.specs.Lists.{occOf, placeOf}
 use Rattle.graph.specs.Graph.{Leads}
@@ -39,23 +38,3 @@ module _ {A : Type 0} (same : Discrete A) where
   unfoldable pub times : {want : A → ℕ} {E : A → A → Type 0} → A → A → {a b : List A} {n : ℕ} → Chain want E a b n → ℕ
   times u t (none p) = 0
   times u t (more p s r) = tally (same u (s .x)) * tally (same t (s .y)) + times u t r
-
-  -- how many of the items in l come before x in b
-  unfoldable pub ahead : A → List A → List A → ℕ
-  ahead x [] b = 0
-  ahead x (z ∷ l) b = tally (decLt (placeOf same z b) (placeOf same x b)) + ahead x l b
-
-  -- how many pairs a and b order differently: x before z in a, z before x in b
-  unfoldable pub differ : List A → List A → ℕ
-  differ [] b = 0
-  differ (x ∷ a) b = ahead x a b + differ a b
-
-  -- 1 if u comes before t in a and t before u in b, else 0
-  abbrev pub crossing : List A → List A → A → A → ℕ
-  crossing a b u t = tally (decLt (placeOf same u a) (placeOf same t a)) * tally (decLt (placeOf same t b) (placeOf same u b))
-
-  -- "one exchange for each pair that the two order differently": a chain of exactly as many exchanges, in which each such pair is exchanged once, and
-  -- no other pair
-  pub record OneForEach (want : A → ℕ) (E : A → A → Type 0) (a b : List A) : Type 0 where
-    pub chain : Chain want E a b (differ a b)
-    pub once : (u t : A) → times u t chain ≡ crossing a b u t

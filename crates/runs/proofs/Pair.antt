@@ -7,7 +7,7 @@ use native.Mathlib.Omega.{arith}
 use native.Mathlib.Decide.{ℕ-discrete, decLe, decLt}
 use Rattle.lists.specs.Decided.{firstBelow}
 use Rattle.lists.specs.Lists.{occOf, placeOf, joined, tabulate, allOf}
-use Rattle.lists.specs.Sums.{sumTo, sumToZ}
+use Rattle.lists.specs.Sums.{sumTo, sumToZ, sumOf}
 use Rattle.lists.specs.Circles.{after, around}
 use Rattle.task.specs.Types.{engine, preview, capped}
 use Rattle.task.specs.Phases.{nextPhase}
@@ -103,10 +103,10 @@ record Pair : Type 0 where
   steps : (acceptedSteps (eventsOf threeWorkers) ≡ 15) × (acceptedSteps (eventsOf oneWorker) ≡ 15)
   orders : (orderOf (viewOf threeWorkers) ≡ 0 ∷ 3 ∷ 2 ∷ 1 ∷ []) × (orderOf (viewOf oneWorker) ≡ 0 ∷ 1 ∷ 2 ∷ 3 ∷ [])
   -- 3 before 2, 3 before 1, 2 before 1
-  differing : pairsDiffering 4 (0 ∷ 3 ∷ 2 ∷ 1 ∷ []) (0 ∷ 1 ∷ 2 ∷ 3 ∷ []) ≡ 3
+  differing : pairsDiffering ℕ-discrete (allOf 4) (0 ∷ 3 ∷ 2 ∷ 1 ∷ []) (0 ∷ 1 ∷ 2 ∷ 3 ∷ []) ≡ 3
 
 pair : Pair
-unfolding ℕ-discrete decLe decLt firstBelow occOf placeOf joined tabulate allOf sumTo after around capped nextPhase part sizesFit firstBad firstTwice firstOnCycle tablesAnswer checkAnswer below? among? light? good? bad? endsFit? twice? twiceIn? find-twice edge? thru? path? leads? onCycle? succsBelow succStart succStarts succWords degreeList roots capacity slotAt endsAt storeEnds sound empty full headOn tailOn sumToZ load leastFrom least search allSteps allEntries numbersFit allFit othersFit lengthsFit countersFit storeWords updated written counted carriedOut scan fetchTask fetchFrom fetchRule startRule completeSink completeInner completeRule advanced findRoom releaseTo releaseReady releaseWaiting releaseRule ruleOf stepPlan step cleared rootsLaid begun rootsAnswer beginAnswer begin machine.began machine.memoryAfter machine.recalled machine.eventsAfter acceptedOf orderOf answersIn differently pairsDiffering
+unfolding ℕ-discrete decLe decLt firstBelow occOf placeOf joined tabulate allOf sumTo sumOf after around capped nextPhase part sizesFit firstBad firstTwice firstOnCycle tablesAnswer checkAnswer below? among? light? good? bad? endsFit? twice? twiceIn? find-twice edge? thru? path? leads? onCycle? succsBelow succStart succStarts succWords degreeList roots capacity slotAt endsAt storeEnds sound empty full headOn tailOn sumToZ load leastFrom least search allSteps allEntries numbersFit allFit othersFit lengthsFit countersFit storeWords updated written counted carriedOut scan fetchTask fetchFrom fetchRule startRule completeSink completeInner completeRule advanced findRoom releaseTo releaseReady releaseWaiting releaseRule ruleOf stepPlan step cleared rootsLaid begun rootsAnswer beginAnswer begin machine.began machine.memoryAfter machine.recalled machine.eventsAfter acceptedOf orderOf answersIn differently pairsDiffering
 pair =
     record {
       finished = (record { completes = omega arith }, record { completes = omega arith });
@@ -123,8 +123,8 @@ three-exchanges =
     as-computed (pair .orders .0) (pair .orders .1) (pair .differing)
     (demand-3 .two threeWorkers oneWorker (pair .agree) (pair .finished .0) (pair .finished .1) .chain)
   where
-    as-computed : {a b k l : List ℕ} {n : ℕ} → a ≡ k → b ≡ l → pairsDiffering 4 k l ≡ n
-        → Chain ℕ-discrete (eachOnce 4) (Edge (graphIn wide)) a b (pairsDiffering 4 a b)
+    as-computed : {a b k l : List ℕ} {n : ℕ} → a ≡ k → b ≡ l → pairsDiffering ℕ-discrete (allOf 4) k l ≡ n
+        → Chain ℕ-discrete (eachOnce 4) (Edge (graphIn wide)) a b (pairsDiffering ℕ-discrete (allOf 4) a b)
         → Chain ℕ-discrete (eachOnce 4) (Edge (graphIn wide)) k l n
     as-computed e q d c = rw (← d, ← e, ← q) c
 

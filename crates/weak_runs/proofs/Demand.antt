@@ -14,9 +14,8 @@ use Rattle.graph.specs.Graph.{Graph}
 use Rattle.graph.specs.Conditions.{Sound}
 use Rattle.graph.proofs.Accepted.{fits-sound}
 use Rattle.exchange.specs.Exchange.{Allows}
-use Rattle.exchange.proofs.Theorem.{exchange}
 use Rattle.copies.specs.Copies.{Copy, sameCopy, isCopy, Before, NoneTwice}
-use Rattle.copies.proofs.Copies.{one-copy}
+use Rattle.copies.proofs.Exchanges.{exchange-copies}
 use Rattle.copies.proofs.Agree.{same-copies, same-before}
 use Rattle.weak_rules.specs.Memory.{Mem, edges, graphIn, rootsWord, entriesIn, acceptedIn}
 use Rattle.weak_algorithm.specs.Reading.{stateOf}
@@ -110,8 +109,8 @@ order-agreed r r′ o a =
 
 two-runs : (r r′ : Run) → OneGraph (viewOf r) (viewOf r′) → Finished (viewOf r) → Finished (viewOf r′) → Exchanges (viewOf r) (viewOf r′)
 two-runs r r′ o f f′ =
-    exchange sameCopy (isCopy (graphOf (viewOf r))) (Before (graphOf (viewOf r))) (one-copy (graphOf (viewOf r)) (lent-sound r) (lent-once r)) (orderOf (viewOf r)) (orderOf (viewOf r′))
-    (finished-order r f) (order-agreed r r′ o (finished-order r′ f′))
+    exchange-copies (graphOf (viewOf r)) (lent-sound r) (lent-once r) (orderOf (viewOf r)) (orderOf (viewOf r′)) (finished-order r f)
+    (order-agreed r r′ o (finished-order r′ f′))
 
 one-run : (r : Run) → OneRun (viewOf r)
 one-run r =

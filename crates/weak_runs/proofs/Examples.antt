@@ -8,7 +8,7 @@ use native.Mathlib.Decide.{ℕ-discrete, decLe, decLt}
 use lib.ListN.{replicate}
 use Rattle.lists.specs.Decided.{firstBelow}
 use Rattle.lists.specs.Lists.{occOf, placeOf, joined, tabulate, allOf}
-use Rattle.lists.specs.Sums.{sumTo, sumToZ}
+use Rattle.lists.specs.Sums.{sumTo, sumToZ, sumOf}
 use Rattle.lists.specs.Circles.{after, around}
 use Rattle.task.specs.Types.{engine, capped}
 use Rattle.task.specs.Phases.{nextPhase}
@@ -24,8 +24,9 @@ use Rattle.graph.specs.Successors.{succsBelow, succStart, succStarts, succWords
 use Rattle.ring.specs.Ring.{capacity, slotAt, endsAt, storeEnds, sound, empty, full, headOn, tailOn}
 use Rattle.choice.specs.Least.{load, leastFrom, least}
 use Rattle.choice.specs.Search.{search}
-use Rattle.exchange.specs.Exchange.{Chain, ahead, differ}
-use Rattle.copies.specs.Copies.{sameCopy, isCopy, Before}
+use Rattle.exchange.specs.Exchange.{Chain}
+use Rattle.exchange.specs.Pairs.{differently, pairsDiffering}
+use Rattle.copies.specs.Copies.{sameCopy, nextCopies, isCopy, Before, rootCopies, allCopies}
 use Rattle.machine.specs.Machine as machine
 use Rattle.memory.specs.Shape.{allFit}
 use Rattle.memory.specs.Updates.{storeWords, updated, written}
@@ -118,14 +119,14 @@ pub record Examples : Type 0 where
   pub recordedAlone : memoryOf oneWorker .executed ≡ 0 ∷ 65535 ∷ 0 ∷ 1 ∷ 0 ∷ 0 ∷ 2 ∷ 0 ∷ 0 ∷ 3 ∷ 1 ∷ 0 ∷ 3 ∷ 2 ∷ 0 ∷ replicate 9 0
   pub orders : (orderOf (viewOf deskTurns) ≡ deskOrder) × (orderOf (viewOf oneWorker) ≡ risingOrder)
   -- the copies of tasks 1 and 2, and the two copies of task 3: "copies of one task may pass each other"
-  pub differing : differ sameCopy deskOrder risingOrder ≡ 2
+  pub differing : pairsDiffering sameCopy (allCopies (graphIn diamond)) deskOrder risingOrder ≡ 2
   -- an unfinished run: worker 1's Release is refused with 11, and worker 0 may fetch
   pub unfinished : ¬ (Finished (viewOf crowdedRun))
   pub full : nextSays engine (viewOf crowdedRun) 1 Release ≡ refused 11 4
   pub goesOn : nextSays engine (viewOf crowdedRun) 0 Fetch ≡ copyFetched (copy 2 1)
 
 pub examples : Examples
-unfolding ℕ-discrete decLe decLt firstBelow occOf joined tabulate allOf sumTo after around capped nextPhase part sizesFit firstBad firstTwice firstOnCycle tablesAnswer checkAnswer below? among? light? good? bad? endsFit? twice? twiceIn? find-twice edge? thru? path? leads? onCycle? succsBelow succStart succStarts succWords roots capacity slotAt endsAt storeEnds sound empty full headOn tailOn sumToZ load leastFrom least search allSteps allEntries numbersFit allFit othersFit lengthsFit countersFit storeWords updated written counted carriedOut scan fetchCopy fetchFrom fetchRule startRule completeCopy completeSink completeInner completeLast completeRule advanced findRoom releaseTo releaseFirst releaseLater releaseRule ruleOf stepPlan step weakDegrees rootsLaid cleared begun rootsAnswer beginAnswer begin machine.began machine.memoryAfter machine.recalled machine.eventsAfter machine.acceptedOf orderOf placeOf ahead differ sameCopy
+unfolding ℕ-discrete decLe decLt firstBelow occOf joined tabulate allOf sumTo after around capped nextPhase part sizesFit firstBad firstTwice firstOnCycle tablesAnswer checkAnswer below? among? light? good? bad? endsFit? twice? twiceIn? find-twice edge? thru? path? leads? onCycle? succsBelow succStart succStarts succWords roots capacity slotAt endsAt storeEnds sound empty full headOn tailOn sumToZ load leastFrom least search allSteps allEntries numbersFit allFit othersFit lengthsFit countersFit storeWords updated written counted carriedOut scan fetchCopy fetchFrom fetchRule startRule completeCopy completeSink completeInner completeLast completeRule advanced findRoom releaseTo releaseFirst releaseLater releaseRule ruleOf stepPlan step weakDegrees rootsLaid cleared begun rootsAnswer beginAnswer begin machine.began machine.memoryAfter machine.recalled machine.eventsAfter machine.acceptedOf orderOf placeOf sumOf sameCopy nextCopies rootCopies allCopies differently pairsDiffering
 examples =
     record {
       finished = (record { completes = omega arith }, record { completes = omega arith });
@@ -147,7 +148,7 @@ two-exchanges =
     as-computed (examples .orders .0) (examples .orders .1) (examples .differing)
     (demand-3 .two deskTurns oneWorker (examples .agree) (examples .finished .0) (examples .finished .1) .chain)
   where
-    as-computed : {a b k l : List Copy} {n : ℕ} → a ≡ k → b ≡ l → differ sameCopy k l ≡ n
-        → Chain sameCopy (isCopy (graphIn diamond)) (Before (graphIn diamond)) a b (differ sameCopy a b)
+    as-computed : {a b k l : List Copy} {n : ℕ} → a ≡ k → b ≡ l → pairsDiffering sameCopy (allCopies (graphIn diamond)) k l ≡ n
+        → Chain sameCopy (isCopy (graphIn diamond)) (Before (graphIn diamond)) a b (pairsDiffering sameCopy (allCopies (graphIn diamond)) a b)
         → Chain sameCopy (isCopy (graphIn diamond)) (Before (graphIn diamond)) k l n
     as-computed e q d c = rw (← d, ← e, ← q) c

@@ -11,8 +11,8 @@ use Rattle.task.specs.Refusals.{Said}
 use Rattle.task.specs.Rows.{Acceptance}
 use Rattle.task.specs.declared.Limits.{Limits}
 use Rattle.task.specs.declared.Step.{Step}
-use Rattle.exchange.specs.Exchange.{Allows, OneForEach}
-use Rattle.copies.specs.Copies.{Copy, copy, sameCopy, isCopy, Before}
+use Rattle.exchange.specs.Exchange.{Allows}
+use Rattle.copies.specs.Copies.{Copy, copy, sameCopy, isCopy, Before, CopyExchanges}
 use Rattle.weak_task.specs.Says.{stepSays}
 use Rattle.weak_rules.specs.Memory.{Mem, edges, graphIn, acceptedIn}
 use Rattle.weak_rules.specs.Steps.{step}
@@ -61,7 +61,7 @@ pub record OneRun (v : View Mem Call) : Type 0 where
 -- one order of copies becomes the other by exchanging neighbours that the graph doesn't order, one exchange for each pair of copies that the two order
 -- differently, every list on the way being an order the graph allows
 abbrev pub Exchanges : View Mem Call → View Mem Call → Type 0
-Exchanges v v′ = OneForEach sameCopy (isCopy (graphOf v)) (Before (graphOf v)) (orderOf v) (orderOf v′)
+Exchanges v v′ = CopyExchanges (graphOf v) (orderOf v) (orderOf v′)
 
 -- PROMISE: demand 3 of weak jobs
 pub record Demand3 : Type 0 where
