@@ -13,7 +13,7 @@ use Rattle.lists.specs.Lists.{occOf, placeOf}
 use Rattle.lists.specs.Sums.{sumOf}
 use Rattle.lists.proofs.Decided.{tally-no}
 use Rattle.lists.proofs.Occurrences.{occ-cons, occ-hit, occ-apart}
-use Rattle.lists.proofs.Sums.{sumOf-same, sumOf-both}
+use Rattle.lists.proofs.Sums.{sumOf-add, sumOf-same, sumOf-both}
 use Rattle.lists.proofs.Positions.{place-apart, earlier, earlier-skip, earlier-first, earlier-none}
 use Rattle.exchange.specs.Pairs.{differently, bit, pairsDiffering}
 use Rattle.exchange.proofs.Counts.{ahead, differ, crossing}
@@ -81,11 +81,6 @@ one-of-both true true = refl
 one-of-both true false = refl
 one-of-both false true = refl
 one-of-both false false = refl
-
-sumOf-add : {A : Type 0} (f g : A → ℕ) (l : List A) → sumOf (λ x. f x + g x) l ≡ sumOf f l + sumOf g l
-unfolding sumOf
-sumOf-add f g [] = refl
-sumOf-add f g (x ∷ l) = omega (arith, sumOf-add f g l)
 
 module _ {A : Type 0} (same : Discrete A) (a b : List A) where
   abbrev cross : A → A → ℕ

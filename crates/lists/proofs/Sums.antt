@@ -30,18 +30,6 @@ pub sum-suc : (n : ℕ) (f : ℕ → ℕ) → sumTo (suc n) f ≡ sumTo n f + f 
 unfolding sumTo
 sum-suc n f = refl
 
-sum-add : (n : ℕ) (f g : ℕ → ℕ) → sumTo n (λ k. f k + g k) ≡ sumTo n f + sumTo n g
-unfolding sumTo
-sum-add zero f g = refl
-sum-add (suc n) f g = omega (arith, sum-add n f g)
-
--- a sum over ordered pairs, by pairs u < t, and each number with itself
-pub sum-pairs : (n : ℕ) (f : ℕ → ℕ → ℕ) → sumTo n (λ t. sumTo n (f t)) ≡ sumTo n (λ t. sumTo t (λ u. f t u + f u t)) + sumTo n (λ t. f t t)
-unfolding sumTo
-sum-pairs zero f = refl
-sum-pairs (suc n) f =
-    omega (arith, sum-pairs n f, sum-add n (λ t. sumTo n (f t)) (λ t. f t n), sum-add n (f n) (λ u. f u n))
-
 -- one place changed
 pub sum-at : (n : ℕ) (f g : ℕ → ℕ) (k : ℕ) → k < n → ((j : ℕ) → ¬ (j ≡ k) → g j ≡ f j) → sumTo n g + f k ≡ sumTo n f + g k
 unfolding sumTo
@@ -143,6 +131,11 @@ pub sumOf-append : {A : Type 0} (f : A → ℕ) (k l : List A) → sumOf f (k ++
 unfolding sumOf
 sumOf-append f [] l = omega arith
 sumOf-append f (x ∷ k) l = omega (arith, sumOf-append f k l)
+
+pub sumOf-add : {A : Type 0} (f g : A → ℕ) (l : List A) → sumOf (λ x. f x + g x) l ≡ sumOf f l + sumOf g l
+unfolding sumOf
+sumOf-add f g [] = refl
+sumOf-add f g (x ∷ l) = omega (arith, sumOf-add f g l)
 
 pub sumOf-snoc : {A : Type 0} (f : A → ℕ) (l : List A) (x : A) → sumOf f (l ++ (x ∷ [])) ≡ sumOf f l + f x
 sumOf-snoc f l x = omega (arith, sumOf-append f l (x ∷ []), sumOf-single f x)
