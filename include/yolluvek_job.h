@@ -21,8 +21,9 @@
  *     yolluvek_step_reply fetched = yolluvek_job_fetch(&job, 0);
  *
  * Every call answers a number, 0 where it is accepted, and a refused one leaves the block, and the yolluvek_job, as
- * they were. yolluvek_means says what a number means, yolluvek_advice what to do about it. An empty list is no trap:
- * its pointer is into the block, and never NULL.
+ * they were. yolluvek_means says what a number means, yolluvek_advice what to do about it, and the calls behind it say
+ * more where more is at hand: the job, the text, a weak job's fixed word. An empty list is no trap: its pointer is into
+ * the block, and never NULL.
  *
  * A job isn't locked: threads that share one make their calls one after the other (examples/threads.c). A saved block
  * goes on in any process (examples/resume.c). What a host owes the memory is what yolluvek.h says: between the calls of
@@ -347,22 +348,29 @@ static inline const char *yolluvek_means(uint32_t number)
     }
 }
 
-/* What an operator does about it, in the words of docs/REFUSALS.md; "" of an accepted call. */
+/*
+ * What an operator does about it, in the words of docs/REFUSALS.md; "" of an accepted call. It knows the number alone,
+ * and holds of plain jobs, previews and weak jobs.
+ */
 static inline const char *yolluvek_advice(uint32_t number)
 {
     switch (number) {
     case YOLLUVEK_ACCEPTED:
         return "";
     case YOLLUVEK_BEYOND_LIMIT:
-        return "choose another number of workers or slots; else the job is too large, and has to be split.";
+        return "by what is beyond, choose another number of workers or slots, weigh all tasks in a larger unit, or "
+               "shorten the text; a job of too many tasks or edges has to be split. What is too large for a preview may "
+               "be begun by the engine.";
     case YOLLUVEK_BAD_TABLE:
-        return "look at the predecessors of that task in the text. The reader takes any number there; begin judges it.";
+        return "look at the predecessors of the task in the detail. The reader takes any number there; begin judges it. "
+               "If there is no such task, report it.";
     case YOLLUVEK_PREDECESSOR_TWICE:
         return "remove one of the two from that task; in a text, lower the count before them too.";
     case YOLLUVEK_CYCLE:
         return "find the way from that task through predecessors back to it. One of these edges is wrong.";
     case YOLLUVEK_TOO_MANY_ROOTS:
-        return "use more workers or more slots, or give some of the roots a common predecessor.";
+        return "use more workers or more slots, or give some of the roots a common predecessor. A preview has room for "
+               "32 roots at most, the engine for all.";
     case YOLLUVEK_NO_SUCH_WORKER:
         return "choose another worker.";
     case YOLLUVEK_WRONG_PHASE:
@@ -371,13 +379,13 @@ static inline const char *yolluvek_advice(uint32_t number)
         return "after a refused Fetch try Release, after a refused Release try Fetch; if both are refused, go on "
                "with another worker.";
     case YOLLUVEK_NO_ROOM:
-        return "let a worker fetch, then release again. The refused worker can fetch itself, since a ring that it "
-               "owns is full. After at most P accepted Fetches of any one worker there is room. If it happens often, "
-               "use a larger K.";
+        return "let a worker fetch, then release again; if the task is fixed, in a weak job, the worker that it is fixed "
+               "to. If it happens often, use a larger K.";
     case YOLLUVEK_BAD_LAYOUT:
         return "look in that line for a wrong number of fields, a task number out of turn, a number of more than five "
                "digits or over 65,535, a mark other than digits, spaces and tabs, a time at the first or last task, "
-               "a predecessor at task 0, or a line after the last task.";
+               "a predecessor at task 0, or a line after the last task. Which task is the last one, n in the first line "
+               "says. If there is no such line, add the task lines that are missing, or correct n in the first line.";
     case YOLLUVEK_NO_DUMMIES:
         return "put a task without weight and predecessors first, and one without weight last.";
     case YOLLUVEK_BAD_WINDOW:
@@ -387,6 +395,203 @@ static inline const char *yolluvek_advice(uint32_t number)
     default:
         return "report it.";
     }
+}
+
+/* What the first limit is that these go beyond. */
+enum {
+    YOLLUVEK_WITHIN = 0,
+    YOLLUVEK_BEYOND_SIZE = 1,
+    YOLLUVEK_BEYOND_WORKERS = 2,
+    YOLLUVEK_BEYOND_SLOTS = 3,
+    YOLLUVEK_BEYOND_WEIGHT = 4
+};
+
+/* In the order of N, E, P, K and the weights, of which none is looked at where they are NULL. */
+static inline int yolluvek_beyond(size_t n, size_t e, size_t p, size_t k, const uint32_t *weights)
+{
+    size_t task;
+    if (n > YOLLUVEK_MAX_TASKS || e > YOLLUVEK_MAX_EDGES) {
+        return YOLLUVEK_BEYOND_SIZE;
+    }
+    if (p < 1 || p > YOLLUVEK_MAX_WORKERS) {
+        return YOLLUVEK_BEYOND_WORKERS;
+    }
+    if (k < YOLLUVEK_MIN_SLOTS || k > YOLLUVEK_MAX_SLOTS) {
+        return YOLLUVEK_BEYOND_SLOTS;
+    }
+    for (task = 0; weights != NULL && task < n; task++) {
+        if (weights[task] > YOLLUVEK_MAX_WEIGHT) {
+            return YOLLUVEK_BEYOND_WEIGHT;
+        }
+    }
+    return YOLLUVEK_WITHIN;
+}
+
+/*
+ * What to do about a 2 of a plain or a weak job with these sizes: by the check, the making of a job, begin or a step. The
+ * weights may be NULL where they aren't filled yet.
+ */
+static inline const char *yolluvek_limits_advice(size_t n, size_t e, size_t p, size_t k, const uint32_t *weights)
+{
+    switch (yolluvek_beyond(n, e, p, k, weights)) {
+    case YOLLUVEK_BEYOND_SIZE: return "the job is too large, and has to be split.";
+    case YOLLUVEK_BEYOND_WORKERS: return "choose from 1 to 16 workers.";
+    case YOLLUVEK_BEYOND_SLOTS: return "choose from 2 to 64 slots.";
+    case YOLLUVEK_BEYOND_WEIGHT: return "weigh all tasks in a larger unit, or split that task.";
+    default: return yolluvek_advice(YOLLUVEK_BEYOND_LIMIT);
+    }
+}
+
+/* The same of a preview, which says whether the engine takes the job. */
+static inline const char *yolluvek_preview_limits_advice(
+    size_t n, size_t e, size_t p, size_t k, const uint32_t *weights)
+{
+    int taken = yolluvek_beyond(n, e, p, k, weights) == YOLLUVEK_WITHIN;
+    if (n > YOLLUVEK_PREVIEW_MAX_TASKS || e > YOLLUVEK_PREVIEW_MAX_EDGES) {
+        return taken ? "begin the job by the engine, whose limits it keeps, or split it."
+                     : "split the job. As it is, the engine doesn't take it either.";
+    }
+    if (p < 1 || p > YOLLUVEK_PREVIEW_MAX_WORKERS) {
+        return taken ? "choose from 1 to 4 workers, or begin the job by the engine, whose limits it keeps."
+                     : "choose from 1 to 4 workers. As it is, the engine doesn't take the job either.";
+    }
+    if (k < YOLLUVEK_MIN_SLOTS || k > YOLLUVEK_PREVIEW_MAX_SLOTS) {
+        return taken ? "choose from 2 to 8 slots, or begin the job by the engine, whose limits it keeps."
+                     : "choose from 2 to 8 slots. As it is, the engine doesn't take the job either.";
+    }
+    return yolluvek_limits_advice(n, e, p, k, weights);
+}
+
+/* What to do about a refused begin or step of a job, which is a plain one. */
+static inline const char *yolluvek_job_advice(const yolluvek_job *job, uint32_t number)
+{
+    if (number == YOLLUVEK_BEYOND_LIMIT) {
+        return yolluvek_limits_advice(job->n, job->e, job->p, job->k, job->weights);
+    }
+    if (number == YOLLUVEK_NO_ROOM) {
+        return "let a worker fetch, then release again. The refused worker can fetch itself, since a ring that it owns "
+               "is full. After at most P accepted Fetches of any one worker there is room. If it happens often, use a "
+               "larger K.";
+    }
+    return yolluvek_advice(number);
+}
+
+/* The same where the preview's begin or step was lent the job's lists. */
+static inline const char *yolluvek_preview_advice(const yolluvek_job *job, uint32_t number)
+{
+    if (number == YOLLUVEK_BEYOND_LIMIT) {
+        return yolluvek_preview_limits_advice(job->n, job->e, job->p, job->k, job->weights);
+    }
+    return yolluvek_job_advice(job, number);
+}
+
+/*
+ * What to do about a refused begin or step of a weak job. `fixed` is the fixed word of the task in the detail, where the
+ * number is 11; else it isn't looked at. A 2 has yolluvek_limits_advice.
+ */
+static inline const char *yolluvek_weak_advice(uint32_t number, uint32_t fixed)
+{
+    if (number != YOLLUVEK_NO_ROOM) {
+        return yolluvek_advice(number);
+    }
+    if (fixed == YOLLUVEK_UNFIXED) {
+        return "let a worker fetch, then release again. The refused worker can fetch itself, since a ring that it owns "
+               "is full. After at most P accepted Fetches of any one worker there is room; but once another worker's "
+               "Release has fixed the task, only of the worker that it is fixed to. If it happens often, use a larger K.";
+    }
+    return "let the worker that the task is fixed to fetch, then release again. After at most P accepted Fetches of that "
+           "worker there is room. If it happens often, use a larger K.";
+}
+
+/* Where the line that begins here ends: at its LF, or at the end of the text. */
+static inline const char *yolluvek_line_end(const char *line, const char *end)
+{
+    const char *mark = line == end ? NULL : (const char *)memchr(line, '\n', (size_t)(end - line));
+    return mark == NULL ? end : mark;
+}
+
+/* The first mark of a field of a line, counted from 0; `end` where it has no such field. */
+static inline const char *yolluvek_field(const char *line, const char *end, size_t field)
+{
+    for (;;) {
+        while (line < end && (*line == ' ' || *line == '\t' || *line == '\r')) {
+            line++;
+        }
+        if (line == end || field == 0) {
+            return line;
+        }
+        while (line < end && *line != ' ' && *line != '\t' && *line != '\r') {
+            line++;
+        }
+        field--;
+    }
+}
+
+/* The number that begins here, of the five digits that a field has at most; 0 where none does. */
+static inline size_t yolluvek_digits(const char *mark, const char *end)
+{
+    size_t number = 0, digits;
+    for (digits = 0; digits < 5 && mark < end && *mark >= '0' && *mark <= '9'; digits++) {
+        number = 10 * number + (size_t)(*mark++ - '0');
+    }
+    return number;
+}
+
+/* Of a text that is refused with 13, whether it ends too early; then how many task lines there have to be and are. */
+typedef struct {
+    int early;       /* 1 where it does, else 0, as all that follows */
+    size_t expected; /* n + 2; 0 where there is no n */
+    size_t found;    /* the task lines that are there */
+    int other;       /* 1 where with another n, 2 less than are there, the text would be whole */
+} yolluvek_text_end;
+
+static inline yolluvek_text_end yolluvek_text_ends(const void *text, size_t length, uint32_t detail)
+{
+    yolluvek_text_end ends = {0, 0, 0, 0};
+    const char *line = length == 0 ? "" : (const char *)text, *end = line + length;
+    uint32_t lines = 0;
+    while (line < end) {
+        const char *stop = yolluvek_line_end(line, end), *first = yolluvek_field(line, stop, 0);
+        lines++;
+        if (first < stop && *first != '#') {
+            const char *time = yolluvek_field(line, stop, 1);
+            if (ends.expected == 0) {
+                ends.expected = yolluvek_digits(first, stop) + 2;
+            } else {
+                ends.found++;
+                ends.other = ends.found >= 2 && time < stop && yolluvek_digits(time, stop) == 0;
+            }
+        }
+        line = stop < end ? stop + 1 : end;
+    }
+    ends.early = detail > lines;
+    if (!ends.early) {
+        ends.expected = ends.found = 0;
+        ends.other = 0;
+    }
+    return ends;
+}
+
+/* What to do about a text that the reader refuses with this number and detail. An empty text may be NULL. */
+static inline const char *yolluvek_text_advice(const void *text, size_t length, uint32_t number, uint32_t detail)
+{
+    if (number == YOLLUVEK_BEYOND_LIMIT) {
+        return length > YOLLUVEK_MAX_TEXT
+                   ? "leave out comments, blank lines, spare spaces and zeros. If it is too long without them, the job is "
+                     "too large, and has to be split."
+                   : "the job is too large, and has to be split.";
+    }
+    if (number == YOLLUVEK_BAD_LAYOUT) {
+        yolluvek_text_end ends = yolluvek_text_ends(text, length, detail);
+        if (ends.early && ends.expected == 0) {
+            return "put n first, then a line for each of n + 2 tasks.";
+        }
+        if (ends.early) {
+            return ends.other ? "correct n in the first line, or add the task lines that are missing."
+                              : "add the task lines that are missing, or correct n in the first line.";
+        }
+    }
+    return yolluvek_advice(number);
 }
 
 #endif

@@ -1,13 +1,12 @@
 /*
- * The weak calls on lists of the program's own: the diamond in the desk program's turns, its record by hand, and a later
- * copy whose ring is full, with every list compared before and after the refused call.
+ * The weak calls on lists of the program's own: the diamond in the desk program's turns, its record by hand, a later
+ * copy whose ring is full, with every list compared before and after the refused call, and a refused first copy that
+ * becomes a later one, with what is advised about it.
  */
 #include "check.h"
-#include "yolluvek.h"
+#include "yolluvek_job.h"
 
-#include <string.h>
-
-enum { N = 5, E = 6, P = 2, K = 4, TURNS = 200 };
+enum { N = 7, E = 6, P = 2, K = 4, TURNS = 200 };
 
 /* The lists of a job with at most N tasks, E edges, P workers and K slots. */
 typedef struct {
@@ -72,17 +71,22 @@ static void the_diamond(void)
     CHECK(memcmp(job.fixed, fixed, sizeof fixed) == 0);
 }
 
-static yolluvek_copy worked(weak_job *job)
+static yolluvek_copy worked_by(weak_job *job, uint32_t worker)
 {
-    yolluvek_weak_step_reply fetched = yolluvek_weak_fetch(LENT(job), 0);
+    yolluvek_weak_step_reply fetched = yolluvek_weak_fetch(LENT(job), worker);
     yolluvek_copy copy;
     copy.task = fetched.first;
     copy.predecessor = fetched.second;
     CHECK(fetched.number == YOLLUVEK_ACCEPTED && fetched.kind == YOLLUVEK_WEAK_FETCHED);
-    CHECK(job->rows[0].held.task == copy.task && job->rows[0].held.predecessor == copy.predecessor);
-    CHECK(yolluvek_weak_start(LENT(job), 0).number == YOLLUVEK_ACCEPTED);
-    CHECK(yolluvek_weak_complete(LENT(job), 0).kind == YOLLUVEK_WEAK_MOVED);
+    CHECK(job->rows[worker].held.task == copy.task && job->rows[worker].held.predecessor == copy.predecessor);
+    CHECK(yolluvek_weak_start(LENT(job), worker).number == YOLLUVEK_ACCEPTED);
+    CHECK(yolluvek_weak_complete(LENT(job), worker).kind == YOLLUVEK_WEAK_MOVED);
     return copy;
+}
+
+static yolluvek_copy worked(weak_job *job)
+{
+    return worked_by(job, 0);
 }
 
 /* One worker, two slots: of the three copies of task 4 the third finds the ring full until one is fetched. */
@@ -116,9 +120,41 @@ static void a_full_ring(void)
     CHECK(yolluvek_weak_fetch(LENT(&job), 0).number == YOLLUVEK_NOTHING_THERE);
 }
 
+/* Worker 0's Release is refused with 11 and task 6, and the advice is of a task that is fixed, or isn't yet. */
+static const char *refused(weak_job *job)
+{
+    yolluvek_weak_step_reply reply = yolluvek_weak_release(LENT(job), 0);
+    CHECK(reply.number == YOLLUVEK_NO_ROOM && reply.detail == 6);
+    return yolluvek_weak_advice(reply.number, job->fixed[reply.detail]);
+}
+
+/* No room for the first copy of task 6; P Fetches of worker 1 later it is fixed to worker 0, who alone makes room. */
+static void a_first_copy_becomes_a_later_one(void)
+{
+    static const uint32_t weights[7] = {0}, starts[] = {0, 0, 0, 1, 2, 3, 4, 6}, preds[] = {0, 0, 0, 0, 0, 1};
+    static const char fixed[] = "only of the worker that it is fixed to";
+    weak_job job;
+    uint32_t task;
+    made(&job, 7, 6, 2, 2, weights, starts, preds);
+    worked(&job);
+    for (task = 2; task < 6; task++) {
+        CHECK(yolluvek_weak_release(LENT(&job), 0).first == task);
+    }
+    CHECK(strstr(refused(&job), fixed) != NULL);
+    CHECK(worked_by(&job, 1).task == 4 && worked_by(&job, 1).task == 1);
+    CHECK(yolluvek_weak_release(LENT(&job), 1).third == 0);
+    CHECK(job.fixed[6] == 0);
+    CHECK(strstr(refused(&job), "any one worker") == NULL);
+    CHECK(worked(&job).task == 6 && worked(&job).task == 2);
+    CHECK(yolluvek_weak_release(LENT(&job), 0).third == 0);
+    /* the number alone doesn't know, and promises nothing of any one worker */
+    CHECK(strstr(yolluvek_advice(YOLLUVEK_NO_ROOM), "any one worker") == NULL);
+}
+
 int main(void)
 {
     the_diamond();
     a_full_ring();
+    a_first_copy_becomes_a_later_one();
     return failures == 0 ? EXIT_SUCCESS : EXIT_FAILURE;
 }

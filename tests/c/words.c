@@ -1,6 +1,7 @@
 /*
  * yolluvek_means and yolluvek_advice beside docs/REFUSALS.md, the program's argument: the same numbers, each heading's
- * meaning, and the line for operators with its line breaks joined.
+ * meaning, and the line for operators with its line breaks joined. What is advised where more is known than the number
+ * is a cell of the page's tables.
  */
 #include "check.h"
 #include "yolluvek_job.h"
@@ -102,6 +103,45 @@ static void one_number(uint32_t number)
     }
 }
 
+/* The advice is a whole cell of the page, the last of its row. */
+static void cell(const char *advice)
+{
+    static char row[ROOM];
+    int there = snprintf(row, sizeof row, " | %s |\n", advice) > 0 && strstr(page, row) != NULL;
+    CHECK(there);
+    if (!there) {
+        printf("  not on the page: %s\n", advice);
+    }
+}
+
+static void cases(void)
+{
+    static const size_t many = YOLLUVEK_MAX_TASKS + 1;
+    static const uint32_t heavy[] = {YOLLUVEK_MAX_WEIGHT + 1};
+    static const char early[] = "2\n0 0 0\n1 5 1 0\n", other[] = "2\n0 0 0\n1 0 1 0\n";
+    yolluvek_job job;
+    memset(&job, 0, sizeof job);
+    cell(yolluvek_limits_advice(many, 0, 2, 4, NULL));
+    cell(yolluvek_limits_advice(1, 0, 17, 4, NULL));
+    cell(yolluvek_limits_advice(1, 0, 2, 65, NULL));
+    cell(yolluvek_limits_advice(1, 0, 2, 4, heavy));
+    cell(yolluvek_preview_limits_advice(129, 0, 2, 4, NULL));
+    cell(yolluvek_preview_limits_advice(1, 0, 5, 4, NULL));
+    cell(yolluvek_preview_limits_advice(1, 0, 2, 9, NULL));
+    cell(yolluvek_preview_limits_advice(many, 0, 2, 4, NULL));
+    cell(yolluvek_preview_limits_advice(1, 0, 17, 4, NULL));
+    cell(yolluvek_preview_limits_advice(1, 0, 2, 65, NULL));
+    cell(yolluvek_preview_limits_advice(1, 0, 2, 4, heavy));
+    cell(yolluvek_text_advice("", YOLLUVEK_MAX_TEXT + 1, YOLLUVEK_BEYOND_LIMIT, 0));
+    cell(yolluvek_text_advice("1023", 4, YOLLUVEK_BEYOND_LIMIT, 0));
+    cell(yolluvek_text_advice(NULL, 0, YOLLUVEK_BAD_LAYOUT, 1));
+    cell(yolluvek_text_advice(early, strlen(early), YOLLUVEK_BAD_LAYOUT, 4));
+    cell(yolluvek_text_advice(other, strlen(other), YOLLUVEK_BAD_LAYOUT, 4));
+    cell(yolluvek_job_advice(&job, YOLLUVEK_NO_ROOM));
+    cell(yolluvek_weak_advice(YOLLUVEK_NO_ROOM, YOLLUVEK_UNFIXED));
+    cell(yolluvek_weak_advice(YOLLUVEK_NO_ROOM, 0));
+}
+
 int main(int count, char **arguments)
 {
     uint32_t number;
@@ -113,6 +153,7 @@ int main(int count, char **arguments)
     for (number = 1; number <= NUMBERS; number++) {
         one_number(number);
     }
+    cases();
     CHECK(strcmp(yolluvek_means(0), "accepted") == 0);
     CHECK(strcmp(yolluvek_advice(0), "") == 0);
     /* what the page doesn't have is said to be unknown, and reported */

@@ -59,7 +59,7 @@ pub enum Side {
 /// | [`Refusal`] | of | means |
 /// |---|---|---|
 /// | [`BadLayout`](Refusal::BadLayout), [`TextEnds`](Refusal::TextEnds) | a text | it isn't laid out as the Standard Task Graph Set, from this line on |
-/// | [`BeyondLimit`](Refusal::BeyondLimit) | a text, begin | too large, or too few or too many workers or slots: see [`limits`](crate::limits) |
+/// | [`BeyondLimit`](Refusal::BeyondLimit) | a text, begin | a size, a weight, the number of workers or of slots, or the text is beyond its limit: see [`limits`](crate::limits) |
 /// | [`WrongLength`](Refusal::WrongLength), [`BadPart`](Refusal::BadPart), [`BadEnds`](Refusal::BadEnds), [`PredecessorTwice`](Refusal::PredecessorTwice), [`Cycle`](Refusal::Cycle) | begin | the tables are no task graph |
 /// | [`TooManyRoots`](Refusal::TooManyRoots) | begin | more workers or slots are needed |
 /// | [`NoSuchWorker`](Refusal::NoSuchWorker) | a step | workers have the numbers 0 to [`workers`](Job::workers) − 1 |
@@ -86,7 +86,8 @@ pub type Job = JobOf<Engine>;
 ///
 /// It has all calls and views that a [`Job`] has ([`JobOf`] lists them) but the neighbour lookup and the load windows.
 /// Within its limits every call is the job's own: the same answer, and the same words written. Beyond them begin and every step are refused with
-/// 2 before anything else, and the [`Limit`](crate::limits::Limit) names the preview's. Weights to 65,535, workers from 1
+/// 2 before anything else, and the [`Limit`](crate::limits::Limit) names the preview's; [`BeyondPreview`](Refusal::BeyondPreview)
+/// says that the engine's limits are kept. Weights to 65,535, workers from 1
 /// and slots from 2 stay, as does the stack that a call uses, which is sized by the engine's limits.
 ///
 /// ```
@@ -130,8 +131,8 @@ pub type Preview = JobOf<Planner>;
 ///
 /// It is made and driven as a [`Job`] is, within the same limits, and has all its calls and views ([`JobOf`] lists them) but
 /// the load windows. Each accepted Release makes one copy. The first copy of a task picks its worker as a job's task does, and
-/// [fixes](WeakJob::fixed) the task to it; later copies go only to that worker, and are refused with
-/// [`RingFull`](Refusal::RingFull) where its ring is full. The weight counts in that worker's load from the first copy's
+/// [fixes](WeakJob::fixed) the task to it, or is refused with [`NoRoomForFirst`](Refusal::NoRoomForFirst); later copies go
+/// only to that worker, and are refused with [`RingFull`](Refusal::RingFull) where its ring is full. The weight counts in that worker's load from the first copy's
 /// Release to the last copy's Complete, which completes the task.
 ///
 /// ```
@@ -203,7 +204,10 @@ impl<C: Caller> JobOf<C> {
     /// let refusal = Job::from_text(b"2\n0 0 0\n1 5 2 0\n", 2, 4).unwrap_err();
     /// assert_eq!(refusal.to_string(), "the text breaks the layout in line 3");
     /// let refusal = Job::from_text(b"2\n0 0 0\n", 2, 4).unwrap_err();
-    /// assert_eq!(refusal.to_string(), "the text ends before line 3");
+    /// assert_eq!(
+    ///     refusal.to_string(),
+    ///     "the text ends too early: n is 2, so 4 task lines have to follow, and there is 1 task line"
+    /// );
     /// # Ok::<(), Refusal>(())
     /// ```
     pub fn from_text(text: &[u8], workers: usize, slots: usize) -> Result<JobOf<C>, Refusal> {

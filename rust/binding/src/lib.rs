@@ -78,6 +78,7 @@
 
 mod callers;
 mod dummies;
+mod faults;
 #[allow(unsafe_code)]
 mod ffi;
 mod ids;
@@ -91,12 +92,14 @@ mod refusal;
 mod reply;
 mod step;
 mod tables;
+mod text;
 mod views;
 mod weak;
 mod windows;
 
 pub use callers::{Caller, Engine, ItemOf, Planner, ReleasedOf, WeakEngine};
 pub use dummies::Lack;
+pub use faults::Fault;
 pub use ids::{TaskCopy, TaskId, WorkerId};
 pub use job::{Job, JobOf, Preview, Side, WeakJob};
 pub use memory::{Ends, Entry};

@@ -98,21 +98,21 @@ pub enum Limit {
         /// How many it has.
         bytes: usize,
     },
-    /// A text that asks for more tasks than [`MAX_TASKS`], the two dummies among them, or for more edges than
-    /// [`MAX_EDGES`].
-    Contents,
+    /// A text that asks for more tasks than [`MAX_TASKS`].
+    TextTasks {
+        /// How many, n and its two dummies.
+        tasks: usize,
+    },
+    /// A text that has more predecessors than [`MAX_EDGES`].
+    TextEdges {
+        /// The line with which they are too many, counted from 1.
+        line: u32,
+    },
     /// None of these: another version of the library may have others.
     Unknown,
 }
 
 impl Limit {
-    pub(crate) fn of_text(text: &[u8]) -> Limit {
-        match text.len() {
-            bytes if bytes > MAX_TEXT => Limit::Text { bytes },
-            _ => Limit::Contents,
-        }
-    }
-
     pub(crate) fn of_sizes(tables: &Tables, whose: Whose) -> Option<Limit> {
         let (tasks, edges) = (tables.weights.len(), tables.preds.len());
         let (by_tasks, by_edges) = match whose {
@@ -137,10 +137,65 @@ impl Limit {
         (!fits).then_some(by_slots)
     }
 
+    /// The first limit that a begin goes beyond.
+    pub(crate) fn of_job(tables: &Tables, workers: usize, slots: usize, whose: Whose) -> Option<Limit> {
+        Limit::of_sizes(tables, whose)
+            .or_else(|| Limit::of_numbers(workers, slots, whose))
+            .or_else(|| Limit::of_weights(tables))
+    }
+
     pub(crate) fn of_weights(tables: &Tables) -> Option<Limit> {
         let mut weights = (0..).map(TaskId::new).zip(tables.weights.iter().copied());
         let (task, weight) = weights.find(|&(_, weight)| weight > MAX_WEIGHT)?;
         Some(Limit::Weight { task, weight })
+    }
+}
+
+impl Limit {
+    /// What an operator does about it: the cells of docs/REFUSALS.md.
+    pub(crate) const fn advice(&self) -> &'static str {
+        match self {
+            Limit::Tasks { .. } | Limit::Edges { .. } | Limit::TextTasks { .. } | Limit::TextEdges { .. } => {
+                "the job is too large, and has to be split."
+            }
+            Limit::Workers { .. } => "choose from 1 to 16 workers.",
+            Limit::Slots { .. } => "choose from 2 to 64 slots.",
+            Limit::Weight { .. } => "weigh all tasks in a larger unit, or split that task.",
+            Limit::Text { .. } => {
+                "leave out comments, blank lines, spare spaces and zeros. If it is too long without them, the job is too \
+                 large, and has to be split."
+            }
+            Limit::PreviewTasks { .. } | Limit::PreviewEdges { .. } => {
+                "split the job. As it is, the engine doesn't take it either."
+            }
+            Limit::PreviewWorkers { .. } => {
+                "choose from 1 to 4 workers. As it is, the engine doesn't take the job either."
+            }
+            Limit::PreviewSlots { .. } => {
+                "choose from 2 to 8 slots. As it is, the engine doesn't take the job either."
+            }
+            Limit::Unknown => {
+                "by what is beyond, choose another number of workers or slots, weigh all tasks in a larger unit, or \
+                 shorten the text; a job of too many tasks or edges has to be split. What is too large for a preview may \
+                 be begun by the engine."
+            }
+        }
+    }
+
+    /// The same of a preview whose job keeps the engine's limits.
+    pub(crate) const fn preview_advice(&self) -> &'static str {
+        match self {
+            Limit::PreviewTasks { .. } | Limit::PreviewEdges { .. } => {
+                "begin the job by the engine, whose limits it keeps, or split it."
+            }
+            Limit::PreviewWorkers { .. } => {
+                "choose from 1 to 4 workers, or begin the job by the engine, whose limits it keeps."
+            }
+            Limit::PreviewSlots { .. } => {
+                "choose from 2 to 8 slots, or begin the job by the engine, whose limits it keeps."
+            }
+            _ => self.advice(),
+        }
     }
 }
 
@@ -193,9 +248,13 @@ impl fmt::Display for Limit {
                 )
             }
             Limit::Text { bytes } => write!(to, "a text of {bytes} bytes is beyond the limit: at most {MAX_TEXT}"),
-            Limit::Contents => write!(
+            Limit::TextTasks { tasks } => write!(
                 to,
-                "the text asks for more than {MAX_TASKS} tasks, its two dummies among them, or {MAX_EDGES} edges"
+                "the text asks for {tasks} tasks, its two dummies among them, which are beyond the limit: at most {MAX_TASKS}"
+            ),
+            Limit::TextEdges { line } => write!(
+                to,
+                "with line {line} the text has more edges than the limit: at most {MAX_EDGES}"
             ),
             Limit::Unknown => to.write_str("a size, a weight or the text is beyond its limit"),
         }

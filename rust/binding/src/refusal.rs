@@ -2,11 +2,13 @@
 
 use crate::callers::Whose;
 use crate::dummies::Lack;
+use crate::faults::Fault;
 use crate::ids::{TaskId, WorkerId};
 use crate::job::Side;
 use crate::limits::{Limit, MAX_TASKS, MIN_SLOTS};
 use crate::step::{Phase, Step};
 use crate::tables::Tables;
+use crate::text;
 use std::error::Error;
 use std::fmt;
 
@@ -16,7 +18,9 @@ use std::fmt;
 /// |---|---|---|
 /// | 1 | [`WrongLength`](Refusal::WrongLength) | check, saving, begin, steps, lookup |
 /// | 2 | [`BeyondLimit`](Refusal::BeyondLimit) | every call |
+/// | 2 | [`BeyondPreview`](Refusal::BeyondPreview) | a preview's begin and steps |
 /// | 3 | [`BadPart`](Refusal::BadPart), [`BadEnds`](Refusal::BadEnds) | check, saving, begin, lookup |
+/// | 3 | [`BadEdge`](Refusal::BadEdge) | [`try_from_edges`](Tables::try_from_edges) |
 /// | 3 | [`NoSuchTask`](Refusal::NoSuchTask), [`NoSuccessorsYet`](Refusal::NoSuccessorsYet) | lookup |
 /// | 4 | [`PredecessorTwice`](Refusal::PredecessorTwice) | check, saving, begin |
 /// | 5 | [`Cycle`](Refusal::Cycle) | check, saving, begin |
@@ -27,7 +31,7 @@ use std::fmt;
 /// | 9 | [`WrongPhase`](Refusal::WrongPhase) | every step |
 /// | 10 | [`NothingToFetch`](Refusal::NothingToFetch), [`NothingToRelease`](Refusal::NothingToRelease) | Fetch, Release |
 /// | 11 | [`NoRoom`](Refusal::NoRoom) | Release |
-/// | 11 | [`RingFull`](Refusal::RingFull) | Release of a weak job |
+/// | 11 | [`NoRoomForFirst`](Refusal::NoRoomForFirst), [`RingFull`](Refusal::RingFull) | Release of a weak job |
 /// | 12 | [`RecordFull`](Refusal::RecordFull) | none |
 /// | 13 | [`BadLayout`](Refusal::BadLayout), [`TextEnds`](Refusal::TextEnds) | reading |
 /// | 14 | [`NoDummies`](Refusal::NoDummies) | saving |
@@ -62,14 +66,34 @@ pub enum Refusal {
         /// Which one.
         limit: Limit,
     },
+    /// 2, by a preview: beyond its limits, and within the engine's, so that no [`Job`](crate::Job) is refused with 2 for it.
+    BeyondPreview {
+        /// Which of the preview's.
+        limit: Limit,
+    },
     /// 3: a task's part of a table has a bad start, or a task number that is no task's.
     BadPart {
         /// The smallest such task; of a lookup, the task asked for.
         task: TaskId,
+        /// What is wrong in it.
+        fault: Fault,
     },
     /// 3: each task's part is right by itself, but the first start isn't 0 or the last one isn't E. The detail is N.
     BadEnds {
         /// N.
+        tasks: usize,
+        /// What is wrong there.
+        fault: Fault,
+    },
+    /// 3: an edge leads from or to a task that isn't there. The detail is that of the tables with such an edge.
+    BadEdge {
+        /// Which of the edges, counted from 0.
+        place: usize,
+        /// The predecessor.
+        from: TaskId,
+        /// The task that waits for it.
+        to: TaskId,
+        /// How many tasks there are.
         tasks: usize,
     },
     /// 3, by a lookup: there is no such task.
@@ -129,6 +153,12 @@ pub enum Refusal {
         /// The task that would be placed.
         task: TaskId,
     },
+    /// 11, of a first copy in a weak job: all rings that the worker fills are full. The copy isn't lost: let a worker fetch,
+    /// then release again. Another worker's Release may fix the task meanwhile; then the copy is a later one.
+    NoRoomForFirst {
+        /// The task of the copy that would be placed.
+        task: TaskId,
+    },
     /// 11, of a later copy in a weak job: it goes only to the worker that its task is fixed to, and the ring of that worker
     /// which the releasing one fills is full. The copy isn't lost: let that worker fetch, then release again.
     RingFull {
@@ -148,6 +178,12 @@ pub enum Refusal {
     TextEnds {
         /// The line that isn't there, counted from 1.
         line: u32,
+        /// How many task lines its n asks for, n + 2; None where there is no n.
+        expected: Option<usize>,
+        /// How many there are.
+        found: usize,
+        /// The n with which the text would be whole, where its last line may be the last task's.
+        whole: Option<usize>,
     },
     /// 14: the tables lack a text's dummies, its first and its last task. Put a task without weight and predecessors
     /// first, and one without weight last.
@@ -231,8 +267,9 @@ impl Asked<'_> {
     fn refused(self, number: u32, detail: u32) -> Option<Refusal> {
         let refusal = match (number, self) {
             (1, _) => Refusal::WrongLength,
+            (2, _) if self.is_the_engine_s() => Refusal::BeyondPreview { limit: self.limit() },
             (2, _) => Refusal::BeyondLimit { limit: self.limit() },
-            (13, Asked::Text { text }) => layout_refused(text, detail),
+            (13, Asked::Text { text }) => text::layout_refused(text, detail),
             (_, Asked::Text { .. }) => return None,
             (14, Asked::Save { tables }) => Refusal::NoDummies { lack: Lack::of(tables) },
             (_, Asked::Check { tables } | Asked::Save { tables }) => graph_refused(tables, number, detail)?,
@@ -266,10 +303,30 @@ impl Asked<'_> {
         (refusal.detail() == detail).then_some(refusal)
     }
 
+    /// Whether a preview's job keeps the engine's limits.
+    fn is_the_engine_s(self) -> bool {
+        match self {
+            Asked::Begin {
+                whose: Whose::Preview,
+                tables,
+                workers,
+                slots,
+            }
+            | Asked::Step {
+                whose: Whose::Preview,
+                tables,
+                workers,
+                slots,
+                ..
+            } => Limit::of_job(tables, workers, slots, Whose::Engine).is_none(),
+            _ => false,
+        }
+    }
+
     /// Which limit this call goes beyond.
     fn limit(self) -> Limit {
         let found = match self {
-            Asked::Text { text } => Some(Limit::of_text(text)),
+            Asked::Text { text } => Some(text::limit(text)),
             Asked::Check { tables } | Asked::Save { tables } => {
                 Limit::of_sizes(tables, Whose::Engine).or_else(|| Limit::of_weights(tables))
             }
@@ -279,9 +336,7 @@ impl Asked<'_> {
                 tables,
                 workers,
                 slots,
-            } => Limit::of_sizes(tables, whose)
-                .or_else(|| Limit::of_numbers(workers, slots, whose))
-                .or_else(|| Limit::of_weights(tables)),
+            } => Limit::of_job(tables, workers, slots, whose),
             Asked::Step {
                 whose,
                 tables,
@@ -299,24 +354,19 @@ impl Asked<'_> {
     }
 }
 
-/// 13: "a text that ends too early breaks it at its count of lines plus 1".
-fn layout_refused(text: &[u8], line: u32) -> Refusal {
-    let ended = text.iter().filter(|&&mark| mark == b'\n').count();
-    let open = text.last().is_some_and(|&mark| mark != b'\n');
-    let lines = ended + usize::from(open);
-    match line as usize > lines {
-        true => Refusal::TextEnds { line },
-        false => Refusal::BadLayout { line },
-    }
-}
-
 /// 3, 4 and 5 by the check, by saving and by begin.
 fn graph_refused(tables: &Tables, number: u32, detail: u32) -> Option<Refusal> {
     let task = TaskId::new(detail);
     let tasks = detail as usize;
     Some(match number {
-        3 if tasks >= tables.weights.len() => Refusal::BadEnds { tasks },
-        3 => Refusal::BadPart { task },
+        3 if tasks >= tables.weights.len() => Refusal::BadEnds {
+            tasks,
+            fault: Fault::of_ends(tables),
+        },
+        3 => Refusal::BadPart {
+            task,
+            fault: Fault::of_part(tables, task),
+        },
         4 => Refusal::PredecessorTwice { task },
         5 => Refusal::Cycle {
             task,
@@ -333,11 +383,18 @@ fn lookup_refused(side: Side, tables: &Tables, begun: bool, detail: u32) -> Refu
     match side {
         _ if detail as usize >= tasks => Refusal::NoSuchTask { task, tasks },
         Side::Successors if !begun => Refusal::NoSuccessorsYet { task },
-        _ => Refusal::BadPart { task },
+        Side::Successors => Refusal::BadPart {
+            task,
+            fault: Fault::Unknown,
+        },
+        Side::Predecessors => Refusal::BadPart {
+            task,
+            fault: Fault::of_part(tables, task),
+        },
     }
 }
 
-/// 11 by a Release, which has left the task's fixed word as it was.
+/// 11 by a Release, which has left the task's fixed word as it was; a plain job has none.
 fn no_room(fixed: &[u32], workers: usize, detail: u32) -> Refusal {
     let task = TaskId::new(detail);
     match fixed.get(detail as usize) {
@@ -345,7 +402,8 @@ fn no_room(fixed: &[u32], workers: usize, detail: u32) -> Refusal {
             task,
             owner: WorkerId::new(owner),
         },
-        _ => Refusal::NoRoom { task },
+        Some(_) => Refusal::NoRoomForFirst { task },
+        None => Refusal::NoRoom { task },
     }
 }
 
@@ -374,9 +432,10 @@ impl Refusal {
         match *self {
             Refusal::UnexpectedReply { .. } => 0,
             Refusal::WrongLength => 1,
-            Refusal::BeyondLimit { .. } => 2,
+            Refusal::BeyondLimit { .. } | Refusal::BeyondPreview { .. } => 2,
             Refusal::BadPart { .. }
             | Refusal::BadEnds { .. }
+            | Refusal::BadEdge { .. }
             | Refusal::NoSuchTask { .. }
             | Refusal::NoSuccessorsYet { .. } => 3,
             Refusal::PredecessorTwice { .. } => 4,
@@ -386,7 +445,7 @@ impl Refusal {
             Refusal::NotBegun | Refusal::DamagedWord => 8,
             Refusal::WrongPhase { .. } => 9,
             Refusal::NothingToFetch | Refusal::NothingToRelease => 10,
-            Refusal::NoRoom { .. } | Refusal::RingFull { .. } => 11,
+            Refusal::NoRoom { .. } | Refusal::NoRoomForFirst { .. } | Refusal::RingFull { .. } => 11,
             Refusal::RecordFull => 12,
             Refusal::BadLayout { .. } | Refusal::TextEnds { .. } => 13,
             Refusal::NoDummies { .. } => 14,
@@ -401,6 +460,7 @@ impl Refusal {
             Refusal::UnexpectedReply { .. }
             | Refusal::WrongLength
             | Refusal::BeyondLimit { .. }
+            | Refusal::BeyondPreview { .. }
             | Refusal::NotBegun
             | Refusal::DamagedWord
             | Refusal::NothingToFetch
@@ -408,18 +468,21 @@ impl Refusal {
             | Refusal::RecordFull
             | Refusal::NoDummies { .. }
             | Refusal::BadWindow { .. } => 0,
-            Refusal::BadPart { task }
+            Refusal::BadPart { task, .. }
             | Refusal::NoSuchTask { task, .. }
             | Refusal::NoSuccessorsYet { task }
             | Refusal::PredecessorTwice { task }
             | Refusal::Cycle { task, .. }
             | Refusal::NoRoom { task }
+            | Refusal::NoRoomForFirst { task }
             | Refusal::RingFull { task, .. } => task.number(),
+            Refusal::BadEdge { to, tasks, .. } if (to.number() as usize) < tasks => to.number(),
+            Refusal::BadEdge { tasks, .. } => tasks as u32,
             // both come from a detail
-            Refusal::BadEnds { tasks: count } | Refusal::TooManyRoots { roots: count, .. } => count as u32,
+            Refusal::BadEnds { tasks: count, .. } | Refusal::TooManyRoots { roots: count, .. } => count as u32,
             Refusal::NoSuchWorker { worker, .. } => worker.number(),
             Refusal::WrongPhase { phase } => phase.number(),
-            Refusal::BadLayout { line } | Refusal::TextEnds { line } => line,
+            Refusal::BadLayout { line } | Refusal::TextEnds { line, .. } => line,
             Refusal::Unknown { detail, .. } => detail,
         }
     }
@@ -438,42 +501,59 @@ impl Refusal {
     pub const fn advice(&self) -> &'static str {
         match self {
             Refusal::NotBegun | Refusal::NoSuccessorsYet { .. } => "begin first.",
+            Refusal::BeyondLimit { limit } => limit.advice(),
+            Refusal::BeyondPreview { limit } => limit.preview_advice(),
+            Refusal::BadPart { fault, .. } | Refusal::BadEnds { fault, .. } => fault.advice(),
+            Refusal::BadEdge { .. } => "correct that edge, or add the task.",
+            Refusal::NoSuchTask { .. } => "choose another task.",
+            Refusal::NoRoom { .. } => {
+                "let a worker fetch, then release again. The refused worker can fetch itself, since a ring that it owns is \
+                 full. After at most P accepted Fetches of any one worker there is room. If it happens often, use a larger \
+                 K."
+            }
+            Refusal::NoRoomForFirst { .. } => {
+                "let a worker fetch, then release again. The refused worker can fetch itself, since a ring that it owns is \
+                 full. After at most P accepted Fetches of any one worker there is room; but once another worker's Release \
+                 has fixed the task, only of the worker that it is fixed to. If it happens often, use a larger K."
+            }
             Refusal::RingFull { .. } => {
                 "let the worker that the task is fixed to fetch, then release again. After at most P accepted Fetches of that \
                  worker there is room. If it happens often, use a larger K."
             }
+            Refusal::BadLayout { .. } => {
+                "look in that line for a wrong number of fields, a task number out of turn, a number of more than five \
+                 digits or over 65,535, a mark other than digits, spaces and tabs, a time at the first or last task, a \
+                 predecessor at task 0, or a line after the last task. Which task is the last one, n in the first line says."
+            }
+            Refusal::TextEnds { expected: None, .. } => "put n first, then a line for each of n + 2 tasks.",
+            Refusal::TextEnds { whole: Some(_), .. } => {
+                "correct n in the first line, or add the task lines that are missing."
+            }
+            Refusal::TextEnds { .. } => "add the task lines that are missing, or correct n in the first line.",
             _ => advice_on(self.number()),
         }
     }
 }
 
-/// The operator's line of a number's part of docs/REFUSALS.md.
+/// The operator's line of a number's part of docs/REFUSALS.md, where it needs no more than the number.
 const fn advice_on(number: u32) -> &'static str {
     match number {
-        2 => "choose another number of workers or slots; else the job is too large, and has to be split.",
-        3 => {
-            "look at the predecessors of that task in the text. The reader takes any number there; begin judges it."
-        }
         4 => "remove one of the two from that task; in a text, lower the count before them too.",
         5 => "find the way from that task through predecessors back to it. One of these edges is wrong.",
-        6 => "use more workers or more slots, or give some of the roots a common predecessor.",
+        6 => {
+            "use more workers or more slots, or give some of the roots a common predecessor. A preview has room for 32 \
+             roots at most, the engine for all."
+        }
         7 => "choose another worker.",
         9 => "take a step that suits, or choose another worker.",
         10 => {
             "after a refused Fetch try Release, after a refused Release try Fetch; if both are refused, go on with \
              another worker."
         }
-        11 => {
-            "let a worker fetch, then release again. The refused worker can fetch itself, since a ring that it owns is \
-             full. After at most P accepted Fetches of any one worker there is room. If it happens often, use a larger K."
-        }
-        13 => {
-            "look in that line for a wrong number of fields, a task number out of turn, a number of more than five \
-             digits or over 65,535, a mark other than digits, spaces and tabs, a time at the first or last task, a \
-             predecessor at task 0, or a line after the last task."
-        }
         14 => "put a task without weight and predecessors first, and one without weight last.",
-        15 => "choose a window of at least one entry and of no more than are recorded; complete a task first if none is.",
+        15 => {
+            "choose a window of at least one entry and of no more than are recorded; complete a task first if none is."
+        }
         // 1, 8 and 12 are faults of the host, as are numbers that the page doesn't have
         _ => "report it.",
     }
@@ -487,15 +567,18 @@ impl fmt::Display for Refusal {
                 to.write_str("a list has the wrong length: ")?;
                 to.write_str("there has to be one predecessor start more than there are weights")
             }
-            Refusal::BeyondLimit { limit } => limit.fmt(to),
-            Refusal::BadPart { task } => {
-                write!(
-                    to,
-                    "task {task} has a bad start or a bad task number in its part of a table"
-                )
-            }
-            Refusal::BadEnds { .. } => {
-                to.write_str("the first predecessor start isn't 0, or the last one isn't the number of predecessors")
+            Refusal::BeyondLimit { limit } | Refusal::BeyondPreview { limit } => limit.fmt(to),
+            Refusal::BadPart { task, fault } => bad_part(to, *task, fault),
+            Refusal::BadEnds { fault, .. } => bad_ends(to, fault),
+            Refusal::BadEdge {
+                place,
+                from,
+                to: task,
+                tasks,
+            } => {
+                let missing = if (task.number() as usize) < *tasks { from } else { task };
+                write!(to, "edge {place} leads from task {from} to task {task}: ")?;
+                write!(to, "task {missing} doesn't exist: there {}", counted(*tasks, "task"))
             }
             Refusal::NoSuchTask { task, tasks } => {
                 write!(to, "task {task} doesn't exist: there {}", counted(*tasks, "task"))
@@ -542,7 +625,9 @@ impl fmt::Display for Refusal {
             Refusal::NothingToRelease => {
                 to.write_str("nothing there to release: no completed task of the worker has a successor left")
             }
-            Refusal::NoRoom { task } => write!(to, "no room for task {task}: all rings that the worker fills are full"),
+            Refusal::NoRoom { task } | Refusal::NoRoomForFirst { task } => {
+                write!(to, "no room for task {task}: all rings that the worker fills are full")
+            }
             Refusal::RingFull { task, owner } => {
                 write!(to, "no room for a copy of task {task}: it is fixed to worker {owner}, ")?;
                 write!(to, "whose ring that the worker fills is full")
@@ -551,7 +636,9 @@ impl fmt::Display for Refusal {
                 to.write_str("the record is full: every task, or every copy of a weak job, is recorded already")
             }
             Refusal::BadLayout { line } => write!(to, "the text breaks the layout in line {line}"),
-            Refusal::TextEnds { line } => write!(to, "the text ends before line {line}"),
+            Refusal::TextEnds {
+                expected, found, whole, ..
+            } => text_ends(to, *expected, *found, *whole),
             Refusal::NoDummies { lack } => lack.fmt(to),
             Refusal::BadWindow { entries: 0 } => to.write_str("there is no load window: no task is recorded"),
             Refusal::BadWindow { entries } => {
@@ -577,6 +664,57 @@ impl fmt::Display for Refusal {
 }
 
 impl Error for Refusal {}
+
+/// A task's part of a table.
+fn bad_part(to: &mut fmt::Formatter<'_>, task: TaskId, fault: &Fault) -> fmt::Result {
+    match *fault {
+        Fault::Predecessor { number, tasks } => {
+            write!(to, "task {task} has predecessor {number}, which doesn't exist: ")?;
+            write!(to, "there {}", counted(tasks, "task"))
+        }
+        Fault::Starts { from, to: end, .. } if from > end => {
+            write!(to, "the starts of task {task} fall, from {from} to {end}")
+        }
+        Fault::Starts { to: end, edges, .. } => {
+            write!(to, "the starts of task {task} lead to place {end}, ")?;
+            write!(to, "and there {}", counted(edges, "predecessor"))
+        }
+        _ => write!(
+            to,
+            "task {task} has a bad start or a bad task number in its part of a table"
+        ),
+    }
+}
+
+/// The first and the last start.
+fn bad_ends(to: &mut fmt::Formatter<'_>, fault: &Fault) -> fmt::Result {
+    match *fault {
+        Fault::FirstStart { start } => write!(to, "the first predecessor start is {start}, and has to be 0"),
+        Fault::LastStart { start, edges, left } => {
+            write!(to, "predecessor {left} at place {start} belongs to no task: ")?;
+            write!(
+                to,
+                "the last start is {start}, and there {}",
+                counted(edges, "predecessor")
+            )
+        }
+        _ => to.write_str("the first predecessor start isn't 0, or the last one isn't the number of predecessors"),
+    }
+}
+
+/// How many task lines there have to be, and how many there are.
+fn text_ends(to: &mut fmt::Formatter<'_>, expected: Option<usize>, found: usize, whole: Option<usize>) -> fmt::Result {
+    let Some(expected) = expected else {
+        return to.write_str("the text ends too early: it has no n, which its first line has to be");
+    };
+    let n = expected.saturating_sub(2);
+    write!(
+        to,
+        "the text ends too early: n is {n}, so {expected} task lines have to follow, "
+    )?;
+    write!(to, "and there {}", counted(found, "task line"))?;
+    whole.map_or(Ok(()), |n| write!(to, "; with n {n} it would be whole"))
+}
 
 /// "is 1 task", "are 2 tasks".
 fn counted(count: usize, what: &str) -> String {

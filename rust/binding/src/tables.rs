@@ -57,7 +57,8 @@ impl Tables {
     /// that waits for it. The predecessors of a task keep the order of its edges.
     ///
     /// Nothing is judged here. An edge to a task that isn't there belongs to no task's part; it stands after the last
-    /// one, so that [`check`](Tables::check) and [`Job::begin`](crate::Job::begin) refuse the tables with 3.
+    /// one, so that [`check`](Tables::check) and [`Job::begin`](crate::Job::begin) refuse the tables with 3. Which task
+    /// it leads to the tables don't tell: [`try_from_edges`](Tables::try_from_edges) names the edge.
     ///
     /// ```
     /// use yolluvek::{Refusal, Tables};
@@ -67,8 +68,12 @@ impl Tables {
     /// let text = b"2\n0 0 0\n1 5 1 0\n2 3 1 0\n3 0 2 1 2\n";
     /// assert_eq!(tables, Tables::from_text(text)?);
     ///
-    /// let wrong = Tables::from_edges([0, 5], [(0, 2)]);
-    /// assert_eq!(wrong.check(), Err(Refusal::BadEnds { tasks: 2 }));
+    /// let refusal = Tables::from_edges([0, 5], [(0, 2)]).check().unwrap_err();
+    /// assert_eq!((refusal.number(), refusal.detail()), (3, 2));
+    /// assert_eq!(
+    ///     refusal.to_string(),
+    ///     "predecessor 0 at place 0 belongs to no task: the last start is 0, and there is 1 predecessor"
+    /// );
     /// # Ok::<(), Refusal>(())
     /// ```
     pub fn from_edges(
@@ -86,6 +91,50 @@ impl Tables {
             preds: edges.iter().map(|&(from, _)| from).collect(),
             weights,
         }
+    }
+
+    /// The tables of [`from_edges`](Tables::from_edges), [checked](Tables::check). An edge from or to a task that isn't
+    /// there is named.
+    ///
+    /// # Errors
+    ///
+    /// Refused as by the check; 3 is [`BadEdge`](Refusal::BadEdge) here.
+    ///
+    /// ```
+    /// use yolluvek::Tables;
+    ///
+    /// let refusal = Tables::try_from_edges([0, 5], [(0, 1), (1, 2)]).unwrap_err();
+    /// assert_eq!((refusal.number(), refusal.detail()), (3, 2));
+    /// assert_eq!(
+    ///     refusal.to_string(),
+    ///     "edge 1 leads from task 1 to task 2: task 2 doesn't exist: there are 2 tasks"
+    /// );
+    /// ```
+    pub fn try_from_edges(
+        weights: impl Into<Vec<u32>>,
+        edges: impl IntoIterator<Item = (impl Into<TaskId>, impl Into<TaskId>)>,
+    ) -> Result<Tables, Refusal> {
+        let edges = edges.into_iter().map(|(from, to)| (from.into(), to.into()));
+        let edges: Vec<(TaskId, TaskId)> = edges.collect();
+        let tables = Tables::from_edges(weights, edges.iter().copied());
+        let tasks = tables.weights.len();
+        let missing = |task: TaskId| task.number() as usize >= tasks;
+        let Err(refusal) = tables.check() else {
+            return Ok(tables);
+        };
+        // the first edge of the task in the detail, N for an edge that leads to no task
+        let at_fault = |&(_, (from, to)): &(usize, (TaskId, TaskId))| match refusal {
+            Refusal::BadPart { task, .. } => to == task && missing(from),
+            Refusal::BadEnds { .. } => missing(to),
+            _ => false,
+        };
+        let edge = edges.into_iter().enumerate().find(at_fault);
+        Err(edge.map_or(refusal, |(place, (from, to))| Refusal::BadEdge {
+            place,
+            from,
+            to,
+            tasks,
+        }))
     }
 
     /// Reads a text of the Standard Task Graph Set, without communication costs.

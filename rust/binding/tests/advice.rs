@@ -1,9 +1,9 @@
-//! What a refusal advises is what docs/REFUSALS.md advises an operator, under the same number.
+//! What a refusal advises is what docs/REFUSALS.md advises an operator, under the same number and in the same case.
 
 use engine_model::pages;
-use std::collections::BTreeMap;
-use yolluvek::limits::Limit;
-use yolluvek::{Lack, Phase, Refusal, TaskId, WorkerId};
+use std::collections::{BTreeMap, BTreeSet};
+use yolluvek::limits::{self, Limit};
+use yolluvek::{Fault, Job, Lack, Phase, Preview, Refusal, Tables, TaskId, WorkerId};
 
 /// The operator's line in each number's part of the page, broken lines joined.
 fn operator_lines() -> BTreeMap<u32, String> {
@@ -26,17 +26,23 @@ fn numbered_line(part: &str) -> (u32, String) {
     (number.parse().expect("a number"), lines.concat())
 }
 
-/// A refusal of every kind that has a number of the page, but those that say "begin first".
-fn refusals() -> Vec<Refusal> {
+/// The last cell of each row in a number's part of the page that says what to do in a case.
+fn cells(number: u32) -> Vec<String> {
+    let page = pages::refusals().stored().unwrap_or_else(|wrong| panic!("{wrong}"));
+    let heading = format!("{number}:");
+    let part = page.split("\n## ").find(|part| part.starts_with(&heading));
+    let tables = part.expect("the number's part").split("| to do |\n|---|---|\n").skip(1);
+    let rows = tables.flat_map(|table| table.lines().take_while(|line| line.starts_with('|')));
+    let last = rows.map(|row| row.trim_end_matches(" |").rsplit(" | ").next().map(String::from));
+    last.map(|cell| cell.expect("a cell")).collect()
+}
+
+/// A refusal of every kind whose advice needs no more than its number.
+fn by_number() -> Vec<Refusal> {
     let task = TaskId::new(1);
     vec![
         Refusal::WrongLength,
-        Refusal::BeyondLimit {
-            limit: Limit::Slots { slots: 1 },
-        },
-        Refusal::BadPart { task },
-        Refusal::BadEnds { tasks: 2 },
-        Refusal::NoSuchTask { task, tasks: 1 },
+        Refusal::BeyondLimit { limit: Limit::Unknown },
         Refusal::PredecessorTwice { task },
         Refusal::Cycle { task, path: vec![task] },
         Refusal::TooManyRoots { roots: 3, room: 2 },
@@ -48,10 +54,7 @@ fn refusals() -> Vec<Refusal> {
         Refusal::WrongPhase { phase: Phase::Idle },
         Refusal::NothingToFetch,
         Refusal::NothingToRelease,
-        Refusal::NoRoom { task },
         Refusal::RecordFull,
-        Refusal::BadLayout { line: 3 },
-        Refusal::TextEnds { line: 3 },
         Refusal::NoDummies {
             lack: Lack::Tasks { tasks: 1 },
         },
@@ -59,37 +62,187 @@ fn refusals() -> Vec<Refusal> {
     ]
 }
 
+/// Every limit that a preview has for itself.
+fn preview_limits() -> [Limit; 4] {
+    [
+        Limit::PreviewTasks { tasks: 129 },
+        Limit::PreviewEdges { edges: 513 },
+        Limit::PreviewWorkers { workers: 5 },
+        Limit::PreviewSlots { slots: 9 },
+    ]
+}
+
+/// A refusal of every kind whose advice depends on more, in the order of the page's tables.
+fn by_case() -> Vec<Refusal> {
+    let (task, number) = (TaskId::new(1), TaskId::new(2));
+    let (tasks, start, edges) = (2, 1, 3);
+    let limits = [
+        Limit::Tasks { tasks: 1_025 },
+        Limit::Edges { edges: 8_193 },
+        Limit::TextTasks { tasks: 1_025 },
+        Limit::TextEdges { line: 9 },
+        Limit::Workers { workers: 17 },
+        Limit::Slots { slots: 65 },
+        Limit::Weight { task, weight: 65_536 },
+        Limit::Text { bytes: 65_537 },
+    ];
+    let mut all: Vec<Refusal> = limits.map(|limit| Refusal::BeyondLimit { limit }).into();
+    all.extend(preview_limits().map(|limit| Refusal::BeyondPreview { limit }));
+    all.extend(preview_limits().map(|limit| Refusal::BeyondLimit { limit }));
+    all.extend([
+        Refusal::BadPart {
+            task,
+            fault: Fault::Predecessor { number, tasks },
+        },
+        Refusal::BadEdge {
+            place: 0,
+            from: task,
+            to: number,
+            tasks,
+        },
+        Refusal::BadEnds {
+            tasks,
+            fault: Fault::LastStart {
+                start,
+                edges,
+                left: task,
+            },
+        },
+        Refusal::BadPart {
+            task,
+            fault: Fault::Starts { from: 2, to: 1, edges },
+        },
+        Refusal::BadEnds {
+            tasks,
+            fault: Fault::FirstStart { start },
+        },
+        Refusal::NoSuchTask { task, tasks: 1 },
+        Refusal::NoSuccessorsYet { task },
+        Refusal::NoRoom { task },
+        Refusal::NoRoomForFirst { task },
+        Refusal::RingFull {
+            task,
+            owner: WorkerId::new(0),
+        },
+    ]);
+    all.extend(
+        [(Some(4), Some(0)), (Some(4), None), (None, None)].map(|(expected, whole)| Refusal::TextEnds {
+            line: 4,
+            expected,
+            found: 2,
+            whole,
+        }),
+    );
+    all
+}
+
 #[test]
 fn the_page_s_words() {
     let lines = operator_lines();
-    let mut numbers: Vec<u32> = Vec::new();
-    for refusal in refusals() {
-        let number = refusal.number();
-        assert_eq!(Some(refusal.advice()), lines.get(&number).map(String::as_str));
-        numbers.push(number);
+    for refusal in by_number() {
+        assert_eq!(Some(refusal.advice()), lines.get(&refusal.number()).map(String::as_str));
     }
-    numbers.dedup();
-    assert_eq!(numbers, (1..=15).collect::<Vec<u32>>());
+    let numbers: BTreeSet<u32> = by_number().iter().chain(&by_case()).map(Refusal::number).collect();
+    assert_eq!(numbers, (1..=15).collect());
     assert_eq!(lines.len(), 15);
+    // the operator's line goes on with what to do where there is no such line
+    let layout = Refusal::BadLayout { line: 3 };
+    let told = lines[&13].strip_prefix(layout.advice());
+    assert!(told.is_some_and(|rest| rest.starts_with(" If there is no such line, ")));
 }
 
-/// A later copy of a weak job has words of its own, which stand in the part on 11 below the operator's line.
+/// What depends on more than the number stands in the tables of its part, each cell for a refusal, in that order.
 #[test]
-fn a_full_ring_s_words() {
-    let page = pages::refusals().stored().unwrap_or_else(|wrong| panic!("{wrong}"));
-    let part = page
-        .split("\n## ")
-        .find(|part| part.starts_with("11:"))
-        .expect("the part on 11");
-    let words = part.split_whitespace().collect::<Vec<_>>().join(" ");
-    let full = Refusal::RingFull {
-        task: TaskId::new(1),
-        owner: WorkerId::new(0),
+fn the_page_s_cases() {
+    for number in [2, 3, 11, 13] {
+        let refusals = by_case();
+        let of_number = refusals.iter().filter(|refusal| refusal.number() == number);
+        let mut advised: Vec<&str> = of_number.map(Refusal::advice).collect();
+        advised.dedup();
+        assert_eq!(advised, cells(number), "{number}");
+    }
+}
+
+/// The numbers that an advice names are the limits.
+#[test]
+fn the_numbers_are_the_limits() {
+    let advice = |limit: Limit| Refusal::BeyondLimit { limit }.advice();
+    let [workers, slots] = [Limit::Workers { workers: 0 }, Limit::Slots { slots: 0 }].map(advice);
+    assert_eq!(workers, format!("choose from 1 to {} workers.", limits::MAX_WORKERS));
+    assert_eq!(
+        slots,
+        format!("choose from {} to {} slots.", limits::MIN_SLOTS, limits::MAX_SLOTS)
+    );
+    let [_, _, workers, slots] = preview_limits().map(advice);
+    let most = limits::PREVIEW_MAX_WORKERS;
+    assert!(workers.starts_with(&format!("choose from 1 to {most} workers.")));
+    let (least, most) = (limits::MIN_SLOTS, limits::PREVIEW_MAX_SLOTS);
+    assert!(slots.starts_with(&format!("choose from {least} to {most} slots.")));
+    let room = limits::PREVIEW_MAX_WORKERS * limits::PREVIEW_MAX_SLOTS;
+    let roots = Refusal::TooManyRoots { roots: 40, room }.advice();
+    assert!(roots.contains(&format!(
+        "A preview has room for {room} roots at most, the engine for all."
+    )));
+    assert!(limits::MAX_WORKERS * limits::MAX_SLOTS >= limits::MAX_TASKS);
+}
+
+/// What is beyond is what the advice speaks of: no workers and slots where a weight, N, E or the text is.
+#[test]
+fn advice_by_what_is_beyond() {
+    let chain = |tasks: u32| Tables::from_edges(vec![1; tasks as usize], (1..tasks).map(|task| (task - 1, task)));
+    let begun = |tables: Tables, workers, slots| Job::from_tables(tables, workers, slots).begin().unwrap_err();
+    let large = "the job is too large, and has to be split.";
+    assert_eq!(begun(chain(1_025), 2, 4).advice(), large);
+    let edges = Tables {
+        preds: vec![TaskId::new(0); 8_193],
+        ..chain(2)
     };
-    assert_eq!(full.number(), 11);
-    let (_, weak) = words.split_once("In a weak job").expect("what is said of weak jobs");
-    assert!(weak.contains(full.advice()), "{weak}");
-    assert!(!weak.contains("lane"), "the page says worker");
+    assert_eq!(begun(edges, 2, 4).advice(), large);
+    assert_eq!(Tables::from_text(b"1023\n").unwrap_err().advice(), large);
+    assert_eq!(begun(chain(2), 17, 4).advice(), "choose from 1 to 16 workers.");
+    assert_eq!(begun(chain(2), 2, 65).advice(), "choose from 2 to 64 slots.");
+    let heavy = begun(Tables::from_edges([1, 65_536], [(0, 1)]), 2, 4);
+    assert!(heavy.to_string().contains("the weight of task 1, 65536,"));
+    assert_eq!(heavy.advice(), "weigh all tasks in a larger unit, or split that task.");
+    let long = [b"0\n0 0 0\n1 0 0\n".as_slice(), &[b' '; 65_536]].concat();
+    assert!(Tables::from_text(&long)
+        .unwrap_err()
+        .advice()
+        .starts_with("leave out comments"));
+    // without these any job that keeps the limits has a text that does
+    const { assert!(limits::MAX_WRITTEN <= limits::MAX_TEXT) };
+}
+
+/// Of a preview's job, that it keeps the engine's limits is said exactly where a job's begin isn't refused with 2.
+#[test]
+fn a_preview_that_the_engine_takes() {
+    let mut said = [0; 2];
+    for tasks in [4, 128, 129, 1_024, 1_025] {
+        for (workers, slots, weight) in triples(&[0, 1, 4, 5, 16, 17], &[1, 2, 8, 9, 64, 65], &[1, 65_536]) {
+            let tables = Tables::from_edges(vec![weight; tasks as usize], (1..tasks).map(|task| (task - 1, task)));
+            let by_job = Job::from_tables(tables.clone(), workers, slots).begin();
+            let Err(refusal) = Preview::from_tables(tables, workers, slots).begin() else {
+                continue;
+            };
+            let taken = by_job.map_or_else(|refusal| refusal.number() != 2, |()| true);
+            assert_eq!(matches!(refusal, Refusal::BeyondPreview { .. }), taken);
+            assert_eq!(
+                refusal.advice().contains("by the engine, whose limits it keeps"),
+                taken,
+                "{refusal}"
+            );
+            said[usize::from(taken)] += 1;
+        }
+    }
+    assert!(said.iter().all(|&count| count > 20), "{said:?}");
+}
+
+/// All triples.
+fn triples(workers: &[usize], slots: &[usize], weights: &[u32]) -> Vec<(usize, usize, u32)> {
+    let pairs = workers.iter().flat_map(|&p| slots.iter().map(move |&k| (p, k)));
+    pairs
+        .flat_map(|(p, k)| weights.iter().map(move |&weight| (p, k, weight)))
+        .collect()
 }
 
 /// Before begin there is something better to do than to report it.

@@ -137,7 +137,17 @@ fn assert_end(text: &[u8], found: &Result<Tables, Refusal>) {
     let further = if open { 1 } else { 2 };
     let expected = match found {
         _ if longer.len() > MAX_TEXT => return,
-        Err(Refusal::TextEnds { line }) => Err(Refusal::TextEnds { line: line + further }),
+        Err(Refusal::TextEnds {
+            line,
+            expected,
+            found,
+            whole,
+        }) => Err(Refusal::TextEnds {
+            line: line + further,
+            expected: *expected,
+            found: *found,
+            whole: *whole,
+        }),
         found => found.clone(),
     };
     assert_eq!(Tables::from_text(&longer), expected);

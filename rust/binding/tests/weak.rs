@@ -69,7 +69,8 @@ impl Pair {
         let found = self.job.step(binding_step(step), WorkerId::new(worker));
         match &found {
             Err(Refusal::RingFull { task, owner }) => assert_eq!(before.fixed(*task), Some(*owner)),
-            Err(Refusal::NoRoom { task }) => assert_eq!(before.fixed(*task), None),
+            Err(Refusal::NoRoomForFirst { task }) => assert_eq!(before.fixed(*task), None),
+            Err(Refusal::NoRoom { task }) => panic!("task {task} is a plain job's"),
             Ok(yolluvek::Outcome::Released(Placed { copy, owner })) => {
                 assert_eq!(self.job.fixed(copy.task), Some(*owner));
                 let next = before.next_release(WorkerId::new(worker));
@@ -247,7 +248,7 @@ fn a_later_copy_finds_its_ring_full() -> Result<(), Refusal> {
     work(&mut job)?;
     job.release(worker)?;
     job.release(worker)?;
-    let no_room = Refusal::NoRoom { task: TaskId::new(3) };
+    let no_room = Refusal::NoRoomForFirst { task: TaskId::new(3) };
     assert_eq!(job.release(worker), Err(no_room));
     work(&mut job)?;
     job.release(worker)?;
@@ -269,5 +270,49 @@ fn a_later_copy_finds_its_ring_full() -> Result<(), Refusal> {
         let _ = job.release(worker);
     }
     assert_eq!((job.load(worker), job.is_finished()), (Some(0), true));
+    Ok(())
+}
+
+/// Worker 0's fifth Release finds no room for the first copy of task 6. Worker 1 makes P accepted Fetches, and its Release
+/// fixes task 6 to worker 0: the refused copy is a later one now, and only worker 0 makes room for it.
+#[test]
+fn a_first_copy_becomes_a_later_one() -> Result<(), Refusal> {
+    let edges = [(0, 2), (0, 3), (0, 4), (0, 5), (0, 6), (1, 6)];
+    let mut job = WeakJob::from_tables(yolluvek::Tables::from_edges([0; 7], edges), 2, 2);
+    job.begin()?;
+    let [zero, one] = [0, 1].map(WorkerId::new);
+    let task = TaskId::new(6);
+    let work = |job: &mut WeakJob, worker| -> Result<String, Refusal> {
+        let copy = job.fetch(worker)?;
+        job.start(worker)?;
+        job.complete(worker)?;
+        Ok(copy.to_string())
+    };
+    work(&mut job, zero)?;
+    for _ in 2..6 {
+        job.release(zero)?;
+    }
+    let first = job.release(zero).unwrap_err();
+    assert_eq!(first, Refusal::NoRoomForFirst { task });
+    assert_eq!((first.number(), first.detail()), (11, 6));
+
+    let fetched = [work(&mut job, one)?, work(&mut job, one)?];
+    assert_eq!(fetched, ["4·0", "1"]);
+    assert_eq!(job.release(one)?.owner, zero);
+    let later = job.release(zero).unwrap_err();
+    assert_eq!(later, Refusal::RingFull { task, owner: zero });
+    // worker 1 has made P accepted Fetches since the first refusal, which the advice doesn't take to suffice
+    let said = "After at most P accepted Fetches of any one worker there is room; but once another worker's Release has fixed \
+                the task, only of the worker that it is fixed to.";
+    assert!(first.advice().contains(said), "{}", first.advice());
+    assert!(!later.advice().contains("any one worker"));
+
+    // what is left for worker 1 doesn't help, and worker 0 makes room within P accepted Fetches of its own
+    assert_eq!(work(&mut job, one)?, "5·0");
+    assert!(job.fetch(one).is_err() && job.release(zero).is_err());
+    assert_eq!(work(&mut job, zero)?, "6·1");
+    assert!(job.release(zero).is_err());
+    assert_eq!(work(&mut job, zero)?, "2·0");
+    assert_eq!(job.release(zero)?.owner, zero);
     Ok(())
 }
