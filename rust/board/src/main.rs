@@ -7,7 +7,7 @@ use std::fs::{self, File};
 use std::io::{self, Read, Write};
 use std::path::Path;
 use std::process::ExitCode;
-use yolluvek::limits::MAX_TEXT;
+use yolluvek::limits::{Limit, MAX_TEXT};
 use yolluvek::{Engine, JobOf, Refusal, WeakEngine};
 use yolluvek_board::board::Board;
 use yolluvek_board::kind::Kind;
@@ -100,5 +100,20 @@ fn text_of(file: &str) -> Result<Vec<u8>, String> {
 
 fn told(file: &str, refusal: &Refusal) -> String {
     let (number, detail, advice) = (refusal.number(), refusal.detail(), refusal.advice());
-    format!("{file}: refused {number}, detail {detail}: {refusal}. To do: {advice}")
+    let meaning = match refusal {
+        Refusal::BeyondLimit {
+            limit: Limit::Text { .. },
+        } => too_long(file),
+        _ => refusal.to_string(),
+    };
+    format!("{file}: refused {number}, detail {detail}: {meaning}. To do: {advice}")
+}
+
+/// A text that is too long was handed over cut; how long it is the file knows, if it is one.
+fn too_long(file: &str) -> String {
+    let length = fs::metadata(file).ok().filter(fs::Metadata::is_file);
+    match length.and_then(|known| usize::try_from(known.len()).ok()) {
+        Some(bytes) => Limit::Text { bytes }.to_string(),
+        None => format!("a text of more than {MAX_TEXT} bytes is beyond the limit"),
+    }
 }

@@ -51,10 +51,40 @@ fn refused_texts() {
     let short = scratch("short.stg", "2\n0 0 0\n");
     assert!(line(&[&short, "2", "4"]).starts_with(&format!("{short}: refused 13, detail 3: ")));
     assert!(line(&[DIAMOND, "17", "4"]).contains(": refused 2, detail 0: "));
-    assert!(line(&["/dev/zero", "2", "4"]).contains(": refused 2, detail 0: "));
     assert!(line(&["strips.stg", "6", "2"]).contains(": refused 6, detail 13: "));
     let cycle = scratch("cycle.stg", "1\n0 0 0\n1 5 1 2\n2 0 1 1\n");
     assert!(line(&[&cycle, "2", "4"]).contains(": refused 5, detail 1: "));
+}
+
+/// How long a file is that is too long; of what isn't a file only that it is.
+#[test]
+fn too_long_texts() {
+    let to_do =
+        "To do: leave out comments, blank lines, spare spaces and zeros. If it is too long without them, the job is \
+                 too large, and has to be split.";
+    let long = scratch("long.stg", &"# a comment\n".repeat(12_685)[..152_214]);
+    let told = line(&[&long, "2", "4"]);
+    let meaning = "a text of 152214 bytes is beyond the limit: at most 65536";
+    assert_eq!(told, format!("{long}: refused 2, detail 0: {meaning}. {to_do}"));
+    let told = line(&["/dev/zero", "2", "4"]);
+    let meaning = "a text of more than 65536 bytes is beyond the limit";
+    assert_eq!(told, format!("/dev/zero: refused 2, detail 0: {meaning}. {to_do}"));
+}
+
+/// What to do is about what is wrong: a number of workers, a wrong n, a predecessor by its number.
+#[test]
+fn what_to_do() {
+    assert!(line(&[DIAMOND, "17", "4"]).ends_with(". To do: choose from 1 to 16 workers."));
+    assert!(line(&[DIAMOND, "2", "1"]).ends_with(". To do: choose from 2 to 64 slots."));
+    let large = scratch("large.stg", "1023\n");
+    assert!(line(&[&large, "2", "4"]).ends_with(". To do: the job is too large, and has to be split."));
+    let wrong = scratch("wrong.stg", "4\n0 0 0\n1 5 1 0\n2 3 1 0\n3 0 2 1 2\n");
+    let told = line(&[&wrong, "2", "4"]);
+    assert!(told.contains(": refused 13, detail 6: the text ends too early: n is 4, so 6 task lines have to follow, "));
+    assert!(told.contains("there are 4 task lines; with n 2 it would be whole. To do: correct n in the first line"));
+    let stray = scratch("stray.stg", "1\n0 0 0\n1 5 1 7\n2 0 1 1\n");
+    let told = line(&[&stray, "2", "4"]);
+    assert!(told.contains(": refused 3, detail 1: task 1 has predecessor 7, which doesn't exist: there are 3 tasks. "));
 }
 
 #[test]
