@@ -503,6 +503,24 @@ static inline const char *yolluvek_weak_advice(uint32_t number, uint32_t fixed)
            "worker there is room. If it happens often, use a larger K.";
 }
 
+/*
+ * Where begin is refused with 3 and a task as the detail: the word of its first predecessor that is no task, whose number
+ * stands there. NULL where there is no such word: the starts are bad, or the detail is N.
+ */
+static inline const uint32_t *yolluvek_job_bad_predecessor(const yolluvek_job *job, uint32_t detail)
+{
+    uint32_t place;
+    if (detail >= job->n || job->pred_starts[detail + 1] > job->e) {
+        return NULL;
+    }
+    for (place = job->pred_starts[detail]; place < job->pred_starts[detail + 1]; place++) {
+        if (job->preds[place] >= job->n) {
+            return job->preds + place;
+        }
+    }
+    return NULL;
+}
+
 /* Where the line that begins here ends: at its LF, or at the end of the text. */
 static inline const char *yolluvek_line_end(const char *line, const char *end)
 {

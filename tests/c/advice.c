@@ -1,6 +1,6 @@
 /*
- * What is advised beside what the library answers: a 2 by what is beyond, and texts that end too early, with the task
- * lines that there have to be and are.
+ * What is advised beside what the library answers: a 2 by what is beyond, a 3 by the predecessor's number, and texts that
+ * end too early, with the task lines that there have to be and are.
  */
 #include "check.h"
 #include "yolluvek_job.h"
@@ -40,6 +40,29 @@ static void limits(void)
     CHECK(yolluvek_job_begin(&job).number == YOLLUVEK_ACCEPTED);
 }
 
+/* The first predecessor that is no task, by its number and its place; bad starts have none. */
+static void bad_predecessors(void)
+{
+    static uint32_t block[YOLLUVEK_WORDS(2, 2, 1, 4)];
+    static const uint32_t weights[] = {1, 1}, starts[] = {0, 1, 2}, preds[] = {1, 65535};
+    yolluvek_job job;
+    yolluvek_reply reply;
+    CHECK(yolluvek_job_make(&job, block, sizeof block / sizeof *block, 2, 2, 1, 4).number == YOLLUVEK_ACCEPTED);
+    memcpy(job.weights, weights, sizeof weights);
+    memcpy(job.pred_starts, starts, sizeof starts);
+    memcpy(job.preds, preds, sizeof preds);
+    reply = yolluvek_job_begin(&job);
+    CHECK(reply.number == YOLLUVEK_BAD_TABLE && reply.detail == 1);
+    CHECK(yolluvek_job_bad_predecessor(&job, reply.detail) == job.preds + 1);
+    CHECK(yolluvek_job_bad_predecessor(&job, 0) == NULL && yolluvek_job_bad_predecessor(&job, 2) == NULL);
+    job.pred_starts[2] = 3;
+    reply = yolluvek_job_begin(&job);
+    CHECK(reply.number == YOLLUVEK_BAD_TABLE && reply.detail == 1);
+    CHECK(yolluvek_job_bad_predecessor(&job, reply.detail) == NULL);
+    job.pred_starts[2] = 0;
+    CHECK(yolluvek_job_begin(&job).detail == 1 && yolluvek_job_bad_predecessor(&job, 1) == NULL);
+}
+
 /* A text that ends too early. */
 static void early(const char *text, size_t expected, size_t found, int other, const char *words)
 {
@@ -77,6 +100,7 @@ static void texts(void)
 int main(void)
 {
     limits();
+    bad_predecessors();
     texts();
     return failures == 0 ? EXIT_SUCCESS : EXIT_FAILURE;
 }

@@ -92,7 +92,37 @@ fn read(text: &[u8]) -> Result<Tables, Refusal> {
         _ => panic!("{found:?}, where the model has {expected:?}"),
     }
     assert_end(text, &found);
+    if let Err(Refusal::TextEnds {
+        expected: Some(expected),
+        found,
+        whole,
+        ..
+    }) = found
+    {
+        assert_lines(text, expected, found, whole);
+    }
     found
+}
+
+/// With the task lines that are missing the text is read; with the n that is named too, and else with no other.
+fn assert_lines(text: &[u8], expected: usize, found: usize, whole: Option<usize>) {
+    let open = text.last().is_some_and(|&mark| mark != b'\n');
+    let missing: String = (found..expected).map(|task| format!("{task} 0 0\n")).collect();
+    let longer = [text, if open { b"\n" } else { b"" }, missing.as_bytes()].concat();
+    if longer.len() <= MAX_TEXT {
+        let tables = Tables::from_text(&longer).expect("it is whole");
+        assert_eq!(tables.weights.len(), expected);
+    }
+    for n in 0..expected - 2 {
+        let mut lines: Vec<Vec<u8>> = text.split(|&mark| mark == b'\n').map(<[u8]>::to_vec).collect();
+        let first = lines.iter_mut().find(|line| {
+            let mark = line.iter().find(|mark| !b" \t\r".contains(mark));
+            mark.is_some_and(|&mark| mark != b'#')
+        });
+        *first.expect("the line with n") = n.to_string().into_bytes();
+        let read = Tables::from_text(&lines.join(&b'\n')).is_ok();
+        assert_eq!(read, whole == Some(n), "{n}");
+    }
 }
 
 /// The answer is the model's; what is saved is what the model saves, and is read back to the same tables.

@@ -2,6 +2,7 @@
 
 use engine_model::draw::Draw;
 use engine_model::model::Graph;
+use engine_model::pages::{self, Page};
 use engine_model::runs::graphs;
 use yolluvek::{Caller, Engine, JobOf, Outcome, Planner, Refusal, Step, Tables, TaskId, WeakEngine, WorkerId};
 
@@ -66,9 +67,20 @@ fn met<C: Caller>() -> Met {
     met
 }
 
+/// The page says so, wherever its lines break.
+fn assert_told(page: &Page, sentence: &str) {
+    let page = page.stored().unwrap_or_else(|wrong| panic!("{wrong}"));
+    let words: Vec<&str> = page.split_whitespace().collect();
+    assert!(words.join(" ").contains(sentence), "{sentence}");
+}
+
 /// "After at most P accepted Fetches of any one worker there is room."
 #[test]
 fn of_tasks() {
+    let told =
+        "Room comes when an owner fetches from one of these rings, which any one worker has done after at most P \
+                accepted Fetches.";
+    assert_told(&pages::rule(), told);
     for met in [met::<Engine>(), met::<Planner>()] {
         assert!(met.firsts > 100 && met.laters == 0, "{met:?}");
     }
@@ -77,6 +89,10 @@ fn of_tasks() {
 /// "[…] but once another worker's Release has fixed the task, only of the worker that it is fixed to."
 #[test]
 fn of_copies() {
+    let told = "Room comes after at most P accepted Fetches of the fixed worker; those of others don't help.";
+    assert_told(&pages::rule(), told);
+    let told = "then the refused copy is a later one, and room in other rings doesn't help any more.";
+    assert_told(&pages::rule(), told);
     let met = met::<WeakEngine>();
     assert!(met.firsts > 100 && met.laters > 100, "{met:?}");
 }

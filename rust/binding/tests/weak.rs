@@ -7,6 +7,7 @@ use drawn::{binding_step, damage, model_pair, pair, tables_of};
 use engine_model::draw::Draw;
 use engine_model::memory::{Lists, Step, ACCEPTED, COUNT, END_WORDS, ENTRIES, HEAD, NIL, TAIL};
 use engine_model::model::Graph;
+use engine_model::pages;
 use engine_model::runs::graphs;
 use engine_model::weak::{
     self, Copied, Memory, Outcome, ENTRY_WORDS, HELD_PRED, HELD_TASK, PHASE, POINTER, READ, ROOTS, ROW_WORDS, WRITE,
@@ -314,5 +315,11 @@ fn a_first_copy_becomes_a_later_one() -> Result<(), Refusal> {
     assert!(job.release(zero).is_err());
     assert_eq!(work(&mut job, zero)?, "2·0");
     assert_eq!(job.release(zero)?.owner, zero);
+
+    let page = pages::refusals().stored().unwrap_or_else(|wrong| panic!("{wrong}"));
+    let told =
+        "With P 2, K 2, no weights and the edges 0→2, 0→3, 0→4, 0→5, 0→6 and 1→6 the fifth Release of worker 0 is \
+                refused, with detail 6;";
+    assert!(page.split_whitespace().collect::<Vec<_>>().join(" ").contains(told));
     Ok(())
 }
