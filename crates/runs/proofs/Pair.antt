@@ -11,7 +11,7 @@ use Rattle.lists.specs.Sums.{sumTo, sumToZ, sumOf}
 use Rattle.lists.specs.Circles.{after, around}
 use Rattle.task.specs.Types.{engine, preview, capped}
 use Rattle.task.specs.Phases.{nextPhase}
-use Rattle.task.specs.Refusals.{Said, refused, accepted, taskFetched, taskPlaced, answerSays}
+use Rattle.task.specs.Refusals.{refused, accepted, taskFetched, taskPlaced, answerSays}
 use Rattle.task.specs.declared.Step.{Step}
 use Rattle.task.specs.declared.Step.the-variants.{Fetch, Start, Complete, Release}
 use Rattle.graph.specs.Graph.{part, Edge}
@@ -34,7 +34,8 @@ use Rattle.rules.specs.Plans.{counted, carriedOut}
 use Rattle.rules.specs.Steps.{scan, fetchTask, fetchFrom, fetchRule, startRule, completeSink, completeInner, completeRule, advanced, findRoom, releaseTo, releaseReady, releaseWaiting, releaseRule, ruleOf, stepPlan, step}
 use Rattle.rules.specs.Begin.{cleared, rootsLaid, begun, rootsAnswer, beginAnswer, begin}
 use Rattle.rules.proofs.Examples.{lent, beginSays}
-use Rattle.runs.specs.Calls.{Call, stepCall, beginCall, says, leaves, plain, Event, begunMemory, Run, memoryOf, eventsOf, viewOf}
+use Rattle.views.proofs.Answers.{answersIn}
+use Rattle.runs.specs.Calls.{Call, stepCall, beginCall, says, leaves, plain, begunMemory, Run, memoryOf, eventsOf, viewOf}
 use Rattle.runs.specs.Demand.{acceptedOf, acceptedSteps, Finished, orderOf, OneGraph}
 use Rattle.runs.proofs.Demand.{demand-3}
 
@@ -87,11 +88,6 @@ oneWorker =
           runsOne 1 4 0 ++ (stepCall engine 1 4 0 Release ∷ stepCall engine 1 4 0 Release ∷ stepCall engine 1 4 0 Release ∷ []) ++ runsOne 1 4 0 ++ runsOne 1 4 0
           ++ runsOne 1 4 0;
     }
-
--- what the calls were answered, the latest first
-unfoldable pub answersIn : List Event → List Said
-answersIn [] = []
-answersIn (e ∷ es) = e .said ∷ answersIn es
 
 record Pair : Type 0 where
   finished : Finished (viewOf threeWorkers) × Finished (viewOf oneWorker)

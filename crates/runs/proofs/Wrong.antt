@@ -7,17 +7,16 @@ use mathlib.Core.Bool.{cond}
 use mathlib.Core.List.{List, [], _∷_, _++_}
 use native.Mathlib.Omega.{arith}
 use native.Mathlib.Decide.{ℕ-discrete, decLe, decLt}
-use lib.ListN.{getD, drop, replicate, getD-replicate}
+use lib.ListN.{drop, replicate}
 use lib.Dec.{ltb, eqb}
 use Rattle.lists.specs.Decided.{firstBelow}
 use Rattle.lists.specs.Lists.{occ, occOf, placeOf, joined, tabulate, allOf}
 use Rattle.lists.specs.Sums.{sumTo, sumToZ}
 use Rattle.lists.specs.Circles.{after, around}
-use Rattle.lists.proofs.Blocks.{getD-tabulate}
 use Rattle.lists.proofs.Decided.{tally-yes}
 use Rattle.task.specs.Types.{engine, preview, capped}
 use Rattle.task.specs.Phases.{nextPhase, stepNumber}
-use Rattle.task.specs.Refusals.{Said, refused, accepted, wrongPhase, ringsFull, answerSays, stepSays}
+use Rattle.task.specs.Refusals.{Said, accepted, wrongPhase, ringsFull, answerSays, stepSays}
 use Rattle.task.specs.Rows.{Acceptance}
 use Rattle.task.specs.declared.Answer.{Answer}
 use Rattle.task.specs.declared.Answer.the-variants.{Refused, Accepted}
@@ -52,7 +51,8 @@ use Rattle.rules.specs.Plans.{Plan, refuse, accept, counted, Result, carriedOut
 use Rattle.rules.specs.Steps.{scan, fetchTask, fetchFrom, fetchRule, startRule, completeSink, completeInner, completeRule, advanced, advance, findRoom, releaseTo, releaseReady, releaseWaiting, releaseRule, ruleOf, stepPlan, step}
 use Rattle.rules.specs.Begin.{cleared, rootsLaid, rootsPlaced, begun, rootsAnswer, beginAnswer, begin}
 use Rattle.rules.proofs.Examples.{lent, Call, by, single, twoRoots, fork}
-use Rattle.runs.specs.Calls.{stepCall, beginCall, lookupCall, isStep, says, leaves, kindOf, plain, Event, Run, memoryOf, eventsOf, viewOf}
+use Rattle.views.proofs.Answers.{stepsAmong, fourAnswers, fourRefusals, none-accepted}
+use Rattle.runs.specs.Calls.{stepCall, beginCall, lookupCall, says, leaves, kindOf, plain, Event, Run, memoryOf, eventsOf, viewOf}
 use Rattle.runs.specs.Calls as calls
 use Rattle.runs.specs.Demand.{acceptedOf, acceptedSteps, acceptedCompletes, Finished, taskWord, workerWord, orderOf, AllowedOrder, OneRun, Agree, Demand3}
 use Rattle.runs.proofs.Demand.{order-agreed, demand-3}
@@ -202,26 +202,13 @@ order-joins g order r r′ b b′ same f f′ =
 
 -- How a run contradicts it.
 
--- a worker's Fetch, Start, Complete and Release are refused with these numbers
-abbrev fourRefusals : ℕ → ℕ → ℕ → ℕ → List Said
-fourRefusals fetch start complete release = refused fetch 0 ∷ refused start 0 ∷ refused complete 0 ∷ refused release 0 ∷ []
-
-abbrev nextAnswers : Program → Trial → ℕ → List Said
-nextAnswers g r i =
-    nextAnswer g (r .limits) r i Fetch ∷ nextAnswer g (r .limits) r i Start ∷ nextAnswer g (r .limits) r i Complete ∷ nextAnswer g (r .limits) r i Release ∷ []
-
--- how many of the calls are steps
-unfoldable stepsAmong : List calls.Call → ℕ
-stepsAmong [] = 0
-stepsAmong (c ∷ cs) = cond (isStep c) (suc (stepsAmong cs)) (stepsAmong cs)
-
 -- all steps of the run are accepted, it isn't finished, and no worker has a step with begin's limits that would be accepted next: each worker's steps
 -- are refused with these numbers. They are 10, 9, 9 and 10 for an idle worker with nothing in its rings and its buffer.
 record Stuck (g : Program) (r : Trial) (fetch start complete release : ℕ) : Type 0 where
   begins : BeginAccepted g r
   taken : acceptedSteps (eventsIn g r) ≡ stepsAmong (r .calls)
   unfinished : acceptedCompletes (eventsIn g r) < tasks (r .memory)
-  refusals : tabulate (r .workers) (nextAnswers g r) ≡ replicate (r .workers) (fourRefusals fetch start complete release)
+  refusals : tabulate (r .workers) (fourAnswers (nextAnswer g (r .limits) r)) ≡ replicate (r .workers) (fourRefusals fetch start complete release)
 
 -- why a list of tasks is no order that the graph allows: a task is missing, or stands before a predecessor
 data Fault (m : Mem) (l : List ℕ) : Type 0 where
@@ -236,29 +223,10 @@ record Disordered (g : Program) (r : Trial) (l : List ℕ) : Type 0 where
   order : orderIn g r ≡ l
   fault : Fault (r .memory) l
 
-no-acceptance : {a : Said} {n d : ℕ} → a ≡ refused n d → ¬ (Acceptance a)
-no-acceptance e x = rw e at x
-
 stuck-fails : {g : Program} {r : Trial} {fetch start complete release : ℕ} → Stuck g r fetch start complete release → ¬ (Keeps g)
 stuck-fails {g = g} {r = r} {fetch = fetch} {start = start} {complete = complete} {release = release} stuck keeps =
-    go (keeps .one r (stuck .begins) .next (λ f. absurd (omega (arith, f, stuck .unfinished))))
-  where
-    four : List Said
-    four = fourRefusals fetch start complete release
-
-    answers : (i : ℕ) → i < r .workers → nextAnswers g r i ≡ four
-    answers i h =
-        sym (getD-tabulate (r .workers) (nextAnswers g r) [] i h) ∙ ap (λ (l : List (List Said)). getD l i []) (stuck .refusals)
-        ∙ getD-replicate (r .workers) i four [] h
-
-    at : (n i : ℕ) → i < r .workers → getD (nextAnswers g r i) n accepted ≡ getD four n accepted
-    at n i h = ap (λ (l : List Said). getD l n accepted) (answers i h)
-
-    go : ¬ ((i : ℕ) × (s : Step) × (i < r .workers) × Acceptance (nextAnswer g (r .limits) r i s))
-    go (i, Fetch, h, a) = no-acceptance (at 0 i h) a
-    go (i, Start, h, a) = no-acceptance (at 1 i h) a
-    go (i, Complete, h, a) = no-acceptance (at 2 i h) a
-    go (i, Release, h, a) = no-acceptance (at 3 i h) a
+    none-accepted (r .workers) (nextAnswer g (r .limits) r) fetch start complete release (stuck .refusals)
+    (keeps .one r (stuck .begins) .next (λ f. absurd (omega (arith, f, stuck .unfinished))))
 
 fault-forbids : (m : Mem) (l : List ℕ) → Fault m l → ¬ (AllowedOrder m l)
 fault-forbids m l (missing t h zero-times) allowed = absurd (omega (arith, zero-times, allowed .once t, tally-yes (decLt t (tasks m)) h))
