@@ -81,10 +81,10 @@ module _ (r : Run) where
   accepted-next n limits within = some-step (honest-under r limits within) (ranges-run r) (unfinished-free n)
 
 -- of the graph that begin was lent
-lent-sound : (r : Run) → Sound (graphOf (viewOf r))
+pub lent-sound : (r : Run) → Sound (graphOf (viewOf r))
 lent-sound r = rw (graph-reached r) at (run-sound r)
 
-lent-once : (r : Run) → NoneTwice (graphOf (viewOf r))
+pub lent-once : (r : Run) → NoneTwice (graphOf (viewOf r))
 lent-once r = subst NoneTwice (graph-reached r) (run-once r)
 
 -- what one graph allows the same graph in other tables allows
