@@ -1,21 +1,20 @@
--- Weak runs, computed: the weak diamond by the desk's turns and by one worker, what demand 3's `two` says of these two, and an unfinished run in which a
--- Release is refused with 11 while another worker may go on.
+-- Weak runs, computed: the weak diamond by the desk's turns, and an unfinished run in which a Release is refused with 11 while another worker may go on.
 use Prim.Native.Nat.{ℕ}
 use mathlib.Core.Path.{_≡_, refl}
-use mathlib.Core.List.{List, [], _∷_, _++_}
+use mathlib.Core.List.{[], _∷_}
 use native.Mathlib.Omega.{arith}
 use native.Mathlib.Decide.{ℕ-discrete, decLe, decLt}
 use lib.ListN.{replicate}
 use Rattle.lists.specs.Decided.{firstBelow}
-use Rattle.lists.specs.Lists.{occOf, placeOf, joined, tabulate, allOf}
-use Rattle.lists.specs.Sums.{sumTo, sumToZ, sumOf}
+use Rattle.lists.specs.Lists.{occOf, joined, tabulate, allOf}
+use Rattle.lists.specs.Sums.{sumTo, sumToZ}
 use Rattle.lists.specs.Circles.{after, around}
 use Rattle.task.specs.Types.{engine, capped}
 use Rattle.task.specs.Phases.{nextPhase}
 use Rattle.task.specs.Refusals.{refused, accepted}
 use Rattle.task.specs.declared.Step.{Step}
 use Rattle.task.specs.declared.Step.the-variants.{Fetch, Start, Complete, Release}
-use Rattle.weak_task.specs.Types.{Copy, copy}
+use Rattle.weak_task.specs.Types.{copy}
 use Rattle.weak_task.specs.Says.{copyFetched}
 use Rattle.graph.specs.Graph.{part}
 use Rattle.graph.specs.Check.{sizesFit, firstBad, firstTwice, firstOnCycle, tablesAnswer, checkAnswer}
@@ -24,31 +23,23 @@ use Rattle.graph.specs.Successors.{succsBelow, succStart, succStarts, succWords
 use Rattle.ring.specs.Ring.{capacity, slotAt, endsAt, storeEnds, sound, empty, full, headOn, tailOn}
 use Rattle.choice.specs.Least.{load, leastFrom, least}
 use Rattle.choice.specs.Search.{search}
-use Rattle.exchange.specs.Exchange.{Chain}
-use Rattle.exchange.specs.Pairs.{differently, pairsDiffering}
-use Rattle.copies.specs.Copies.{sameCopy, nextCopies, isCopy, Before, rootCopies, allCopies}
 use Rattle.machine.specs.Machine as machine
 use Rattle.memory.specs.Shape.{allFit}
 use Rattle.memory.specs.Updates.{storeWords, updated, written}
 use Rattle.plans.specs.Sizes.{numbersFit, othersFit, lengthsFit}
 use Rattle.plans.specs.Laying.{rootsLaid}
-use Rattle.weak_rules.specs.Memory.{Mem, graphIn, allSteps, allEntries}
+use Rattle.weak_rules.specs.Memory.{allSteps, allEntries}
 use Rattle.weak_rules.specs.Words.{countersFit}
 use Rattle.weak_rules.specs.Plans.{counted, carriedOut}
 use Rattle.weak_rules.specs.Steps.{scan, fetchCopy, fetchFrom, fetchRule, startRule, completeCopy, completeSink, completeInner, completeLast, completeRule, advanced, findRoom, releaseTo, releaseFirst, releaseLater, releaseRule, ruleOf, stepPlan, step}
 use Rattle.weak_rules.specs.Begin.{weakDegrees, cleared, begun, rootsAnswer, beginAnswer, begin}
-use Rattle.weak_rules.proofs.Examples.{lent, beginSays, diamond, crowded}
+use Rattle.weak_rules.proofs.Examples.{beginSays, diamond, crowded}
 use Rattle.weak_runs.specs.Calls.{Call, stepCall, acceptedSteps, Run, memoryOf, eventsOf, viewOf}
-use Rattle.weak_runs.specs.Demand.{Finished, orderOf, OneGraph, nextSays}
-use Rattle.weak_runs.proofs.Demand.{demand-3}
+use Rattle.weak_runs.specs.Demand.{Finished, orderOf, nextSays}
 
--- the diamond for one worker
-abbrev pub alone : Mem
-alone = lent 1 4 (0 ∷ 5 ∷ 3 ∷ 0 ∷ []) (0 ∷ 0 ∷ 1 ∷ 2 ∷ 4 ∷ []) (0 ∷ 0 ∷ 1 ∷ 2 ∷ [])
-
-pub begins : (beginSays 2 4 diamond ≡ accepted) × (beginSays 1 4 alone ≡ accepted) × (beginSays 2 2 crowded ≡ accepted)
+pub begins : (beginSays 2 4 diamond ≡ accepted) × (beginSays 2 2 crowded ≡ accepted)
 unfolding ℕ-discrete decLe decLt firstBelow occOf joined tabulate allOf sumTo after around capped nextPhase part sizesFit firstBad firstTwice firstOnCycle tablesAnswer checkAnswer below? among? light? good? bad? endsFit? twice? twiceIn? find-twice edge? thru? path? leads? onCycle? succsBelow succStart succStarts succWords roots capacity slotAt endsAt storeEnds sound empty full headOn tailOn sumToZ load leastFrom least search allSteps allEntries numbersFit allFit othersFit lengthsFit countersFit storeWords updated written counted carriedOut scan fetchCopy fetchFrom fetchRule startRule completeCopy completeSink completeInner completeLast completeRule advanced findRoom releaseTo releaseFirst releaseLater releaseRule ruleOf stepPlan step weakDegrees rootsLaid cleared begun rootsAnswer beginAnswer begin
-begins = (refl, refl, refl)
+begins = (refl, refl)
 
 -- the desk's turns: the steps that were accepted in them, and worker 1's first Fetch, when its rings are empty
 abbrev by : ℕ → Step → Call
@@ -68,24 +59,6 @@ deskTurns =
           ∷ by 0 Complete ∷ [];
     }
 
--- one worker, which releases what it can before it fetches
-abbrev runsOne : List Call
-runsOne = stepCall engine 1 4 0 Fetch ∷ stepCall engine 1 4 0 Start ∷ stepCall engine 1 4 0 Complete ∷ []
-
-abbrev releases : Call
-releases = stepCall engine 1 4 0 Release
-
-abbrev pub oneWorker : Run
-oneWorker =
-    record {
-      limits = engine;
-      workers = 1;
-      slots = 4;
-      lent = alone;
-      accepts = begins .1;
-      calls = runsOne ++ (releases ∷ releases ∷ []) ++ runsOne ++ (releases ∷ []) ++ runsOne ++ (releases ∷ []) ++ runsOne ++ runsOne;
-    }
-
 -- the second copy of task 4 finds the ring of its worker full
 abbrev crowd : ℕ → Step → Call
 crowd = stepCall engine 2 2
@@ -97,58 +70,34 @@ crowdedRun =
       workers = 2;
       slots = 2;
       lent = crowded;
-      accepts = begins .2;
+      accepts = begins .1;
       calls =
           crowd 0 Fetch ∷ crowd 0 Start ∷ crowd 0 Complete ∷ crowd 0 Release ∷ crowd 1 Fetch ∷ crowd 1 Start ∷ crowd 1 Complete ∷ crowd 1 Release
           ∷ crowd 1 Release ∷ [];
     }
 
-abbrev pub deskOrder : List Copy
-deskOrder = copy 0 65535 ∷ copy 2 0 ∷ copy 1 0 ∷ copy 3 2 ∷ copy 3 1 ∷ []
-
-abbrev pub risingOrder : List Copy
-risingOrder = copy 0 65535 ∷ copy 1 0 ∷ copy 2 0 ∷ copy 3 1 ∷ copy 3 2 ∷ []
-
 pub record Examples : Type 0 where
-  pub finished : Finished (viewOf deskTurns) × Finished (viewOf oneWorker)
-  pub agree : OneGraph (viewOf deskTurns) (viewOf oneWorker)
+  pub finished : Finished (viewOf deskTurns)
   -- "4E + 3R accepted steps", "E + R copies used", nine words of the record unused
-  pub steps : (acceptedSteps (eventsOf deskTurns) ≡ 19) × (acceptedSteps (eventsOf oneWorker) ≡ 19)
-  pub counted : (memoryOf deskTurns .run ≡ 5 ∷ 19 ∷ 1 ∷ []) × (memoryOf oneWorker .run ≡ 5 ∷ 19 ∷ 1 ∷ [])
+  pub steps : acceptedSteps (eventsOf deskTurns) ≡ 19
+  pub counted : memoryOf deskTurns .run ≡ 5 ∷ 19 ∷ 1 ∷ []
   pub recorded : memoryOf deskTurns .executed ≡ 0 ∷ 65535 ∷ 0 ∷ 2 ∷ 0 ∷ 1 ∷ 1 ∷ 0 ∷ 0 ∷ 3 ∷ 2 ∷ 0 ∷ 3 ∷ 1 ∷ 0 ∷ replicate 9 0
-  pub recordedAlone : memoryOf oneWorker .executed ≡ 0 ∷ 65535 ∷ 0 ∷ 1 ∷ 0 ∷ 0 ∷ 2 ∷ 0 ∷ 0 ∷ 3 ∷ 1 ∷ 0 ∷ 3 ∷ 2 ∷ 0 ∷ replicate 9 0
-  pub orders : (orderOf (viewOf deskTurns) ≡ deskOrder) × (orderOf (viewOf oneWorker) ≡ risingOrder)
-  -- the copies of tasks 1 and 2, and the two copies of task 3: "copies of one task may pass each other"
-  pub differing : pairsDiffering sameCopy (allCopies (graphIn diamond)) deskOrder risingOrder ≡ 2
+  pub order : orderOf (viewOf deskTurns) ≡ copy 0 65535 ∷ copy 2 0 ∷ copy 1 0 ∷ copy 3 2 ∷ copy 3 1 ∷ []
   -- an unfinished run: worker 1's Release is refused with 11, and worker 0 may fetch
   pub unfinished : ¬ (Finished (viewOf crowdedRun))
   pub full : nextSays engine (viewOf crowdedRun) 1 Release ≡ refused 11 4
   pub goesOn : nextSays engine (viewOf crowdedRun) 0 Fetch ≡ copyFetched (copy 2 1)
 
 pub examples : Examples
-unfolding ℕ-discrete decLe decLt firstBelow occOf joined tabulate allOf sumTo after around capped nextPhase part sizesFit firstBad firstTwice firstOnCycle tablesAnswer checkAnswer below? among? light? good? bad? endsFit? twice? twiceIn? find-twice edge? thru? path? leads? onCycle? succsBelow succStart succStarts succWords roots capacity slotAt endsAt storeEnds sound empty full headOn tailOn sumToZ load leastFrom least search allSteps allEntries numbersFit allFit othersFit lengthsFit countersFit storeWords updated written counted carriedOut scan fetchCopy fetchFrom fetchRule startRule completeCopy completeSink completeInner completeLast completeRule advanced findRoom releaseTo releaseFirst releaseLater releaseRule ruleOf stepPlan step weakDegrees rootsLaid cleared begun rootsAnswer beginAnswer begin machine.began machine.memoryAfter machine.recalled machine.eventsAfter machine.acceptedOf orderOf placeOf sumOf sameCopy nextCopies rootCopies allCopies differently pairsDiffering
+unfolding ℕ-discrete decLe decLt firstBelow occOf joined tabulate allOf sumTo after around capped nextPhase part sizesFit firstBad firstTwice firstOnCycle tablesAnswer checkAnswer below? among? light? good? bad? endsFit? twice? twiceIn? find-twice edge? thru? path? leads? onCycle? succsBelow succStart succStarts succWords roots capacity slotAt endsAt storeEnds sound empty full headOn tailOn sumToZ load leastFrom least search allSteps allEntries numbersFit allFit othersFit lengthsFit countersFit storeWords updated written counted carriedOut scan fetchCopy fetchFrom fetchRule startRule completeCopy completeSink completeInner completeLast completeRule advanced findRoom releaseTo releaseFirst releaseLater releaseRule ruleOf stepPlan step weakDegrees rootsLaid cleared begun rootsAnswer beginAnswer begin machine.began machine.memoryAfter machine.recalled machine.eventsAfter machine.acceptedOf orderOf
 examples =
     record {
-      finished = (record { completes = omega arith }, record { completes = omega arith });
-      agree = record { sameTasks = refl; sameEdges = λ u t. (λ e. e, λ e. e) };
-      steps = (refl, refl);
-      counted = (refl, refl);
+      finished = record { completes = omega arith };
+      steps = refl;
+      counted = refl;
       recorded = refl;
-      recordedAlone = refl;
-      orders = (refl, refl);
-      differing = refl;
+      order = refl;
       unfinished = λ f. omega (arith, f .completes);
       full = refl;
       goesOn = refl;
     }
-
--- two exchanges of neighbours that the graph doesn't order lead from one record's order to the other's, every list on the way being allowed
-pub two-exchanges : Chain sameCopy (isCopy (graphIn diamond)) (Before (graphIn diamond)) deskOrder risingOrder 2
-two-exchanges =
-    as-computed (examples .orders .0) (examples .orders .1) (examples .differing)
-    (demand-3 .two deskTurns oneWorker (examples .agree) (examples .finished .0) (examples .finished .1) .chain)
-  where
-    as-computed : {a b k l : List Copy} {n : ℕ} → a ≡ k → b ≡ l → pairsDiffering sameCopy (allCopies (graphIn diamond)) k l ≡ n
-        → Chain sameCopy (isCopy (graphIn diamond)) (Before (graphIn diamond)) a b (pairsDiffering sameCopy (allCopies (graphIn diamond)) a b)
-        → Chain sameCopy (isCopy (graphIn diamond)) (Before (graphIn diamond)) k l n
-    as-computed e q d c = rw (← d, ← e, ← q) c

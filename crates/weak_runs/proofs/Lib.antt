@@ -29,6 +29,7 @@ pub mod Corollaries
 pub mod Hosted
 pub mod Links
 pub mod Examples
+pub mod Pair
 pub mod Wrong
 pub mod Guards
 pub mod OnePlace
