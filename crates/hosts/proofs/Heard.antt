@@ -1,8 +1,9 @@
 -- A reply is heard as what was said, where no refusal has the number 0.
-use Prim.Native.Nat.{ℕ}
+use Prim.Native.Nat.{ℕ, _≤_}
 use mathlib.Core.Path.{_≡_, refl}
+use native.Mathlib.Omega.{arith}
 use borrow.Author.Tests.{ne-eqb}
-use Rattle.task.specs.Refusals.{accepted, answerSays, stepSays, numberOf}
+use Rattle.task.specs.Refusals.{refused, accepted, answerSays, stepSays, numberOf}
 use Rattle.task.specs.Rows.{Acceptance}
 use Rattle.task.specs.declared.Answer.{Answer}
 use Rattle.task.specs.declared.Answer.the-variants as answer
@@ -11,6 +12,7 @@ use Rattle.task.specs.declared.StepAnswer.the-variants.{Refused, Accepted}
 use Rattle.task.specs.declared.StepOutcome.the-variants.{Moved, Fetched, Released}
 use Rattle.task.specs.declared.ReleaseOutcome.the-variants.{DegreeLeft, Placed}
 use Rattle.replies.specs.declared.Reply.{Reply}
+use Rattle.replies.specs.declared.StepReply.{StepReply}
 use Rattle.replies.specs.Replies.{replyOf, stepReplyOf}
 use Rattle.hosts.specs.Heard.{heard, outcomeHeard, stepHeard}
 
@@ -18,6 +20,15 @@ use Rattle.hosts.specs.Heard.{heard, outcomeHeard, stepHeard}
 pub heard-zero : (r : Reply) → _≡_ {A = ℕ} (r .number) 0 → heard r ≡ accepted
 unfolding heard
 heard-zero r e = rw e refl
+
+-- and every other a refusal
+pub heard-refused : (r : Reply) → 1 ≤ r .number → heard r ≡ refused (r .number) (r .detail)
+unfolding heard
+heard-refused r h = rw (ne-eqb (r .number) 0 (λ e. omega (arith, h, e))) refl
+
+pub step-heard-refused : (r : StepReply) → 1 ≤ r .number → stepHeard r ≡ refused (r .number) (r .detail)
+unfolding stepHeard
+step-heard-refused r h = rw (ne-eqb (r .number) 0 (λ e. omega (arith, h, e))) refl
 
 pub heard-said : (a : Answer) → (numberOf (answerSays a) ≡ 0 → Acceptance (answerSays a)) → heard (replyOf a) ≡ answerSays a
 unfolding heard

@@ -1,25 +1,26 @@
 -- PROMISE: a family's exported calls, one after the other from an accepted begin on, are a run, where the contract of each is its link in what a host
 -- sees: its words are those that the calls left, and its events the calls with their replies.
-use Prim.Native.Nat.{ℕ, zero, suc}
+use Prim.Native.Nat.{ℕ, zero, suc, _≤_}
 use mathlib.Core.Path.{_≡_, refl, sym, ap, _∙_}
 use mathlib.Core.List.{List, [], _∷_}
 use native.Mathlib.Omega.{arith}
 use lib.ListN.{length, take}
 use lib.Seq.{take-all}
-use Rattle.task.specs.Refusals.{Said, accepted}
+use Rattle.task.specs.Refusals.{Said, refused, accepted}
 use Rattle.task.specs.declared.Limits.{Limits}
 use Rattle.task.specs.declared.Side.{Side}
 use Rattle.task.specs.declared.Step.{Step}
 use Rattle.machine.specs.Machine.{Machine}
 use Rattle.machine.specs.Runs.{Run, memoryOf, eventsOf}
-use Rattle.machine.specs.Jobs.{Call, stepCall, beginCall, lookupCall}
+use Rattle.machine.specs.Jobs.{Call, stepCall, beginCall, lookupCall, Engine, machineOf}
 use Rattle.machine.specs.Seen.{Seen, seenAs, callsMade, lastLeft, Link, Chained, eventsSeen}
 use Rattle.machine.specs.Hosted.{Hosting, begin-accepts}
+use Rattle.machine.proofs.Jobs.{Laws}
 use Rattle.machine.proofs.Hosted.{hosted}
 use Rattle.replies.specs.declared.Reply.{Reply}
 use Rattle.hosts.specs.Heard.{heard}
-use Rattle.hosts.specs.Made.{Export, stepMade, beginMade, lookupMade, readingMade, Made, wordsMade, heardOf, heardAll, Exports, Exporting}
-use Rattle.hosts.proofs.Heard.{heard-zero}
+use Rattle.hosts.specs.Made.{Export, stepMade, beginMade, lookupMade, readingMade, Refuses, Made, wordsMade, heardOf, heardAll, Exports, Exporting}
+use Rattle.hosts.proofs.Heard.{heard-zero, heard-refused}
 
 -- each contract is a link
 pub record Linked {M R : Type 0} (on : Machine M Call) (stepHeard : R → Said) (Contract : M → Export R → M → Type 0) : Type 0 where
@@ -30,6 +31,20 @@ pub record Linked {M R : Type 0} (on : Machine M Call) (stepHeard : R → Said) 
   pub lookup : (side : Side) (t : ℕ) (r : Reply) (m m′ : M) → Contract m (lookupMade side t r) m′
       → Link on m (seenAs (lookupCall side t) (heard r) m′)
   pub reading : (m m′ : M) → Contract m readingMade m′ → m′ ≡ m
+
+-- a refused call leaves the words, where the rules' calls do: "all lent memory keeps its words"
+module _ {M R : Type 0} {on : Engine M} {Fit : ℕ → ℕ → M → Type 0} (laws : Laws on Fit) (stepHeard : R → Said) (Contract : M → Export R → M → Type 0)
+    (linked : Linked (machineOf on) stepHeard Contract) (number detail : R → ℕ)
+    (hears : (r : R) → 1 ≤ number r → stepHeard r ≡ refused (number r) (detail r)) where
+  pub refused-made : (m m′ : M) (c : Export R) → Contract m c m′ → Refuses number c → m′ ≡ m
+  refused-made m m′ (stepMade limits p k i s r) contract h =
+      let link = linked .step limits p k i s r m m′ contract in
+      link .written ∙ laws .refusedStep limits p k i s m (number r) (detail r) (sym (link .answered) ∙ hears r h)
+  refused-made m m′ (beginMade limits p k r) contract h =
+      let link = linked .begin limits p k r m m′ contract in
+      link .written ∙ laws .refusedBegin limits p k m (r .number) (r .detail) (sym (link .answered) ∙ heard-refused r h)
+  refused-made m m′ (lookupMade side t r) contract h = linked .lookup side t r m m′ contract .written
+  refused-made m m′ readingMade contract h = linked .reading m m′ contract
 
 module _ {M R : Type 0} (on : Machine M Call) (stepHeard : R → Said) (Contract : M → Export R → M → Type 0) (linked : Linked on stepHeard Contract) where
   -- one call more, in front of a chain

@@ -1,3 +1,4 @@
 pub mod Heard
 pub mod Made
 pub mod Exports
+pub mod Lists

@@ -1,5 +1,5 @@
 -- A family's exported calls, one after the other: each with its reply and the words that it left, and with what its contract says of these.
-use Prim.Native.Nat.{ℕ}
+use Prim.Native.Nat.{ℕ, _≤_}
 use mathlib.Core.Path.{_≡_}
 use mathlib.Core.List.{List, [], _∷_}
 use Rattle.task.specs.Refusals.{Said}
@@ -19,11 +19,19 @@ pub data Export (R : Type 0) : Type 0 where
   beginMade : Limits → (p k : ℕ) → Reply → Export R
   -- `yolluvek_judge_lookup`
   lookupMade : Side → (task : ℕ) → Reply → Export R
-  -- A call that is lent the run's lists shared: `yolluvek_lookup`, which hands out a part's place and count, `yolluvek_check_graph`, or
-  -- `yolluvek_write_text`, whose buffer is none of them. It leaves all words, and its answer is no part of the run's events. Calls that write such
-  -- lists otherwise, as `yolluvek_link_graph` and the reader do, are none of a run's: "meanwhile no other call, the reader included, changes a word of
-  -- them".
+  -- A call that is lent the run's lists shared: `yolluvek_lookup`, which hands out a part's place and count, `yolluvek_check_graph`,
+  -- `yolluvek_write_text`, whose buffer is none of them, or `yolluvek_windows`, whose result words are none of them. It leaves all words, and its answer
+  -- is no part of the run's events. Calls that write such lists otherwise, as `yolluvek_link_graph` and the reader do, are none of a run's: "meanwhile
+  -- no other call, the reader included, changes a word of them".
   readingMade : Export R
+
+-- The call was refused: its reply has a number of 1 or more. One that is lent the lists shared leaves them whatever it answers.
+module _ {R : Type 0} (number : R → ℕ) where
+  abbrev pub Refuses : Export R → Type 0
+  Refuses (stepMade limits p k i s r) = 1 ≤ number r
+  Refuses (beginMade limits p k r) = 1 ≤ r .number
+  Refuses (lookupMade side t r) = 1 ≤ r .number
+  Refuses readingMade = Unit {0}
 
 -- the call, and the words of the run's lists after it
 pub record Made (M R : Type 0) : Type 0 where

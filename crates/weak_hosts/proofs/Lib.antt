@@ -1,3 +1,4 @@
 pub mod Heard
 pub mod Exported
 pub mod Exports
+pub mod Untouched

@@ -27,6 +27,10 @@ Contract m (lookupMade side t r) m′ =
     (r ≡ replyOf (judgeAnswer side (lentOf (m .weights) (m .predStarts) (m .preds) (m .succStarts) (m .succs)) t)) × (m′ ≡ m)
 Contract m readingMade m′ = m′ ≡ m
 
+-- the call's reply has a number of 1 or more
+abbrev pub Refuses : Export → Type 0
+Refuses = made.Refuses (λ (r : WeakReply). r .number)
+
 -- exported calls from an accepted begin on
 abbrev pub Exporting : Type 0
 Exporting = made.Exporting Contract

@@ -1,2 +1,3 @@
 pub mod Heard
 pub mod Exports
+pub mod Lists
