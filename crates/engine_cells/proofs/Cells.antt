@@ -1,17 +1,15 @@
 -- PROMISE: what a contract says of rows it says of their cells, which are the lent words: a refused call leaves every word of every cell, and for each
 -- call and input one content of the cells is permitted. A cell has six words, as the type of the lent list says.
 use Prim.Native.Nat.{ℕ}
-use mathlib.Core.Path.{_≡_, refl, sym, ap, _∙_}
+use mathlib.Core.Path.{_≡_, sym, ap, _∙_}
 use mathlib.Core.List.{List}
-use Rattle.lists.proofs.Apart.{unequal}
 use Rattle.task.specs.Refusals.{answerSays, stepSays}
 use Rattle.task.specs.declared.Answer.{Answer}
 use Rattle.task.specs.declared.Answer.the-variants as answer
 use Rattle.task.specs.declared.Limits.{Limits}
 use Rattle.task.specs.declared.Step.{Step}
 use Rattle.task.specs.declared.StepAnswer.{StepAnswer}
-use Rattle.task.specs.declared.StepAnswer.the-variants.{Refused, Accepted}
-use Rattle.task.specs.declared.StepOutcome.{StepOutcome}
+use Rattle.task.specs.declared.StepAnswer.the-variants.{Refused}
 use Rattle.rules.specs.Memory.{Mem}
 use Rattle.rules.specs.Begin.{begin}
 use Rattle.rules.specs.Plans.{Result, resultOf}
@@ -26,35 +24,19 @@ module _ (m m′ : Mem) (cells cells′ : List (List ℕ)) (rows : m .rows ≡ r
   same-cells : m′ ≡ m → (m′ ≡ m) × (cells′ ≡ cells)
   same-cells e = (e, rows-words cells′ cells six′ six (sym rows′ ∙ ap (λ (x : Mem). x .rows) e ∙ rows))
 
-  -- "all lent memory keeps its words": of a step, in whatever form its answer is handed out, if the reply is that of no accepted answer
-  pub replied-step-cells : {R : Type 0} (reply : StepAnswer → R) (limits : Limits) (p k i : ℕ) (s : Step) (r : R)
-      → resultOf r m′ ≡ resultOf (reply (step limits p k i s m .answer)) (step limits p k i s m .memory)
-      → ((o : StepOutcome) → ¬ (r ≡ reply (Accepted o))) → (m′ ≡ m) × (cells′ ≡ cells)
-  replied-step-cells {R = R} reply limits p k i s r contract refuses =
-      same-cells (ap (λ (x : Result R). x .memory) contract ∙ go (step limits p k i s m .answer) refl)
-    where
-      go : (a : StepAnswer) → step limits p k i s m .answer ≡ a → step limits p k i s m .memory ≡ m
-      go (Refused n d) e = refused-step limits p k i s m n d (ap stepSays e)
-      go (Accepted o) e = absurd (refuses o (ap (λ (x : Result R). x .answer) contract ∙ ap reply e))
-
-  -- and of begin
-  pub replied-begin-cells : {R : Type 0} (reply : Answer → R) (limits : Limits) (p k : ℕ) (r : R)
-      → resultOf r m′ ≡ resultOf (reply (begin limits p k m .answer)) (begin limits p k m .memory)
-      → ¬ (r ≡ reply answer.Accepted) → (m′ ≡ m) × (cells′ ≡ cells)
-  replied-begin-cells {R = R} reply limits p k r contract refuses =
-      same-cells (ap (λ (x : Result R). x .memory) contract ∙ go (begin limits p k m .answer) refl)
-    where
-      go : (a : Answer) → begin limits p k m .answer ≡ a → begin limits p k m .memory ≡ m
-      go (answer.Refused n d) e = refused-begin limits p k m n d (ap answerSays e)
-      go answer.Accepted e = absurd (refuses (ap (λ (x : Result R). x .answer) contract ∙ ap reply e))
-
-  -- the contracts here, which hand out the answer itself
+  -- "all lent memory keeps its words": the contracts here, which hand out the answer itself; of the exports `untouched` (`crates/hosts/proofs/Untouched.antt`)
   pub refused-step-cells : (limits : Limits) (p k i : ℕ) (s : Step) (n d : ℕ) → resultOf (Refused n d) m′ ≡ step limits p k i s m
       → (m′ ≡ m) × (cells′ ≡ cells)
-  refused-step-cells limits p k i s n d contract = replied-step-cells (λ a. a) limits p k i s (Refused n d) contract (λ o e. unequal cc)
+  refused-step-cells limits p k i s n d contract =
+      same-cells
+      (ap (λ (r : Result StepAnswer). r .memory) contract
+      ∙ refused-step limits p k i s m n d (ap (λ (r : Result StepAnswer). stepSays (r .answer)) (sym contract)))
 
   pub refused-begin-cells : (limits : Limits) (p k n d : ℕ) → resultOf (answer.Refused n d) m′ ≡ begin limits p k m → (m′ ≡ m) × (cells′ ≡ cells)
-  refused-begin-cells limits p k n d contract = replied-begin-cells (λ a. a) limits p k (answer.Refused n d) contract (λ e. unequal cc)
+  refused-begin-cells limits p k n d contract =
+      same-cells
+      (ap (λ (r : Result Answer). r .memory) contract
+      ∙ refused-begin limits p k m n d (ap (λ (r : Result Answer). answerSays (r .answer)) (sym contract)))
 
   -- "For each call and input one result and one content of the lent words is permitted": two that keep to one contract are the same
   pub one-content : {A : Type 0} (a a′ : A) (result : Result A) → resultOf a m ≡ result → resultOf a′ m′ ≡ result
