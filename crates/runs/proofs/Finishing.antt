@@ -6,12 +6,12 @@ use native.Mathlib.Decide.{decLe}
 use Rattle.task.specs.Rows.{Acceptance}
 use Rattle.task.specs.declared.Limits.{Limits}
 use Rattle.task.specs.declared.Step.{Step}
-use Rattle.rules.specs.Memory.{Mem, tasks, edges}
+use Rattle.rules.specs.Memory.{plainShape, Mem, tasks, edges}
 use Rattle.rules.proofs.Moves.{accepted-step}
 use Rattle.views.proofs.Finishing as finishing
-use Rattle.runs.specs.Calls.{Call, plainCalls, View, KeptBy, Run, memoryOf, eventsOf, viewOf}
+use Rattle.runs.specs.Calls.{Call, plainCalls, View, KeptBy, Run, memoryOf, eventsOf, viewOf, longer}
 use Rattle.runs.specs.Demand.{acceptedCompletes, acceptedSteps, Finished, nextSays, CanFinish}
-use Rattle.runs.proofs.Calls.{tasks-reached, edges-reached}
+use Rattle.runs.proofs.Calls.{tasks-reached, edges-reached, begun-within}
 use Rattle.runs.proofs.Events.{accepted-word}
 use Rattle.runs.proofs.Demand.{demand-3}
 
@@ -38,3 +38,9 @@ below-all limits r i s a =
 
 pub can-finish : (r : Run) (limits : Limits) → KeptBy limits (viewOf r) → CanFinish limits r
 can-finish r limits = finishing.can-finish plainCalls Finished finished? allSteps (λ r. demand-3 .one r .nextBy) below-all limits r
+
+-- PROMISE: no run has more accepted steps than the family's figure for N and E (`steps`, `crates/memory/specs/Family.antt`), which every finished run has
+pub most-steps : (r : Run) → acceptedSteps (eventsOf r) ≤ plainShape .steps (tasks (r .lent)) (edges (r .lent))
+most-steps r =
+    let end = can-finish r (r .limits) (begun-within r) in
+    omega (arith, end .taken, demand-3 .one (longer r (end .further)) .steps (end .finishes))
