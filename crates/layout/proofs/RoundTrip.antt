@@ -5,9 +5,11 @@ use mathlib.Core.Bool.{true}
 use mathlib.Core.Logic.{_⊎_, inl, inr}
 use mathlib.Core.List.{List}
 use native.Mathlib.Omega.{arith}
+use native.Mathlib.Decide.{decLe}
 use lib.ListN.{length, take, drop, length-append, length-drop}
 use lib.Seq.{take-append-seam, drop-append-seam}
 use Rattle.lists.proofs.Apart.{true-and-false}
+use Rattle.lists.proofs.Told.{Told, told-true, told-false}
 use Rattle.task.specs.Types.{engine, capped}
 use Rattle.task.specs.Refusals.{refused, bytesUsed, answerSays, writeSays, wrongLength, noDummies}
 use Rattle.task.specs.Rows.{Acceptance, Given}
@@ -22,13 +24,13 @@ use Rattle.layout.specs.Plain.{textOf}
 use Rattle.layout.specs.Alike.{Alike}
 use Rattle.layout.specs.Reader.{onto}
 use Rattle.layout.specs.Tables.{Accepts}
-use Rattle.layout.specs.Writer.{dummiesFit, Saved, writeText, mostWritten, Writes}
+use Rattle.layout.specs.Writer.{dummiesFit, Saved, writeText, NoDummies, TooSmall, mostWritten, Writes}
 use Rattle.layout.proofs.Unique.{spells-unique}
 use Rattle.layout.proofs.Readings.{accepted-iff}
 use Rattle.layout.proofs.Same.{same-alike}
 use Rattle.layout.proofs.Sizes.{text-short}
 use Rattle.layout.proofs.Saved.{text-plain, text-spells, read-light, read-dummies}
-use Rattle.layout.proofs.Writer.{Ways, checked, undummied, crowded, put, ways}
+use Rattle.layout.proofs.Writer.{dummies-told, Ways, checked, undummied, crowded, put, ways}
 
 -- what acceptance shows
 record Taken (w s p text : List ℕ) (b : ℕ) : Type 0 where
@@ -96,16 +98,39 @@ module _ (w s p text : List ℕ) where
 abbrev pub usedBytes : (w s p text : List ℕ) (b : ℕ) → List ℕ
 usedBytes w s p text b = take b (writeText w s p text .text)
 
--- PROMISE: a graph that the check and 14 pass is written wherever it finds room
-pub written-there : (w s p text : List ℕ) → GraphFits engine w s p → dummiesFit w s ≡ true → length (textOf (tables w s p)) ≤ length text
+-- a graph that the check and 14 pass is written wherever its text has room
+fitting-written : (w s p text : List ℕ) → GraphFits engine w s p → dummiesFit w s ≡ true → length (textOf (tables w s p)) ≤ length text
     → writeSays (writeText w s p text .answer) ≡ bytesUsed (length (textOf (tables w s p)))
-written-there w s p text f d r = go (ways w s p text)
+fitting-written w s p text f d r = go (ways w s p text)
   where
     go : Ways w s p text → writeSays (writeText w s p text .answer) ≡ bytesUsed (length (textOf (tables w s p)))
     go (checked n x e q) = absurd (subst Acceptance (sym (graph-accepted-iff engine w s p .1 f) ∙ ap answerSays e) tt)
     go (undummied n q) = true-and-false d n
     go (crowded _ l q) = absurd (omega (arith, l, r))
     go (put _ _ _ q) = ap (λ (x : Saved). writeSays (x .answer)) q
+
+-- PROMISE: so, in the table's words: none of 2, 1, 3, 4, 5 holds of the graph (`GraphFits`), 14 doesn't, and the buffer isn't too small
+pub written-there : (w s p text : List ℕ) → GraphFits engine w s p → ¬ (NoDummies w s p) → ¬ (TooSmall w s p text)
+    → writeSays (writeText w s p text .answer) ≡ bytesUsed (length (textOf (tables w s p)))
+written-there w s p text f dummies room = go (dummies-told w s p f)
+  where
+    small : dummiesFit w s ≡ true → length text < length (textOf (tables w s p)) → TooSmall w s p text
+    small d l =
+        record {
+          bytes = textOf (tables w s p);
+          plain = text-plain w s p (fits-sound f) (f .light) d;
+          spells = text-spells w s p (fits-sound f) (f .light) d;
+          short = l;
+        }
+
+    roomy : dummiesFit w s ≡ true → Dec (length (textOf (tables w s p)) ≤ length text) → length (textOf (tables w s p)) ≤ length text
+    roomy d (yes r) = r
+    roomy d (no n) = absurd (room (small d (omega (arith, n))))
+
+    go : Told (dummiesFit w s) (¬ (NoDummies w s p)) (NoDummies w s p)
+        → writeSays (writeText w s p text .answer) ≡ bytesUsed (length (textOf (tables w s p)))
+    go (told-true d _) = fitting-written w s p text f d (roomy d (decLe (length (textOf (tables w s p))) (length text)))
+    go (told-false _ no-dummies) = absurd (dummies no-dummies)
 
 module _ (w s p text : List ℕ) (b : ℕ) (said : writeSays (writeText w s p text .answer) ≡ bytesUsed b) where
   used-spells : Spells (usedBytes w s p text b) (tables w s p)
@@ -143,7 +168,7 @@ module _ (w s p text : List ℕ) (b : ℕ) (said : writeSays (writeText w s p te
       t = taken w s p text b said
 
       again : writeSays (writeText w s p text′ .answer) ≡ bytesUsed b
-      again = written-there w s p text′ (t .fits) (t .dummies) (omega (arith, room, t .count)) ∙ ap bytesUsed (sym (t .count))
+      again = fitting-written w s p text′ (t .fits) (t .dummies) (omega (arith, room, t .count)) ∙ ap bytesUsed (sym (t .count))
 
       same : g ≡ tables w s p
       same = spells-unique (usedBytes w s p text b) g (tables w s p) (accepted-iff (usedBytes w s p text b) w′ s′ p′ g .0 a .1) used-spells
