@@ -350,7 +350,7 @@ static inline const char *yolluvek_means(uint32_t number)
 
 /*
  * What an operator does about it, in the words of docs/REFUSALS.md; "" of an accepted call. It knows the number alone,
- * and holds of plain jobs, previews and weak jobs.
+ * and holds of every call of yolluvek.h, of plain jobs, previews and weak jobs.
  */
 static inline const char *yolluvek_advice(uint32_t number)
 {
@@ -363,7 +363,7 @@ static inline const char *yolluvek_advice(uint32_t number)
                "be begun by the engine.";
     case YOLLUVEK_BAD_TABLE:
         return "look at the predecessors of the task in the detail. The reader takes any number there; begin judges it. "
-               "If there is no such task, report it.";
+               "If there is no such task, report it. After a lookup, choose another task, or begin first.";
     case YOLLUVEK_PREDECESSOR_TWICE:
         return "remove one of the two from that task; in a text, lower the count before them too.";
     case YOLLUVEK_CYCLE:
@@ -384,8 +384,9 @@ static inline const char *yolluvek_advice(uint32_t number)
     case YOLLUVEK_BAD_LAYOUT:
         return "look in that line for a wrong number of fields, a task number out of turn, a number of more than five "
                "digits or over 65,535, a mark other than digits, spaces and tabs, a time at the first or last task, "
-               "a predecessor at task 0, or a line after the last task. Which task is the last one, n in the first line "
-               "says. If there is no such line, add the task lines that are missing, or correct n in the first line.";
+               "a predecessor at task 0, or a line after the last task. Which task is the last one, the line with n says. "
+               "If there is no such line, add what is missing, a line with n or task lines, or correct the line with n if "
+               "there is one.";
     case YOLLUVEK_NO_DUMMIES:
         return "put a task without weight and predecessors first, and one without weight last.";
     case YOLLUVEK_BAD_WINDOW:
@@ -449,7 +450,8 @@ static inline const char *yolluvek_preview_limits_advice(
     int taken = yolluvek_beyond(n, e, p, k, weights) == YOLLUVEK_WITHIN;
     if (n > YOLLUVEK_PREVIEW_MAX_TASKS || e > YOLLUVEK_PREVIEW_MAX_EDGES) {
         return taken ? "begin the job by the engine, whose limits it keeps, or split it."
-                     : "split the job. As it is, the engine doesn't take it either.";
+                     : "split the job, or keep the engine's limits and begin it there. As it is, the engine doesn't take it "
+                       "either.";
     }
     if (p < 1 || p > YOLLUVEK_PREVIEW_MAX_WORKERS) {
         return taken ? "choose from 1 to 4 workers, or begin the job by the engine, whose limits it keeps."
@@ -519,6 +521,31 @@ static inline const uint32_t *yolluvek_job_bad_predecessor(const yolluvek_job *j
         }
     }
     return NULL;
+}
+
+/*
+ * What to do about a lookup on the job's lists that the judging call refuses, on this side, with this number and detail.
+ * Before an accepted begin the accepted steps are the word that yolluvek_job_make left there.
+ */
+static inline const char *yolluvek_lookup_advice(
+    const yolluvek_job *job, uint32_t side, uint32_t number, uint32_t detail)
+{
+    if (number == YOLLUVEK_BEYOND_LIMIT) {
+        /* neither P nor K nor a weight is judged here */
+        return yolluvek_limits_advice(job->n, job->e, 1, YOLLUVEK_MIN_SLOTS, NULL);
+    }
+    if (number != YOLLUVEK_BAD_TABLE) {
+        return yolluvek_advice(number);
+    }
+    if (detail >= job->n) {
+        return "choose another task.";
+    }
+    if (side != YOLLUVEK_PREDECESSORS) {
+        return job->run[1] == UINT32_MAX ? "begin first." : "report it.";
+    }
+    return yolluvek_job_bad_predecessor(job, detail) == NULL
+               ? "report it."
+               : "correct that predecessor, or add the task. The reader takes any number there; begin judges it.";
 }
 
 /* Where the line that begins here ends: at its LF, or at the end of the text. */
@@ -595,8 +622,8 @@ static inline const char *yolluvek_text_advice(const void *text, size_t length, 
 {
     if (number == YOLLUVEK_BEYOND_LIMIT) {
         return length > YOLLUVEK_MAX_TEXT
-                   ? "leave out comments, blank lines, spare spaces and zeros. If it is too long without them, the job is "
-                     "too large, and has to be split."
+                   ? "leave out comments, blank lines, spare spaces and zeros. If it is a job's text, and too long without "
+                     "them, the job is too large, and has to be split."
                    : "the job is too large, and has to be split.";
     }
     if (number == YOLLUVEK_BAD_LAYOUT) {
@@ -605,8 +632,8 @@ static inline const char *yolluvek_text_advice(const void *text, size_t length, 
             return "put n first, then a line for each of n + 2 tasks.";
         }
         if (ends.early) {
-            return ends.other ? "correct n in the first line, or add the task lines that are missing."
-                              : "add the task lines that are missing, or correct n in the first line.";
+            return ends.other ? "correct the line with n, or add the task lines that are missing."
+                              : "add the task lines that are missing. If n is wrong, correct it first.";
         }
     }
     return yolluvek_advice(number);

@@ -1,6 +1,6 @@
 /*
- * What is advised beside what the library answers: a 2 by what is beyond, a 3 by the predecessor's number, and texts that
- * end too early, with the task lines that there have to be and are.
+ * What is advised beside what the library answers: a 2 by what is beyond, a 3 by the predecessor's number, lookups, and
+ * texts that end too early, with the task lines that there have to be and are.
  */
 #include "check.h"
 #include "yolluvek_job.h"
@@ -63,6 +63,43 @@ static void bad_predecessors(void)
     CHECK(yolluvek_job_begin(&job).detail == 1 && yolluvek_job_bad_predecessor(&job, 1) == NULL);
 }
 
+/* A lookup on the job's lists is refused with 3 and the task. */
+static void no_lookup(const yolluvek_job *job, uint32_t side, uint32_t task, const char *words)
+{
+    yolluvek_reply reply = yolluvek_judge_lookup(
+        job->weights, job->n, job->pred_starts, job->n + 1, job->preds, job->e, job->succ_starts, job->n + 1, job->succs,
+        job->e, side, task);
+    CHECK(reply.number == YOLLUVEK_BAD_TABLE && reply.detail == task);
+    CHECK(strcmp(yolluvek_lookup_advice(job, side, reply.number, reply.detail), words) == 0);
+}
+
+static void lookups(void)
+{
+    static uint32_t block[YOLLUVEK_WORDS(2, 1, 1, 4)];
+    yolluvek_job job;
+    CHECK(yolluvek_job_make(&job, block, sizeof block / sizeof *block, 2, 1, 1, 4).number == YOLLUVEK_ACCEPTED);
+    job.weights[0] = job.weights[1] = 1;
+    job.pred_starts[1] = 0;
+    job.pred_starts[2] = 1;
+    job.preds[0] = 2;
+    no_lookup(&job, YOLLUVEK_PREDECESSORS, 99, "choose another task.");
+    no_lookup(&job, YOLLUVEK_SUCCESSORS, 99, "choose another task.");
+    no_lookup(&job, YOLLUVEK_SUCCESSORS, 1, "begin first.");
+    no_lookup(&job, YOLLUVEK_PREDECESSORS, 1,
+              "correct that predecessor, or add the task. The reader takes any number there; begin judges it.");
+    job.pred_starts[2] = 2;
+    no_lookup(&job, YOLLUVEK_PREDECESSORS, 1, "report it.");
+    job.pred_starts[2] = 1;
+    job.preds[0] = 0;
+    CHECK(yolluvek_job_begin(&job).number == YOLLUVEK_ACCEPTED);
+    no_lookup(&job, YOLLUVEK_SUCCESSORS, 99, "choose another task.");
+    job.succs[0] = 2;
+    no_lookup(&job, YOLLUVEK_SUCCESSORS, 0, "report it.");
+    CHECK(says(yolluvek_lookup_advice(&job, YOLLUVEK_SUCCESSORS, YOLLUVEK_WRONG_LENGTH, 0), "report it."));
+    /* the number alone holds of lookups too */
+    CHECK(strstr(yolluvek_advice(YOLLUVEK_BAD_TABLE), "After a lookup, choose another task, or begin first.") != NULL);
+}
+
 /* A text that ends too early. */
 static void early(const char *text, size_t expected, size_t found, int other, const char *words)
 {
@@ -83,7 +120,8 @@ static void texts(void)
     early("0\n", 2, 0, 0, "add the task lines");
     early("2\n0 0 0", 4, 1, 0, "add the task lines");
     early("# images\r\n 2\r\n\r\n0 0 0\r\n\t1 5 1 0\r\n", 4, 2, 0, "add the task lines");
-    early("4\n0 0 0\n1 5 1 0\n2 3 1 0\n3 0 2 1 2\n", 6, 4, 1, "correct n in the first line");
+    early("4\n0 0 0\n1 5 1 0\n2 3 1 0\n3 0 2 1 2\n", 6, 4, 1, "correct the line with n");
+    early("# images\n4\n0 0 0\n1 5 1 0\n2 3 1 0\n3 0 2 1 2\n", 6, 4, 1, "correct the line with n");
     CHECK(reply.number == YOLLUVEK_BAD_LAYOUT && reply.detail == 3);
     CHECK(!yolluvek_text_ends(line, strlen(line), reply.detail).early);
     CHECK(says(yolluvek_text_advice(line, strlen(line), reply.number, reply.detail), "look in that line"));
@@ -101,6 +139,7 @@ int main(void)
 {
     limits();
     bad_predecessors();
+    lookups();
     texts();
     return failures == 0 ? EXIT_SUCCESS : EXIT_FAILURE;
 }

@@ -64,7 +64,9 @@ impl Fault {
             Fault::Predecessor { .. } => {
                 "correct that predecessor, or add the task. The reader takes any number there; begin judges it."
             }
-            Fault::LastStart { .. } => "look for an edge that leads to a task that isn't there.",
+            Fault::LastStart { .. } => {
+                "look for an edge that leads to a task that isn't there, or for a start that was filled wrongly."
+            }
             // no text and no edges make such tables
             Fault::Starts { .. } | Fault::FirstStart { .. } | Fault::Unknown => "report it.",
         }

@@ -162,11 +162,12 @@ impl Limit {
             Limit::Slots { .. } => "choose from 2 to 64 slots.",
             Limit::Weight { .. } => "weigh all tasks in a larger unit, or split that task.",
             Limit::Text { .. } => {
-                "leave out comments, blank lines, spare spaces and zeros. If it is too long without them, the job is too \
-                 large, and has to be split."
+                "leave out comments, blank lines, spare spaces and zeros. If it is a job's text, and too long without \
+                 them, the job is too large, and has to be split."
             }
             Limit::PreviewTasks { .. } | Limit::PreviewEdges { .. } => {
-                "split the job. As it is, the engine doesn't take it either."
+                "split the job, or keep the engine's limits and begin it there. As it is, the engine doesn't take it \
+                 either."
             }
             Limit::PreviewWorkers { .. } => {
                 "choose from 1 to 4 workers. As it is, the engine doesn't take the job either."

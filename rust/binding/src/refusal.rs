@@ -523,13 +523,13 @@ impl Refusal {
             Refusal::BadLayout { .. } => {
                 "look in that line for a wrong number of fields, a task number out of turn, a number of more than five \
                  digits or over 65,535, a mark other than digits, spaces and tabs, a time at the first or last task, a \
-                 predecessor at task 0, or a line after the last task. Which task is the last one, n in the first line says."
+                 predecessor at task 0, or a line after the last task. Which task is the last one, the line with n says."
             }
             Refusal::TextEnds { expected: None, .. } => "put n first, then a line for each of n + 2 tasks.",
             Refusal::TextEnds { whole: Some(_), .. } => {
-                "correct n in the first line, or add the task lines that are missing."
+                "correct the line with n, or add the task lines that are missing."
             }
-            Refusal::TextEnds { .. } => "add the task lines that are missing, or correct n in the first line.",
+            Refusal::TextEnds { .. } => "add the task lines that are missing. If n is wrong, correct it first.",
             _ => advice_on(self.number()),
         }
     }
@@ -559,7 +559,7 @@ const fn advice_on(number: u32) -> &'static str {
     }
 }
 
-/// Prints the meaning in words, the detail among them.
+/// Prints the meaning in words.
 impl fmt::Display for Refusal {
     fn fmt(&self, to: &mut fmt::Formatter<'_>) -> fmt::Result {
         match self {
@@ -705,7 +705,7 @@ fn bad_ends(to: &mut fmt::Formatter<'_>, fault: &Fault) -> fmt::Result {
 /// How many task lines there have to be, and how many there are.
 fn text_ends(to: &mut fmt::Formatter<'_>, expected: Option<usize>, found: usize, whole: Option<usize>) -> fmt::Result {
     let Some(expected) = expected else {
-        return to.write_str("the text ends too early: it has no n, which its first line has to be");
+        return to.write_str("the text ends too early: it has no line with n");
     };
     let n = expected.saturating_sub(2);
     write!(

@@ -237,6 +237,18 @@ fn a_preview_that_the_engine_takes() {
     assert!(said.iter().all(|&count| count > 20), "{said:?}");
 }
 
+/// Beyond the preview's N, and the engine's in P alone: with other workers the engine takes the whole job.
+#[test]
+fn a_preview_that_the_engine_takes_with_other_workers() {
+    let tables = Tables::from_edges([1; 129], (1..129).map(|task| (task - 1, task)));
+    let refusal = Preview::from_tables(tables.clone(), 17, 4).begin().unwrap_err();
+    let advice =
+        "split the job, or keep the engine's limits and begin it there. As it is, the engine doesn't take it either.";
+    assert_eq!(refusal.advice(), advice);
+    assert_eq!(Job::from_tables(tables.clone(), 17, 4).begin().unwrap_err().number(), 2);
+    assert_eq!(Job::from_tables(tables, 16, 4).begin(), Ok(()));
+}
+
 /// All triples.
 fn triples(workers: &[usize], slots: &[usize], weights: &[u32]) -> Vec<(usize, usize, u32)> {
     let pairs = workers.iter().flat_map(|&p| slots.iter().map(move |&k| (p, k)));

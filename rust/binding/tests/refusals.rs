@@ -221,6 +221,16 @@ fn number_3() {
         };
         assert_says(refused_begin(wrong, 1, 2), 3, detail, words);
     }
+    // no edge leads to a task that isn't there, and a start of this table is wrong
+    let wrong = Tables {
+        pred_starts: vec![0, 0, 0],
+        ..tables(&[&[], &[0]])
+    };
+    let advice = wrong.check().unwrap_err().advice();
+    assert!(
+        advice.ends_with(", or for a start that was filled wrongly."),
+        "{advice}"
+    );
 
     let single = begun(tables(&[&[]]), 1, 2);
     let missing = single.lookup(Side::Successors, TaskId::new(u32::MAX)).unwrap_err();
@@ -343,8 +353,8 @@ fn number_13() {
     // "a text that ends too early breaks it at its count of lines plus 1"
     let one = "n is 2, so 4 task lines have to follow, and there is 1 task line";
     for (early, line, words) in [
-        ("", 1, "it has no n, which its first line has to be"),
-        ("# nothing\n\n", 3, "it has no n, which its first line has to be"),
+        ("", 1, "it has no line with n"),
+        ("# nothing\n\n", 3, "it has no line with n"),
         ("2\n0 0 0\n", 3, one),
         ("2\n0 0 0", 3, one),
         ("2\r\n0 0 0\n\n", 4, one),
@@ -365,27 +375,31 @@ fn number_13() {
 }
 
 /// n is the number of tasks without the dummies; where they were counted, the text would be whole with the n that is named.
+/// It needn't stand in the first line.
 #[test]
 fn number_13_by_a_wrong_n() {
     let tasks = "0 0 0\n1 5 1 0\n2 3 1 0\n3 0 2 1 2\n";
-    let wrong = format!("4\n{tasks}");
+    let wrong = format!("# images\n4\n{tasks}");
     let refusal = Tables::from_text(wrong.as_bytes()).unwrap_err();
     let words =
         "the text ends too early: n is 4, so 6 task lines have to follow, and there are 4 task lines; with n 2 it \
                  would be whole";
     assert_eq!(
         refusal.advice(),
-        "correct n in the first line, or add the task lines that are missing."
+        "correct the line with n, or add the task lines that are missing."
     );
-    assert_says(refusal, 13, 6, words);
+    assert_says(refusal, 13, 7, words);
     assert!(Tables::from_text(format!("2\n{tasks}").as_bytes()).is_ok());
 
-    // a task that takes time isn't the last one
+    // a task that takes time isn't the last one: with no other n the text would be whole
     let open = Tables::from_text(b"4\n0 0 0\n1 5 1 0\n").unwrap_err();
     assert!(!open.to_string().contains("whole"));
+    for n in 0..6 {
+        assert!(Tables::from_text(format!("{n}\n0 0 0\n1 5 1 0\n").as_bytes()).is_err());
+    }
     assert_eq!(
         open.advice(),
-        "add the task lines that are missing, or correct n in the first line."
+        "add the task lines that are missing. If n is wrong, correct it first."
     );
 }
 

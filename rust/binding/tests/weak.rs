@@ -296,6 +296,8 @@ fn a_first_copy_becomes_a_later_one() -> Result<(), Refusal> {
     let first = job.release(zero).unwrap_err();
     assert_eq!(first, Refusal::NoRoomForFirst { task });
     assert_eq!((first.number(), first.detail()), (11, 6));
+    // the task waits for worker 1's Release too
+    assert_eq!(job.degree(task), Some(2));
 
     let fetched = [work(&mut job, one)?, work(&mut job, one)?];
     assert_eq!(fetched, ["4·0", "1"]);
@@ -308,7 +310,7 @@ fn a_first_copy_becomes_a_later_one() -> Result<(), Refusal> {
     assert!(first.advice().contains(said), "{}", first.advice());
     assert!(!later.advice().contains("any one worker"));
 
-    // what is left for worker 1 doesn't help, and worker 0 makes room within P accepted Fetches of its own
+    // what is left for worker 1 doesn't help, and worker 0 makes room with P accepted Fetches of its own
     assert_eq!(work(&mut job, one)?, "5·0");
     assert!(job.fetch(one).is_err() && job.release(zero).is_err());
     assert_eq!(work(&mut job, zero)?, "6·1");
@@ -317,9 +319,14 @@ fn a_first_copy_becomes_a_later_one() -> Result<(), Refusal> {
     assert_eq!(job.release(zero)?.owner, zero);
 
     let page = pages::refusals().stored().unwrap_or_else(|wrong| panic!("{wrong}"));
-    let told =
-        "With P 2, K 2, no weights and the edges 0→2, 0→3, 0→4, 0→5, 0→6 and 1→6 the fifth Release of worker 0 is \
-                refused, with detail 6;";
-    assert!(page.split_whitespace().collect::<Vec<_>>().join(" ").contains(told));
+    let page = page.split_whitespace().collect::<Vec<_>>().join(" ");
+    for told in [
+        "In a weak job a Release always places a copy, and its task may wait for other Releases too.",
+        "With P 2, K 2, no weights and the edges 0→2, 0→3, 0→4, 0→5, 0→6 and 1→6 the fifth Release of worker 0 is refused, \
+         with detail 6; worker 1 fetches twice and releases its copy of task 6, which fixes it to worker 0; and worker 0 is \
+         refused again, until it has fetched twice itself: its first Fetch takes the copy that worker 1 released.",
+    ] {
+        assert!(page.contains(told), "{told}");
+    }
     Ok(())
 }

@@ -109,11 +109,13 @@ fn told(file: &str, refusal: &Refusal) -> String {
     format!("{file}: refused {number}, detail {detail}: {meaning}. To do: {advice}")
 }
 
-/// A text that is too long was handed over cut; how long it is the file knows, if it is one.
+/// A text that is too long was handed over cut; how long it is the file may know, if it is one. Whether it is a text isn't
+/// known.
 fn too_long(file: &str) -> String {
     let length = fs::metadata(file).ok().filter(fs::Metadata::is_file);
-    match length.and_then(|known| usize::try_from(known.len()).ok()) {
-        Some(bytes) => Limit::Text { bytes }.to_string(),
-        None => format!("a text of more than {MAX_TEXT} bytes is beyond the limit"),
+    let known = length.map(|known| known.len()).filter(|&bytes| bytes > MAX_TEXT as u64);
+    match known {
+        Some(bytes) => format!("it has {bytes} bytes, more than the {MAX_TEXT} that a text may have"),
+        None => format!("it has more than the {MAX_TEXT} bytes that a text may have"),
     }
 }

@@ -12,6 +12,8 @@ fn line(arguments: &[&str]) -> String {
     let output = Command::new(BOARD)
         .args(arguments)
         .current_dir(folder())
+        // makes its file in /proc too long, which has no length there
+        .env("LONG", "x".repeat(65_536))
         .stdin(Stdio::null())
         .output()
         .expect("the board runs");
@@ -56,19 +58,21 @@ fn refused_texts() {
     assert!(line(&[&cycle, "2", "4"]).contains(": refused 5, detail 1: "));
 }
 
-/// How long a file is that is too long; of what isn't a file only that it is.
+/// How long a file is that is too long; of what isn't a file, or says less of itself, only that it is. It may be no text.
 #[test]
 fn too_long_texts() {
     let to_do =
-        "To do: leave out comments, blank lines, spare spaces and zeros. If it is too long without them, the job is \
-                 too large, and has to be split.";
+        "To do: leave out comments, blank lines, spare spaces and zeros. If it is a job's text, and too long without \
+                 them, the job is too large, and has to be split.";
     let long = scratch("long.stg", &"# a comment\n".repeat(12_685)[..152_214]);
     let told = line(&[&long, "2", "4"]);
-    let meaning = "a text of 152214 bytes is beyond the limit: at most 65536";
+    let meaning = "it has 152214 bytes, more than the 65536 that a text may have";
     assert_eq!(told, format!("{long}: refused 2, detail 0: {meaning}. {to_do}"));
-    let told = line(&["/dev/zero", "2", "4"]);
-    let meaning = "a text of more than 65536 bytes is beyond the limit";
-    assert_eq!(told, format!("/dev/zero: refused 2, detail 0: {meaning}. {to_do}"));
+    let meaning = "it has more than the 65536 bytes that a text may have";
+    for file in ["/dev/zero", "/proc/self/environ"] {
+        let told = line(&[file, "2", "4"]);
+        assert_eq!(told, format!("{file}: refused 2, detail 0: {meaning}. {to_do}"));
+    }
 }
 
 /// What to do is about what is wrong: a number of workers, a wrong n, a predecessor by its number.
@@ -81,7 +85,7 @@ fn what_to_do() {
     let wrong = scratch("wrong.stg", "4\n0 0 0\n1 5 1 0\n2 3 1 0\n3 0 2 1 2\n");
     let told = line(&[&wrong, "2", "4"]);
     assert!(told.contains(": refused 13, detail 6: the text ends too early: n is 4, so 6 task lines have to follow, "));
-    assert!(told.contains("there are 4 task lines; with n 2 it would be whole. To do: correct n in the first line"));
+    assert!(told.contains("there are 4 task lines; with n 2 it would be whole. To do: correct the line with n"));
     let stray = scratch("stray.stg", "1\n0 0 0\n1 5 1 7\n2 0 1 1\n");
     let told = line(&[&stray, "2", "4"]);
     assert!(told.contains(": refused 3, detail 1: task 1 has predecessor 7, which doesn't exist: there are 3 tasks. "));
