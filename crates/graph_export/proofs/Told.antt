@@ -1,7 +1,7 @@
 -- PROMISE: the number of a reply is 0 exactly if the call was accepted, and else number and detail are those of the first row of the
 -- published table that holds; what the exported numbers mean.
 use Prim.Native.Nat.{ℕ, _≤_}
-use mathlib.Core.Path.{_≡_, refl, sym}
+use mathlib.Core.Path.{_≡_, refl, sym, ap}
 use native.Mathlib.Omega.{arith}
 use mathlib.Core.Bool.{true}
 use mathlib.Core.Logic.{_↔_}
@@ -9,6 +9,8 @@ use mathlib.Core.List.{List}
 use Rattle.task.specs.Refusals.{answerSays}
 use Rattle.task.specs.Rows.{Given, Acceptance}
 use Rattle.task.proofs.Said.{zero-accepts}
+use Rattle.task.specs.declared.Answer.{Answer}
+use Rattle.task.specs.declared.Answer.the-variants.{Refused, Accepted}
 use Rattle.task.specs.declared.Limits.{Limits}
 use Rattle.task.specs.declared.Side.{Side}
 use Rattle.task.specs.declared.Side.the-variants.{Predecessors, Successors}
@@ -17,7 +19,7 @@ use Rattle.graph.specs.Successors.{linked}
 use Rattle.graph.specs.Lookup.{Lent, judgeAnswer}
 use Rattle.graph.specs.Tables.{Unfit, checkRows, lookupRows}
 use Rattle.graph.proofs.Refusals.{graph-follows, judge-follows}
-use Rattle.graph.proofs.Linked.{linked-follows}
+use Rattle.graph.proofs.Linked.{linked-follows, linked-refused}
 use Rattle.replies.specs.Replies.{replyOf}
 use Rattle.replies.proofs.Told.{tells-refusal}
 use Rattle.graph_export.proofs.Laws.{side-other}
@@ -42,6 +44,18 @@ module _ (limits : Limits) (weights starts preds : List ℕ) where
       → ((replied (linked limits weights starts preds s w d) .reply .number ≡ n) × (replied (linked limits weights starts preds s w d) .reply .detail ≡ e))
       ↔ Given (checkRows limits ⊥ (Unfit weights preds s w d) weights starts preds) n e
   link-tells s w d = tells-refusal (checkRows limits ⊥ (Unfit weights preds s w d) weights starts preds) _ (linked-follows limits weights starts preds s w d)
+
+  -- what a host finds: where the number is 1 or more, the three lists are what they were
+  pub link-heard : (s w d : List ℕ) → 1 ≤ replied (linked limits weights starts preds s w d) .reply .number
+      → (linked limits weights starts preds s w d .starts ≡ s)
+      × ((linked limits weights starts preds s w d .succs ≡ w) × (linked limits weights starts preds s w d .degrees ≡ d))
+  link-heard s w d = go (linked limits weights starts preds s w d .answer) refl
+    where
+      go : (a : Answer) → linked limits weights starts preds s w d .answer ≡ a → 1 ≤ replied (linked limits weights starts preds s w d) .reply .number
+          → (linked limits weights starts preds s w d .starts ≡ s)
+          × ((linked limits weights starts preds s w d .succs ≡ w) × (linked limits weights starts preds s w d .degrees ≡ d))
+      go (Refused n x) e h = linked-refused limits weights starts preds s w d n x (ap answerSays e)
+      go Accepted e h = absurd (omega (arith, rw e at h))
 
 pub judge-tells : (side : Side) (l : Lent) (t n d : ℕ) → 1 ≤ n
     → ((replyOf (judgeAnswer side l t) .number ≡ n) × (replyOf (judgeAnswer side l t) .detail ≡ d)) ↔ Given (lookupRows side l t) n d

@@ -7,14 +7,16 @@ use mathlib.Core.List.{List}
 use native.Mathlib.Omega.{arith}
 use Rattle.task.specs.Refusals.{readSays, writeSays}
 use Rattle.task.specs.Rows.{Given, Acceptance}
+use Rattle.task.specs.declared.ReadAnswer.{ReadAnswer}
 use Rattle.task.specs.declared.ReadAnswer.the-variants.{Refused, Accepted}
 use Rattle.task.specs.declared.WriteAnswer.{WriteAnswer}
 use Rattle.task.specs.declared.WriteAnswer.the-variants as write-answer
 use Rattle.task.proofs.Said.{zero-accepts}
 use Rattle.layout.specs.Reader.{lines, readText}
 use Rattle.layout.specs.Writer.{writeText, writerRows, Writes}
-use Rattle.layout.specs.Tables.{readerRows}
+use Rattle.layout.specs.Tables.{readerRows, Leaves}
 use Rattle.layout.proofs.Lines.{lines-are}
+use Rattle.layout.proofs.Readings.{refused-leaves}
 use Rattle.layout.proofs.Refusals.{read-follows}
 use Rattle.layout.proofs.Writer.{write-follows, write-leaves}
 use Rattle.layout.proofs.RoundTrip.{writes}
@@ -27,6 +29,14 @@ read-zero text w s p = zero-accepts (readerRows text (lines text) w s p) _ (read
 pub read-tells : (text w s p : List ℕ) (n d : ℕ) → 1 ≤ n
     → ((replied (readText text w s p) .reply .number ≡ n) × (replied (readText text w s p) .reply .detail ≡ d)) ↔ Given (readerRows text (lines text) w s p) n d
 read-tells text w s p = tells-refusal (readerRows text (lines text) w s p) _ (read-follows text (lines text) w s p (lines-are text))
+
+-- what a host finds: where the number is 1 or more, the three lists are what they were
+pub read-heard : (text w s p : List ℕ) → 1 ≤ replied (readText text w s p) .reply .number → Leaves text w s p
+read-heard text w s p = go (readText text w s p .answer) refl
+  where
+    go : (a : ReadAnswer) → readText text w s p .answer ≡ a → 1 ≤ replied (readText text w s p) .reply .number → Leaves text w s p
+    go (Refused n d) e h = refused-leaves text w s p n d (ap readSays e)
+    go (Accepted n x) e h = absurd (omega (arith, rw e at h))
 
 pub read-replies-hold : ((n d : ℕ) → replyOf (Refused n d) ≡ record { number = n; detail = d; tasks = 0; edges = 0 })
     × ((n e : ℕ) → replyOf (Accepted n e) ≡ record { number = 0; detail = 0; tasks = n; edges = e })

@@ -34,7 +34,7 @@ use Rattle.memory.specs.Memory.{put}
 use Rattle.memory.specs.Updates.{storeWords, store, updated, written}
 use Rattle.plans.specs.Sizes.{numbersFit, othersFit, lengthsFit}
 use Rattle.plans.specs.Laying.{rootsLaid}
-use Rattle.weak_rules.specs.Memory.{Mem, memOf, allSteps, allEntries, acceptedIn}
+use Rattle.weak_rules.specs.Memory.{weakShape, Mem, memOf, allSteps, allEntries, acceptedIn}
 use Rattle.weak_rules.specs.Words.{countersFit}
 use Rattle.weak_rules.specs.Updates.{Update, putDegree, putFixed, putSlot, putCounter, putEntries, putAccepted, putHand}
 use Rattle.weak_rules.specs.Plans.{counted, Result, carriedOut}
@@ -402,3 +402,7 @@ refusals =
       recordShortStep = refl;
       runShortStep = refl;
     }
+
+-- the figure that bounds the accepted steps of a run with any number of roots
+pub steps-figure : (n e : ℕ) → weakShape .steps n e ≡ 4 * e + 3 * n
+steps-figure n e = refl

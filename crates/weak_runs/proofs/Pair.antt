@@ -66,7 +66,7 @@ abbrev pub releases : ℕ → ℕ → ℕ → Call
 releases p k i = stepCall engine p k i Release
 
 -- Worker 0 runs task 0 and releases a copy of task 1 to itself and one of task 2 to worker 1. This runs it, releases a copy of task 3 to itself and runs
--- that too, before task 1 is run and the other copy of task 3 after it. A begin and a step with another K and a Fetch of an idle worker are refused.
+-- that too, before task 1 is run and the other copy of task 3 after it. A begin and a step with another K and a Fetch with nothing waiting are refused.
 abbrev pub threeWorkers : Run
 threeWorkers =
     record {
