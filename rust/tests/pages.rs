@@ -164,9 +164,9 @@ fn lines(files: &[PathBuf]) -> usize {
 fn what_is_counted() {
     let counts = [
         ("11,200 lines of code", 11_200, lines(&files("src", "rt"))),
-        ("11,200 lines of definitions", 11_200, lines(&files("specs", "antt"))),
-        ("68,000 lines of proof", 68_000, lines(&files("proofs", "antt"))),
-        ("about 400 wrong programs", 400, files("must-fail", "edit").len()),
+        ("11,500 lines of definitions", 11_500, lines(&files("specs", "antt"))),
+        ("71,000 lines of proof", 71_000, lines(&files("proofs", "antt"))),
+        ("about 420 wrong programs", 420, files("must-fail", "edit").len()),
         ("the proofs of 100 crates", 100, entries(&file("crates")).len()),
     ];
     let page = text(FRONT);
