@@ -22,7 +22,7 @@
  *
  * Every call answers a number, 0 where it is accepted, and a refused one leaves the block, and the yolluvek_job, as
  * they were. yolluvek_means says what a number means, yolluvek_advice what to do about it, and the calls behind it say
- * more where more is at hand: the job, the text, a weak job's fixed word. An empty list is no trap: its pointer is into
+ * more where more is at hand: the job and the detail, the text, a weak job's fixed word. An empty list is no trap: its pointer is into
  * the block, and never NULL.
  *
  * A job isn't locked: threads that share one make their calls one after the other (examples/threads.c). A saved block
@@ -380,7 +380,8 @@ static inline const char *yolluvek_advice(uint32_t number)
                "with another worker.";
     case YOLLUVEK_NO_ROOM:
         return "let a worker fetch, then release again; if the task is fixed, in a weak job, the worker that it is fixed "
-               "to. If it happens often, use a larger K.";
+               "to. A worker that has fetched starts and completes its task before it fetches or releases again. If it "
+               "happens often, use a larger K.";
     case YOLLUVEK_BAD_LAYOUT:
         return "look in that line for a wrong number of fields, a task number out of turn, a number of more than five "
                "digits or over 65,535, a mark other than digits, spaces and tabs, a time at the first or last task, "
@@ -388,7 +389,9 @@ static inline const char *yolluvek_advice(uint32_t number)
                "If there is no such line, add what is missing, a line with n or task lines, or correct the line with n if "
                "there is one.";
     case YOLLUVEK_NO_DUMMIES:
-        return "put a task without weight and predecessors first, and one without weight last.";
+        return "put a task without weight and predecessors first, and one without weight last, each where it is missing. "
+               "With the first, every other task's number rises by one, among the predecessors too. A text has at most "
+               "1,022 tasks besides the dummies: a larger job has to be split.";
     case YOLLUVEK_BAD_WINDOW:
         return "choose a window of at least one entry and of no more than are recorded; complete a task first if none "
                "is.";
@@ -464,32 +467,102 @@ static inline const char *yolluvek_preview_limits_advice(
     return yolluvek_limits_advice(n, e, p, k, weights);
 }
 
-/* What to do about a refused begin or step of a job, which is a plain one. */
-static inline const char *yolluvek_job_advice(const yolluvek_job *job, uint32_t number)
+/*
+ * Where tables are refused with 3 and a task as the detail: the word of its first predecessor that is no task, whose
+ * number stands there. NULL where there is no such word: the starts are bad, or the detail is N.
+ */
+static inline const uint32_t *yolluvek_bad_predecessor(
+    size_t n, const uint32_t *pred_starts, const uint32_t *preds, size_t e, uint32_t detail)
+{
+    uint32_t place;
+    if (detail >= n || pred_starts[detail + 1] > e) {
+        return NULL;
+    }
+    for (place = pred_starts[detail]; place < pred_starts[detail + 1]; place++) {
+        if (preds[place] >= n) {
+            return preds + place;
+        }
+    }
+    return NULL;
+}
+
+/* What to do about tables that the check, the writer or a begin, plain, of a preview or weak, refuses with 3. */
+static inline const char *yolluvek_table_advice(
+    size_t n, const uint32_t *pred_starts, const uint32_t *preds, size_t e, uint32_t detail)
+{
+    if (yolluvek_bad_predecessor(n, pred_starts, preds, e, detail) != NULL) {
+        return "correct that predecessor, or add the task. The reader takes any number there; begin judges it.";
+    }
+    if (detail == n && pred_starts[0] == 0 && pred_starts[n] < e) {
+        return "look for an edge that leads to a task that isn't there, or for a start that was filled wrongly.";
+    }
+    return "report it.";
+}
+
+/* What to do about tables that the writer refuses with 14, by the dummies that are missing. */
+static inline const char *yolluvek_dummies_advice(const uint32_t *weights, size_t n, const uint32_t *pred_starts)
+{
+    size_t first = n == 0 || weights[0] > 0 || pred_starts[1] > 0;
+    /* one task can't be both */
+    size_t last = n < 2 || weights[n - 1] > 0;
+    if (first + last > 0 && n + first + last > YOLLUVEK_MAX_TASKS) {
+        return "split the job: a text has at most 1,022 tasks besides the dummies.";
+    }
+    if (first && last) {
+        return "put a task without weight and predecessors first, and one without weight last. Every other task's number "
+               "rises by one then, among the predecessors too.";
+    }
+    if (first) {
+        return "put a task without weight and predecessors first. Every other task's number rises by one then, among the "
+               "predecessors too.";
+    }
+    return last ? "put a task without weight last." : yolluvek_advice(YOLLUVEK_NO_DUMMIES);
+}
+
+/* 1 where there was an accepted begin, else 0: before it the accepted steps are the word that yolluvek_job_make left. */
+static inline int yolluvek_job_begun(const yolluvek_job *job)
+{
+    return job->run[1] != UINT32_MAX;
+}
+
+/*
+ * What to do about a refused begin or step of a job, which is a plain one, or about one that isn't saved, with this number
+ * and detail.
+ */
+static inline const char *yolluvek_job_advice(const yolluvek_job *job, uint32_t number, uint32_t detail)
 {
     if (number == YOLLUVEK_BEYOND_LIMIT) {
         return yolluvek_limits_advice(job->n, job->e, job->p, job->k, job->weights);
     }
     if (number == YOLLUVEK_NO_ROOM) {
         return "let a worker fetch, then release again. The refused worker can fetch itself, since a ring that it owns "
-               "is full. After at most P accepted Fetches of any one worker there is room. If it happens often, use a "
-               "larger K.";
+               "is full; it then starts and completes that task before it fetches or releases again. After at most P "
+               "accepted Fetches of any one worker there is room. If it happens often, use a larger K.";
+    }
+    if (number == YOLLUVEK_BAD_TABLE) {
+        return yolluvek_table_advice(job->n, job->pred_starts, job->preds, job->e, detail);
+    }
+    if (number == YOLLUVEK_DAMAGED_WORD && !yolluvek_job_begun(job)) {
+        return "begin first.";
+    }
+    if (number == YOLLUVEK_NO_DUMMIES) {
+        return yolluvek_dummies_advice(job->weights, job->n, job->pred_starts);
     }
     return yolluvek_advice(number);
 }
 
 /* The same where the preview's begin or step was lent the job's lists. */
-static inline const char *yolluvek_preview_advice(const yolluvek_job *job, uint32_t number)
+static inline const char *yolluvek_preview_advice(const yolluvek_job *job, uint32_t number, uint32_t detail)
 {
     if (number == YOLLUVEK_BEYOND_LIMIT) {
         return yolluvek_preview_limits_advice(job->n, job->e, job->p, job->k, job->weights);
     }
-    return yolluvek_job_advice(job, number);
+    return yolluvek_job_advice(job, number, detail);
 }
 
 /*
  * What to do about a refused begin or step of a weak job. `fixed` is the fixed word of the task in the detail, where the
- * number is 11; else it isn't looked at. A 2 has yolluvek_limits_advice.
+ * number is 11; else it isn't looked at. A 2 has yolluvek_limits_advice, a 3 yolluvek_table_advice.
  */
 static inline const char *yolluvek_weak_advice(uint32_t number, uint32_t fixed)
 {
@@ -498,35 +571,22 @@ static inline const char *yolluvek_weak_advice(uint32_t number, uint32_t fixed)
     }
     if (fixed == YOLLUVEK_UNFIXED) {
         return "let a worker fetch, then release again. The refused worker can fetch itself, since a ring that it owns "
-               "is full. After at most P accepted Fetches of any one worker there is room; but once another worker's "
-               "Release has fixed the task, only of the worker that it is fixed to. If it happens often, use a larger K.";
+               "is full; it then starts and completes that task before it fetches or releases again. After at most P "
+               "accepted Fetches of any one worker there is room; but once another worker's Release has fixed the task, "
+               "only of the worker that it is fixed to. If it happens often, use a larger K.";
     }
-    return "let the worker that the task is fixed to fetch, then release again. After at most P accepted Fetches of that "
-           "worker there is room. If it happens often, use a larger K.";
+    return "let the worker that the task is fixed to fetch, then release again. If that is the refused worker itself, it "
+           "starts and completes what it has fetched before it fetches or releases again. After at most P accepted Fetches "
+           "of that worker there is room. If it happens often, use a larger K.";
 }
 
-/*
- * Where begin is refused with 3 and a task as the detail: the word of its first predecessor that is no task, whose number
- * stands there. NULL where there is no such word: the starts are bad, or the detail is N.
- */
+/* yolluvek_bad_predecessor on the job's lists. */
 static inline const uint32_t *yolluvek_job_bad_predecessor(const yolluvek_job *job, uint32_t detail)
 {
-    uint32_t place;
-    if (detail >= job->n || job->pred_starts[detail + 1] > job->e) {
-        return NULL;
-    }
-    for (place = job->pred_starts[detail]; place < job->pred_starts[detail + 1]; place++) {
-        if (job->preds[place] >= job->n) {
-            return job->preds + place;
-        }
-    }
-    return NULL;
+    return yolluvek_bad_predecessor(job->n, job->pred_starts, job->preds, job->e, detail);
 }
 
-/*
- * What to do about a lookup on the job's lists that the judging call refuses, on this side, with this number and detail.
- * Before an accepted begin the accepted steps are the word that yolluvek_job_make left there.
- */
+/* What to do about a lookup on the job's lists that the judging call refuses, on this side, with this number and detail. */
 static inline const char *yolluvek_lookup_advice(
     const yolluvek_job *job, uint32_t side, uint32_t number, uint32_t detail)
 {
@@ -541,11 +601,9 @@ static inline const char *yolluvek_lookup_advice(
         return "choose another task.";
     }
     if (side != YOLLUVEK_PREDECESSORS) {
-        return job->run[1] == UINT32_MAX ? "begin first." : "report it.";
+        return yolluvek_job_begun(job) ? "report it." : "begin first.";
     }
-    return yolluvek_job_bad_predecessor(job, detail) == NULL
-               ? "report it."
-               : "correct that predecessor, or add the task. The reader takes any number there; begin judges it.";
+    return yolluvek_table_advice(job->n, job->pred_starts, job->preds, job->e, detail);
 }
 
 /* Where the line that begins here ends: at its LF, or at the end of the text. */
@@ -580,6 +638,20 @@ static inline size_t yolluvek_digits(const char *mark, const char *end)
         number = 10 * number + (size_t)(*mark++ - '0');
     }
     return number;
+}
+
+/* The n of a text, the number that its first line begins with, blank lines and comments left out; 0 where there is none. */
+static inline size_t yolluvek_text_n(const void *text, size_t length)
+{
+    const char *line = length == 0 ? "" : (const char *)text, *end = line + length;
+    while (line < end) {
+        const char *stop = yolluvek_line_end(line, end), *first = yolluvek_field(line, stop, 0);
+        if (first < stop && *first != '#') {
+            return yolluvek_digits(first, stop);
+        }
+        line = stop < end ? stop + 1 : end;
+    }
+    return 0;
 }
 
 /* Of a text that is refused with 13, whether it ends too early; then how many task lines there have to be and are. */
@@ -621,9 +693,12 @@ static inline yolluvek_text_end yolluvek_text_ends(const void *text, size_t leng
 static inline const char *yolluvek_text_advice(const void *text, size_t length, uint32_t number, uint32_t detail)
 {
     if (number == YOLLUVEK_BEYOND_LIMIT) {
-        return length > YOLLUVEK_MAX_TEXT
-                   ? "leave out comments, blank lines, spare spaces and zeros. If it is a job's text, and too long without "
-                     "them, the job is too large, and has to be split."
+        if (length > YOLLUVEK_MAX_TEXT) {
+            return "leave out comments, blank lines, spare spaces and zeros. If it is a job's text, and too long without "
+                   "them, the job is too large, and has to be split.";
+        }
+        return yolluvek_text_n(text, length) + 2 > YOLLUVEK_MAX_TASKS
+                   ? "correct the line with n if it is wrong; else the job is too large, and has to be split."
                    : "the job is too large, and has to be split.";
     }
     if (number == YOLLUVEK_BAD_LAYOUT) {

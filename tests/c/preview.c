@@ -138,7 +138,7 @@ static void beyond(size_t n, size_t e, size_t p, size_t k)
     refused(&job, 0, YOLLUVEK_BEYOND_LIMIT, 0);
     refused(&job, (uint32_t)p, YOLLUVEK_BEYOND_LIMIT, 0);
     refused(&job, UINT32_MAX, YOLLUVEK_BEYOND_LIMIT, 0);
-    CHECK(strstr(yolluvek_preview_advice(&job, YOLLUVEK_BEYOND_LIMIT), "by the engine, whose limits it keeps") != NULL);
+    CHECK(strstr(yolluvek_preview_advice(&job, YOLLUVEK_BEYOND_LIMIT, 0), "by the engine, whose limits it keeps") != NULL);
     /* before a wrong length, which the engine answers */
     reply = yolluvek_preview_begin(LENT(&job, job.n - 1));
     CHECK(reply.number == YOLLUVEK_BEYOND_LIMIT && reply.detail == 0);
@@ -183,17 +183,17 @@ static void limits(void)
     job = made(4, 4, 2, 4);
     job.p = 0;
     refused(&job, 0, YOLLUVEK_BEYOND_LIMIT, 0);
-    CHECK(strstr(yolluvek_preview_advice(&job, YOLLUVEK_BEYOND_LIMIT), "the engine doesn't take") != NULL);
+    CHECK(strstr(yolluvek_preview_advice(&job, YOLLUVEK_BEYOND_LIMIT, 0), "the engine doesn't take") != NULL);
     job.p = 2;
     job.k = 1;
     refused(&job, 0, YOLLUVEK_BEYOND_LIMIT, 0);
-    CHECK(strstr(yolluvek_preview_advice(&job, YOLLUVEK_BEYOND_LIMIT), "the engine doesn't take") != NULL);
+    CHECK(strstr(yolluvek_preview_advice(&job, YOLLUVEK_BEYOND_LIMIT, 0), "the engine doesn't take") != NULL);
     job.k = 4;
     /* weights to 65,535 */
     job.weights[3] = 65536;
     CHECK(preview_begin(&job).number == YOLLUVEK_BEYOND_LIMIT);
-    CHECK(strncmp(yolluvek_preview_advice(&job, YOLLUVEK_BEYOND_LIMIT), "weigh all tasks", 15) == 0);
-    CHECK(strncmp(yolluvek_job_advice(&job, YOLLUVEK_BEYOND_LIMIT), "weigh all tasks", 15) == 0);
+    CHECK(strncmp(yolluvek_preview_advice(&job, YOLLUVEK_BEYOND_LIMIT, 0), "weigh all tasks", 15) == 0);
+    CHECK(strncmp(yolluvek_job_advice(&job, YOLLUVEK_BEYOND_LIMIT, 0), "weigh all tasks", 15) == 0);
     job.weights[3] = 65535;
     CHECK(preview_begin(&job).number == YOLLUVEK_ACCEPTED);
     /* within the limits the others are the engine's */

@@ -1,6 +1,7 @@
 //! The two dummies of a text: its first and its last task.
 
 use crate::ids::TaskId;
+use crate::limits::MAX_TASKS;
 use crate::tables::Tables;
 use std::fmt;
 
@@ -52,6 +53,40 @@ impl Lack {
                 weight: last,
             },
             _ => Lack::Unknown,
+        }
+    }
+}
+
+/// Which dummies have to be added before tables can be saved as a text.
+#[derive(Clone, Copy, Debug, PartialEq, Eq, Hash)]
+#[non_exhaustive]
+pub enum Missing {
+    /// The first one. With it every other task's number rises by one.
+    First,
+    /// The last one.
+    Last,
+    /// The first and the last one.
+    Both,
+    /// One or both, with which there would be more tasks than [`MAX_TASKS`](crate::limits::MAX_TASKS).
+    TooMany,
+    /// None: another version of the library may ask for more.
+    Unknown,
+}
+
+impl Missing {
+    /// Of tables that are a graph.
+    pub(crate) fn of(tables: &Tables) -> Missing {
+        let tasks = tables.weights.len();
+        let free = tables.predecessors(TaskId::new(0)).is_empty();
+        let first = tables.weights.first() != Some(&0) || !free;
+        // one task can't be both
+        let last = tasks < 2 || tables.weights.last() != Some(&0);
+        match (first, last) {
+            (false, false) => Missing::Unknown,
+            _ if tasks + usize::from(first) + usize::from(last) > MAX_TASKS => Missing::TooMany,
+            (true, true) => Missing::Both,
+            (true, false) => Missing::First,
+            (false, true) => Missing::Last,
         }
     }
 }

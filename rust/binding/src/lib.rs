@@ -98,7 +98,7 @@ mod weak;
 mod windows;
 
 pub use callers::{Caller, Engine, ItemOf, Planner, ReleasedOf, WeakEngine};
-pub use dummies::Lack;
+pub use dummies::{Lack, Missing};
 pub use faults::Fault;
 pub use ids::{TaskCopy, TaskId, WorkerId};
 pub use job::{Job, JobOf, Preview, Side, WeakJob};

@@ -155,8 +155,11 @@ impl Limit {
     /// What an operator does about it: the cells of docs/REFUSALS.md.
     pub(crate) const fn advice(&self) -> &'static str {
         match self {
-            Limit::Tasks { .. } | Limit::Edges { .. } | Limit::TextTasks { .. } | Limit::TextEdges { .. } => {
+            Limit::Tasks { .. } | Limit::Edges { .. } | Limit::TextEdges { .. } => {
                 "the job is too large, and has to be split."
+            }
+            Limit::TextTasks { .. } => {
+                "correct the line with n if it is wrong; else the job is too large, and has to be split."
             }
             Limit::Workers { .. } => "choose from 1 to 16 workers.",
             Limit::Slots { .. } => "choose from 2 to 64 slots.",

@@ -1,7 +1,7 @@
 //! Why a call was refused.
 
 use crate::callers::Whose;
-use crate::dummies::Lack;
+use crate::dummies::{Lack, Missing};
 use crate::faults::Fault;
 use crate::ids::{TaskId, WorkerId};
 use crate::job::Side;
@@ -185,11 +185,12 @@ pub enum Refusal {
         /// The n with which the text would be whole, where its last line may be the last task's.
         whole: Option<usize>,
     },
-    /// 14: the tables lack a text's dummies, its first and its last task. Put a task without weight and predecessors
-    /// first, and one without weight last.
+    /// 14: the tables lack a text's dummies, its first and its last task.
     NoDummies {
         /// Why.
         lack: Lack,
+        /// What has to be added.
+        missing: Missing,
     },
     /// 15: a load window has no entries, or more than are recorded. Choose a size from 1 to that number; with nothing
     /// recorded there is none.
@@ -271,7 +272,10 @@ impl Asked<'_> {
             (2, _) => Refusal::BeyondLimit { limit: self.limit() },
             (13, Asked::Text { text }) => text::layout_refused(text, detail),
             (_, Asked::Text { .. }) => return None,
-            (14, Asked::Save { tables }) => Refusal::NoDummies { lack: Lack::of(tables) },
+            (14, Asked::Save { tables }) => Refusal::NoDummies {
+                lack: Lack::of(tables),
+                missing: Missing::of(tables),
+            },
             (_, Asked::Check { tables } | Asked::Save { tables }) => graph_refused(tables, number, detail)?,
             (3, Asked::Lookup { side, tables, begun }) => lookup_refused(side, tables, begun, detail),
             (_, Asked::Lookup { .. }) => return None,
@@ -508,17 +512,19 @@ impl Refusal {
             Refusal::NoSuchTask { .. } => "choose another task.",
             Refusal::NoRoom { .. } => {
                 "let a worker fetch, then release again. The refused worker can fetch itself, since a ring that it owns is \
-                 full. After at most P accepted Fetches of any one worker there is room. If it happens often, use a larger \
-                 K."
+                 full; it then starts and completes that task before it fetches or releases again. After at most P \
+                 accepted Fetches of any one worker there is room. If it happens often, use a larger K."
             }
             Refusal::NoRoomForFirst { .. } => {
                 "let a worker fetch, then release again. The refused worker can fetch itself, since a ring that it owns is \
-                 full. After at most P accepted Fetches of any one worker there is room; but once another worker's Release \
-                 has fixed the task, only of the worker that it is fixed to. If it happens often, use a larger K."
+                 full; it then starts and completes that task before it fetches or releases again. After at most P \
+                 accepted Fetches of any one worker there is room; but once another worker's Release has fixed the task, \
+                 only of the worker that it is fixed to. If it happens often, use a larger K."
             }
             Refusal::RingFull { .. } => {
-                "let the worker that the task is fixed to fetch, then release again. After at most P accepted Fetches of that \
-                 worker there is room. If it happens often, use a larger K."
+                "let the worker that the task is fixed to fetch, then release again. If that is the refused worker itself, \
+                 it starts and completes what it has fetched before it fetches or releases again. After at most P accepted \
+                 Fetches of that worker there is room. If it happens often, use a larger K."
             }
             Refusal::BadLayout { .. } => {
                 "look in that line for a wrong number of fields, a task number out of turn, a number of more than five \
@@ -530,6 +536,26 @@ impl Refusal {
                 "correct the line with n, or add the task lines that are missing."
             }
             Refusal::TextEnds { .. } => "add the task lines that are missing. If n is wrong, correct it first.",
+            Refusal::NoDummies {
+                missing: Missing::Both, ..
+            } => {
+                "put a task without weight and predecessors first, and one without weight last. Every other task's number \
+                 rises by one then, among the predecessors too."
+            }
+            Refusal::NoDummies {
+                missing: Missing::First,
+                ..
+            } => {
+                "put a task without weight and predecessors first. Every other task's number rises by one then, among the \
+                 predecessors too."
+            }
+            Refusal::NoDummies {
+                missing: Missing::Last, ..
+            } => "put a task without weight last.",
+            Refusal::NoDummies {
+                missing: Missing::TooMany,
+                ..
+            } => "split the job: a text has at most 1,022 tasks besides the dummies.",
             _ => advice_on(self.number()),
         }
     }
@@ -550,7 +576,11 @@ const fn advice_on(number: u32) -> &'static str {
             "after a refused Fetch try Release, after a refused Release try Fetch; if both are refused, go on with \
              another worker."
         }
-        14 => "put a task without weight and predecessors first, and one without weight last.",
+        14 => {
+            "put a task without weight and predecessors first, and one without weight last, each where it is missing. \
+             With the first, every other task's number rises by one, among the predecessors too. A text has at most 1,022 \
+             tasks besides the dummies: a larger job has to be split."
+        }
         15 => {
             "choose a window of at least one entry and of no more than are recorded; complete a task first if none is."
         }
@@ -639,7 +669,7 @@ impl fmt::Display for Refusal {
             Refusal::TextEnds {
                 expected, found, whole, ..
             } => text_ends(to, *expected, *found, *whole),
-            Refusal::NoDummies { lack } => lack.fmt(to),
+            Refusal::NoDummies { lack, .. } => lack.fmt(to),
             Refusal::BadWindow { entries: 0 } => to.write_str("there is no load window: no task is recorded"),
             Refusal::BadWindow { entries } => {
                 write!(
@@ -842,7 +872,11 @@ mod tests {
         // 14 of tables that have their dummies
         let save = Asked::Save { tables: &tables };
         let dummies = save.answered(14, 0).unwrap_err();
-        assert_eq!(dummies, Refusal::NoDummies { lack: Lack::Unknown });
+        let unknown = Refusal::NoDummies {
+            lack: Lack::Unknown,
+            missing: Missing::Unknown,
+        };
+        assert_eq!(dummies, unknown);
         assert_eq!(dummies.to_string(), "the tables lack a text's dummies");
     }
 }

@@ -182,7 +182,7 @@ impl Tables {
     /// the first and the last without weight, the first without predecessors.
     ///
     /// ```
-    /// use yolluvek::{Lack, Refusal, Tables};
+    /// use yolluvek::{Lack, Missing, Refusal, Tables};
     ///
     /// // tasks 1 and 2 after task 0, task 3 after both
     /// let tables = Tables::from_edges([0, 5, 3, 0], [(0, 1), (0, 2), (1, 3), (2, 3)]);
@@ -192,7 +192,8 @@ impl Tables {
     ///
     /// let weighed = Tables::from_edges([4, 6], [(0, 1)]);
     /// let refusal = weighed.to_text().unwrap_err();
-    /// assert_eq!(refusal, Refusal::NoDummies { lack: Lack::FirstWeight { weight: 4 } });
+    /// let (lack, missing) = (Lack::FirstWeight { weight: 4 }, Missing::Both);
+    /// assert_eq!(refusal, Refusal::NoDummies { lack, missing });
     /// assert_eq!((refusal.number(), refusal.detail()), (14, 0));
     /// assert_eq!(refusal.to_string(), "the tables lack a text's dummies: task 0 has weight 4");
     /// # Ok::<(), Refusal>(())

@@ -3,7 +3,7 @@
 use engine_model::pages;
 use std::collections::{BTreeMap, BTreeSet};
 use yolluvek::limits::{self, Limit};
-use yolluvek::{Fault, Job, Lack, Phase, Preview, Refusal, Tables, TaskId, WorkerId};
+use yolluvek::{Fault, Job, Lack, Missing, Phase, Preview, Refusal, Side, Tables, TaskId, WorkerId};
 
 /// The operator's line in each number's part of the page, broken lines joined.
 fn operator_lines() -> BTreeMap<u32, String> {
@@ -56,7 +56,8 @@ fn by_number() -> Vec<Refusal> {
         Refusal::NothingToRelease,
         Refusal::RecordFull,
         Refusal::NoDummies {
-            lack: Lack::Tasks { tasks: 1 },
+            lack: Lack::Unknown,
+            missing: Missing::Unknown,
         },
         Refusal::BadWindow { entries: 4 },
     ]
@@ -79,8 +80,8 @@ fn by_case() -> Vec<Refusal> {
     let limits = [
         Limit::Tasks { tasks: 1_025 },
         Limit::Edges { edges: 8_193 },
-        Limit::TextTasks { tasks: 1_025 },
         Limit::TextEdges { line: 9 },
+        Limit::TextTasks { tasks: 1_025 },
         Limit::Workers { workers: 17 },
         Limit::Slots { slots: 65 },
         Limit::Weight { task, weight: 65_536 },
@@ -118,6 +119,8 @@ fn by_case() -> Vec<Refusal> {
         },
         Refusal::NoSuchTask { task, tasks: 1 },
         Refusal::NoSuccessorsYet { task },
+        Refusal::NotBegun,
+        Refusal::DamagedWord,
         Refusal::NoRoom { task },
         Refusal::NoRoomForFirst { task },
         Refusal::RingFull {
@@ -133,6 +136,9 @@ fn by_case() -> Vec<Refusal> {
             whole,
         }),
     );
+    let lack = Lack::Tasks { tasks: 1 };
+    let missing = [Missing::Both, Missing::First, Missing::Last, Missing::TooMany];
+    all.extend(missing.map(|missing| Refusal::NoDummies { lack, missing }));
     all
 }
 
@@ -154,7 +160,7 @@ fn the_page_s_words() {
 /// What depends on more than the number stands in the tables of its part, each cell for a refusal, in that order.
 #[test]
 fn the_page_s_cases() {
-    for number in [2, 3, 11, 13] {
+    for number in [2, 3, 8, 11, 13, 14] {
         let refusals = by_case();
         let of_number = refusals.iter().filter(|refusal| refusal.number() == number);
         let mut advised: Vec<&str> = of_number.map(Refusal::advice).collect();
@@ -198,7 +204,17 @@ fn advice_by_what_is_beyond() {
         ..chain(2)
     };
     assert_eq!(begun(edges, 2, 4).advice(), large);
-    assert_eq!(Tables::from_text(b"1023\n").unwrap_err().advice(), large);
+    let by_n = "correct the line with n if it is wrong; else the job is too large, and has to be split.";
+    assert_eq!(Tables::from_text(b"1023\n").unwrap_err().advice(), by_n);
+    let task = |task: u32| {
+        format!(
+            "{task} 0 1022 {}\n",
+            (0..1_022).map(|pred| format!("{pred} ")).collect::<String>()
+        )
+    };
+    let edges: String = (1..10).map(task).collect();
+    let edges = Tables::from_text(format!("8\n0 0 0\n{edges}").as_bytes()).unwrap_err();
+    assert_eq!((edges.number(), edges.advice()), (2, large));
     assert_eq!(begun(chain(2), 17, 4).advice(), "choose from 1 to 16 workers.");
     assert_eq!(begun(chain(2), 2, 65).advice(), "choose from 2 to 64 slots.");
     let heavy = begun(Tables::from_edges([1, 65_536], [(0, 1)]), 2, 4);
@@ -257,9 +273,95 @@ fn triples(workers: &[usize], slots: &[usize], weights: &[u32]) -> Vec<(usize, u
         .collect()
 }
 
+/// 11, as the refused worker meets it that makes the room itself: with a Fetch alone its Release is refused with 9.
+#[test]
+fn the_refused_worker_makes_room() {
+    let worker = WorkerId::new(0);
+    let mut job = Job::from_tables(Tables::from_edges([1; 4], [(0, 1), (0, 2), (0, 3)]), 1, 2);
+    assert_eq!(job.begin(), Ok(()));
+    assert!(job.fetch(worker).is_ok() && job.start(worker).is_ok() && job.complete(worker).is_ok());
+    assert!(job.release(worker).is_ok() && job.release(worker).is_ok());
+    let refusal = job.release(worker).unwrap_err();
+    assert_eq!(refusal, Refusal::NoRoom { task: TaskId::new(3) });
+    let itself =
+        "The refused worker can fetch itself, since a ring that it owns is full; it then starts and completes that \
+                  task before it fetches or releases again.";
+    assert!(refusal.advice().contains(itself));
+    assert!(job.fetch(worker).is_ok());
+    assert_eq!(job.release(worker).unwrap_err().number(), 9);
+    assert_eq!(job.fetch(worker).unwrap_err().number(), 9);
+    assert!(job.start(worker).is_ok() && job.complete(worker).is_ok() && job.release(worker).is_ok());
+}
+
+/// The tables with the dummies that the refusal asks for.
+fn with_dummies(tables: &Tables, missing: Missing) -> Tables {
+    let (first, last) = match missing {
+        Missing::Both => (true, true),
+        Missing::First => (true, false),
+        Missing::Last => (false, true),
+        _ => panic!("{missing:?}"),
+    };
+    let rise = u32::from(first);
+    let parts = tables.pred_starts.windows(2).zip(0..);
+    let edges = parts.flat_map(|(part, task)| {
+        let preds = tables.preds[part[0] as usize..part[1] as usize].iter();
+        preds.map(move |pred| (pred.number() + rise, task + rise))
+    });
+    let zeros = |count: bool| vec![0; usize::from(count)];
+    Tables::from_edges([zeros(first), tables.weights.clone(), zeros(last)].concat(), edges)
+}
+
+/// 14: what is missing is what saving needs, and no more; where there is no room for it the job has to be split.
+#[test]
+fn dummies_added() {
+    let chain = |tasks: u32, first: u32, last: u32| {
+        let mut weights = vec![1; tasks as usize];
+        weights.iter_mut().last().into_iter().for_each(|weight| *weight = last);
+        weights.iter_mut().take(1).for_each(|weight| *weight = first);
+        Tables::from_edges(weights, (1..tasks).map(|task| (task - 1, task)))
+    };
+    let back = Tables::from_edges([0, 0], [(1, 0)]);
+    for (tables, said) in [
+        (Tables::default(), Missing::Both),
+        (chain(1, 0, 0), Missing::Last),
+        (chain(1, 1, 1), Missing::Both),
+        (chain(2, 1, 0), Missing::First),
+        (back, Missing::First),
+        (chain(5, 0, 1), Missing::Last),
+        (chain(5, 1, 1), Missing::Both),
+        (chain(1_022, 1, 1), Missing::Both),
+        (chain(1_023, 1, 0), Missing::First),
+        (chain(1_023, 0, 1), Missing::Last),
+    ] {
+        let Err(Refusal::NoDummies { missing, .. }) = tables.to_text() else {
+            panic!("it is saved");
+        };
+        assert_eq!(missing, said);
+        assert!(with_dummies(&tables, missing).to_text().is_ok());
+    }
+    for tables in [chain(1_023, 1, 1), chain(1_024, 1, 0), chain(1_024, 0, 1)] {
+        let refusal = tables.to_text().unwrap_err();
+        assert!(matches!(
+            refusal,
+            Refusal::NoDummies {
+                missing: Missing::TooMany,
+                ..
+            }
+        ));
+        assert!(refusal.advice().starts_with("split the job: "));
+    }
+    assert!(chain(1_024, 0, 0).to_text().is_ok());
+    // the number that the advice names
+    assert_eq!(limits::MAX_TASKS - 2, 1_022);
+}
+
 /// Before begin there is something better to do than to report it.
 #[test]
 fn begin_first() {
+    let mut job = Job::from_tables(Tables::from_edges([1, 1], [(0, 1)]), 1, 2);
+    assert_eq!(job.fetch(WorkerId::new(0)), Err(Refusal::NotBegun));
+    let successors = job.lookup(Side::Successors, TaskId::new(0)).unwrap_err();
+    assert_eq!(successors.advice(), "begin first.");
     let task = TaskId::new(1);
     for refusal in [Refusal::NotBegun, Refusal::NoSuccessorsYet { task }] {
         assert_eq!(refusal.advice(), "begin first.");

@@ -440,7 +440,7 @@ fn number_14() {
     };
     let refused = |tables: Tables, lack: Lack, why: &str| {
         let refusal = tables.to_text().unwrap_err();
-        assert_eq!(refusal, Refusal::NoDummies { lack });
+        assert!(matches!(refusal, Refusal::NoDummies { lack: found, .. } if found == lack));
         assert_says(refusal, 14, 0, &format!("the tables lack a text's dummies: {why}"));
     };
     let none = "there are 0 tasks, and a text has at least 2";

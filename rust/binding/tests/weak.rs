@@ -309,6 +309,9 @@ fn a_first_copy_becomes_a_later_one() -> Result<(), Refusal> {
                 the task, only of the worker that it is fixed to.";
     assert!(first.advice().contains(said), "{}", first.advice());
     assert!(!later.advice().contains("any one worker"));
+    let itself = "If that is the refused worker itself, it starts and completes what it has fetched before it fetches or \
+                  releases again.";
+    assert!(later.advice().contains(itself));
 
     // what is left for worker 1 doesn't help, and worker 0 makes room with P accepted Fetches of its own
     assert_eq!(work(&mut job, one)?, "5·0");

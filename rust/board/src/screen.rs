@@ -14,7 +14,7 @@ pub const COLUMNS: usize = 80;
 /// The least height that a frame fits into.
 pub const MIN_ROWS: usize = 24;
 /// The lines under the last rule: keys, dialog or panel. As many as the longest answer has, so that nothing moves.
-const PANEL: usize = 8;
+const PANEL: usize = 9;
 /// Where the list of rings begins in a lane's line.
 const RINGS: usize = 46;
 /// Where the completed tasks begin in their line.

@@ -81,7 +81,8 @@ fn what_to_do() {
     assert!(line(&[DIAMOND, "17", "4"]).ends_with(". To do: choose from 1 to 16 workers."));
     assert!(line(&[DIAMOND, "2", "1"]).ends_with(". To do: choose from 2 to 64 slots."));
     let large = scratch("large.stg", "1023\n");
-    assert!(line(&[&large, "2", "4"]).ends_with(". To do: the job is too large, and has to be split."));
+    let by_n = ". To do: correct the line with n if it is wrong; else the job is too large, and has to be split.";
+    assert!(line(&[&large, "2", "4"]).ends_with(by_n));
     let wrong = scratch("wrong.stg", "4\n0 0 0\n1 5 1 0\n2 3 1 0\n3 0 2 1 2\n");
     let told = line(&[&wrong, "2", "4"]);
     assert!(told.contains(": refused 13, detail 6: the text ends too early: n is 4, so 6 task lines have to follow, "));
