@@ -370,7 +370,7 @@ static inline const char *yolluvek_advice(uint32_t number)
         return "find the way from that task through predecessors back to it. One of these edges is wrong.";
     case YOLLUVEK_TOO_MANY_ROOTS:
         return "use more workers or more slots, or give some of the roots a common predecessor. A preview has room for "
-               "32 roots at most, the engine for all.";
+               "32 roots at most, with 4 workers and 8 slots; the engine for all, with 16 workers and 64 slots.";
     case YOLLUVEK_NO_SUCH_WORKER:
         return "choose another worker.";
     case YOLLUVEK_WRONG_PHASE:
@@ -490,8 +490,12 @@ static inline const uint32_t *yolluvek_bad_predecessor(
 static inline const char *yolluvek_table_advice(
     size_t n, const uint32_t *pred_starts, const uint32_t *preds, size_t e, uint32_t detail)
 {
-    if (yolluvek_bad_predecessor(n, pred_starts, preds, e, detail) != NULL) {
-        return "correct that predecessor, or add the task. The reader takes any number there; begin judges it.";
+    const uint32_t *bad = yolluvek_bad_predecessor(n, pred_starts, preds, e, detail);
+    if (bad != NULL) {
+        return *bad >= YOLLUVEK_MAX_TASKS
+                   ? "correct that predecessor. The reader takes any number there; begin judges it."
+                   : "correct that predecessor, or add all tasks up to it; in a text, raise n too. The reader takes any "
+                     "number there; begin judges it.";
     }
     if (detail == n && pred_starts[0] == 0 && pred_starts[n] < e) {
         return "look for an edge that leads to a task that isn't there, or for a start that was filled wrongly.";
@@ -640,18 +644,28 @@ static inline size_t yolluvek_digits(const char *mark, const char *end)
     return number;
 }
 
-/* The n of a text, the number that its first line begins with, blank lines and comments left out; 0 where there is none. */
-static inline size_t yolluvek_text_n(const void *text, size_t length)
+/* The first line of a text that is neither blank nor a comment; both 0 where there is none. */
+typedef struct {
+    uint32_t line; /* counted from 1 */
+    size_t n;      /* the number that it begins with */
+} yolluvek_text_head;
+
+static inline yolluvek_text_head yolluvek_text_begins(const void *text, size_t length)
 {
+    yolluvek_text_head head = {0, 0};
     const char *line = length == 0 ? "" : (const char *)text, *end = line + length;
+    uint32_t lines = 0;
     while (line < end) {
         const char *stop = yolluvek_line_end(line, end), *first = yolluvek_field(line, stop, 0);
+        lines++;
         if (first < stop && *first != '#') {
-            return yolluvek_digits(first, stop);
+            head.line = lines;
+            head.n = yolluvek_digits(first, stop);
+            return head;
         }
         line = stop < end ? stop + 1 : end;
     }
-    return 0;
+    return head;
 }
 
 /* Of a text that is refused with 13, whether it ends too early; then how many task lines there have to be and are. */
@@ -697,7 +711,7 @@ static inline const char *yolluvek_text_advice(const void *text, size_t length, 
             return "leave out comments, blank lines, spare spaces and zeros. If it is a job's text, and too long without "
                    "them, the job is too large, and has to be split.";
         }
-        return yolluvek_text_n(text, length) + 2 > YOLLUVEK_MAX_TASKS
+        return yolluvek_text_begins(text, length).n + 2 > YOLLUVEK_MAX_TASKS
                    ? "correct the line with n if it is wrong; else the job is too large, and has to be split."
                    : "the job is too large, and has to be split.";
     }
@@ -709,6 +723,9 @@ static inline const char *yolluvek_text_advice(const void *text, size_t length, 
         if (ends.early) {
             return ends.other ? "correct the line with n, or add the task lines that are missing."
                               : "add the task lines that are missing. If n is wrong, correct it first.";
+        }
+        if (yolluvek_text_begins(text, length).line == detail) {
+            return "this line has to be n alone, the number of tasks besides the dummies.";
         }
     }
     return yolluvek_advice(number);

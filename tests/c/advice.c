@@ -215,7 +215,11 @@ static void lookups(void)
     no_lookup(&job, YOLLUVEK_SUCCESSORS, 99, "choose another task.");
     no_lookup(&job, YOLLUVEK_SUCCESSORS, 1, "begin first.");
     no_lookup(&job, YOLLUVEK_PREDECESSORS, 1,
-              "correct that predecessor, or add the task. The reader takes any number there; begin judges it.");
+              "correct that predecessor, or add all tasks up to it; in a text, raise n too. The reader takes any number "
+              "there; begin judges it.");
+    job.preds[0] = 1024;
+    no_lookup(&job, YOLLUVEK_PREDECESSORS, 1,
+              "correct that predecessor. The reader takes any number there; begin judges it.");
     job.pred_starts[2] = 2;
     no_lookup(&job, YOLLUVEK_PREDECESSORS, 1, "report it.");
     job.pred_starts[2] = 1;
@@ -241,7 +245,8 @@ static void early(const char *text, size_t expected, size_t found, int other, co
 
 static void texts(void)
 {
-    static const char line[] = "2\n0 0 0\n1 5 2 0\n2 3 1 0\n3 0 2 1 2\n", many[] = "# images\n\n 1023\n";
+    static const char line[] = "2\n0 0 0\n1 5 2 0\n2 3 1 0\n3 0 2 1 2\n", many[] = "# images\n\n 1023\n",
+                      shared[] = "# images\n2 0\n0 0 0\n1 0 0\n";
     static char blank[YOLLUVEK_MAX_TEXT + 1];
     yolluvek_read_reply reply = yolluvek_tables_read(&tables, line, strlen(line));
     early("", 0, 0, 0, "put n first");
@@ -255,6 +260,9 @@ static void texts(void)
     CHECK(!yolluvek_text_ends(line, strlen(line), reply.detail).early);
     CHECK(says(yolluvek_text_advice(line, strlen(line), reply.number, reply.detail), "look in that line"));
 
+    reply = yolluvek_tables_read(&tables, shared, strlen(shared));
+    CHECK(reply.number == YOLLUVEK_BAD_LAYOUT && reply.detail == 2);
+    CHECK(says(yolluvek_text_advice(shared, strlen(shared), reply.number, reply.detail), "this line has to be n alone"));
     reply = yolluvek_tables_read(&tables, many, strlen(many));
     CHECK(reply.number == YOLLUVEK_BEYOND_LIMIT);
     CHECK(says(yolluvek_text_advice(many, strlen(many), reply.number, reply.detail), "correct the line with n if"));

@@ -118,7 +118,7 @@ static void cases(void)
 {
     static const size_t many = YOLLUVEK_MAX_TASKS + 1;
     static const uint32_t heavy[] = {YOLLUVEK_MAX_WEIGHT + 1};
-    static const uint32_t starts[] = {0, 1}, none[] = {0, 0}, preds[] = {9, 9}, light[YOLLUVEK_MAX_TASKS] = {0};
+    static const uint32_t starts[] = {0, 1}, none[] = {0, 0}, preds[] = {9, 9}, far[] = {1024}, light[YOLLUVEK_MAX_TASKS] = {0};
     static const char early[] = "2\n0 0 0\n1 5 1 0\n", other[] = "2\n0 0 0\n1 0 1 0\n";
     uint32_t run[2] = {0, UINT32_MAX};
     yolluvek_job job;
@@ -148,7 +148,9 @@ static void cases(void)
     cell(yolluvek_lookup_advice(&job, YOLLUVEK_SUCCESSORS, YOLLUVEK_BAD_TABLE, 0));
     job.n = many;
     cell(yolluvek_lookup_advice(&job, YOLLUVEK_PREDECESSORS, YOLLUVEK_BEYOND_LIMIT, 0));
+    cell(yolluvek_text_advice("2 0", 3, YOLLUVEK_BAD_LAYOUT, 1));
     cell(yolluvek_table_advice(1, starts, preds, 1, 0));
+    cell(yolluvek_table_advice(1, starts, far, 1, 0));
     cell(yolluvek_table_advice(1, starts, preds, 2, 1));
     cell(yolluvek_table_advice(1, starts, preds, 0, 0));
     cell(yolluvek_dummies_advice(NULL, 0, starts));

@@ -1,6 +1,7 @@
 //! What is wrong in a table's part or at its ends.
 
 use crate::ids::TaskId;
+use crate::limits::MAX_TASKS;
 use crate::tables::Tables;
 
 /// What is wrong in a task's part of the predecessor table, or at the table's ends; the first fault of several.
@@ -61,8 +62,12 @@ impl Fault {
     /// What an operator does about it: the cells of docs/REFUSALS.md.
     pub(crate) const fn advice(&self) -> &'static str {
         match self {
+            Fault::Predecessor { number, .. } if number.number() as usize >= MAX_TASKS => {
+                "correct that predecessor. The reader takes any number there; begin judges it."
+            }
             Fault::Predecessor { .. } => {
-                "correct that predecessor, or add the task. The reader takes any number there; begin judges it."
+                "correct that predecessor, or add all tasks up to it; in a text, raise n too. The reader takes any number \
+                 there; begin judges it."
             }
             Fault::LastStart { .. } => {
                 "look for an edge that leads to a task that isn't there, or for a start that was filled wrongly."

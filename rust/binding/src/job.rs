@@ -58,7 +58,7 @@ pub enum Side {
 ///
 /// | [`Refusal`] | of | means |
 /// |---|---|---|
-/// | [`BadLayout`](Refusal::BadLayout), [`TextEnds`](Refusal::TextEnds) | a text | it isn't laid out as the Standard Task Graph Set, from this line on |
+/// | [`BadLayout`](Refusal::BadLayout), [`BadFirstLine`](Refusal::BadFirstLine), [`TextEnds`](Refusal::TextEnds) | a text | it isn't laid out as the Standard Task Graph Set, from this line on |
 /// | [`BeyondLimit`](Refusal::BeyondLimit) | a text, begin | a size, a weight, the number of workers or of slots, or the text is beyond its limit: see [`limits`](crate::limits) |
 /// | [`WrongLength`](Refusal::WrongLength), [`BadPart`](Refusal::BadPart), [`BadEnds`](Refusal::BadEnds), [`PredecessorTwice`](Refusal::PredecessorTwice), [`Cycle`](Refusal::Cycle) | begin | the tables are no task graph |
 /// | [`TooManyRoots`](Refusal::TooManyRoots) | begin | more workers or slots are needed |

@@ -33,7 +33,7 @@ use std::fmt;
 /// | 11 | [`NoRoom`](Refusal::NoRoom) | Release |
 /// | 11 | [`NoRoomForFirst`](Refusal::NoRoomForFirst), [`RingFull`](Refusal::RingFull) | Release of a weak job |
 /// | 12 | [`RecordFull`](Refusal::RecordFull) | none |
-/// | 13 | [`BadLayout`](Refusal::BadLayout), [`TextEnds`](Refusal::TextEnds) | reading |
+/// | 13 | [`BadLayout`](Refusal::BadLayout), [`BadFirstLine`](Refusal::BadFirstLine), [`TextEnds`](Refusal::TextEnds) | reading |
 /// | 14 | [`NoDummies`](Refusal::NoDummies) | saving |
 /// | 15 | [`BadWindow`](Refusal::BadWindow) | load windows |
 ///
@@ -172,6 +172,11 @@ pub enum Refusal {
     /// 13: the text breaks the layout.
     BadLayout {
         /// The line, counted from 1.
+        line: u32,
+    },
+    /// 13: the first line that counts, which is neither blank nor a comment, isn't n alone.
+    BadFirstLine {
+        /// That line, counted from 1.
         line: u32,
     },
     /// 13: the text ends too early.
@@ -451,7 +456,7 @@ impl Refusal {
             Refusal::NothingToFetch | Refusal::NothingToRelease => 10,
             Refusal::NoRoom { .. } | Refusal::NoRoomForFirst { .. } | Refusal::RingFull { .. } => 11,
             Refusal::RecordFull => 12,
-            Refusal::BadLayout { .. } | Refusal::TextEnds { .. } => 13,
+            Refusal::BadLayout { .. } | Refusal::BadFirstLine { .. } | Refusal::TextEnds { .. } => 13,
             Refusal::NoDummies { .. } => 14,
             Refusal::BadWindow { .. } => 15,
             Refusal::Unknown { number, .. } => number,
@@ -486,7 +491,7 @@ impl Refusal {
             Refusal::BadEnds { tasks: count, .. } | Refusal::TooManyRoots { roots: count, .. } => count as u32,
             Refusal::NoSuchWorker { worker, .. } => worker.number(),
             Refusal::WrongPhase { phase } => phase.number(),
-            Refusal::BadLayout { line } | Refusal::TextEnds { line, .. } => line,
+            Refusal::BadLayout { line } | Refusal::BadFirstLine { line } | Refusal::TextEnds { line, .. } => line,
             Refusal::Unknown { detail, .. } => detail,
         }
     }
@@ -508,7 +513,12 @@ impl Refusal {
             Refusal::BeyondLimit { limit } => limit.advice(),
             Refusal::BeyondPreview { limit } => limit.preview_advice(),
             Refusal::BadPart { fault, .. } | Refusal::BadEnds { fault, .. } => fault.advice(),
-            Refusal::BadEdge { .. } => "correct that edge, or add the task.",
+            Refusal::BadEdge { from, to, .. }
+                if from.number() as usize >= MAX_TASKS || to.number() as usize >= MAX_TASKS =>
+            {
+                "correct that edge."
+            }
+            Refusal::BadEdge { .. } => "correct that edge, or add all tasks up to the one that isn't there.",
             Refusal::NoSuchTask { .. } => "choose another task.",
             Refusal::NoRoom { .. } => {
                 "let a worker fetch, then release again. The refused worker can fetch itself, since a ring that it owns is \
@@ -531,6 +541,7 @@ impl Refusal {
                  digits or over 65,535, a mark other than digits, spaces and tabs, a time at the first or last task, a \
                  predecessor at task 0, or a line after the last task. Which task is the last one, the line with n says."
             }
+            Refusal::BadFirstLine { .. } => "this line has to be n alone, the number of tasks besides the dummies.",
             Refusal::TextEnds { expected: None, .. } => "put n first, then a line for each of n + 2 tasks.",
             Refusal::TextEnds { whole: Some(_), .. } => {
                 "correct the line with n, or add the task lines that are missing."
@@ -568,7 +579,7 @@ const fn advice_on(number: u32) -> &'static str {
         5 => "find the way from that task through predecessors back to it. One of these edges is wrong.",
         6 => {
             "use more workers or more slots, or give some of the roots a common predecessor. A preview has room for 32 \
-             roots at most, the engine for all."
+             roots at most, with 4 workers and 8 slots; the engine for all, with 16 workers and 64 slots."
         }
         7 => "choose another worker.",
         9 => "take a step that suits, or choose another worker.",
@@ -666,6 +677,9 @@ impl fmt::Display for Refusal {
                 to.write_str("the record is full: every task, or every copy of a weak job, is recorded already")
             }
             Refusal::BadLayout { line } => write!(to, "the text breaks the layout in line {line}"),
+            Refusal::BadFirstLine { line } => {
+                write!(to, "the text breaks the layout in line {line}, which isn't n alone")
+            }
             Refusal::TextEnds {
                 expected, found, whole, ..
             } => text_ends(to, *expected, *found, *whole),

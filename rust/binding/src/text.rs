@@ -26,6 +26,7 @@ pub(crate) fn layout_refused(text: &[u8], line: u32) -> Refusal {
     let open = text.last().is_some_and(|&mark| mark != b'\n');
     match line as usize > ended + usize::from(open) {
         true => ended_early(text, line),
+        false if lines(text).next().is_some_and(|(first, _)| first == line) => Refusal::BadFirstLine { line },
         false => Refusal::BadLayout { line },
     }
 }

@@ -77,6 +77,13 @@ fn preview_limits() -> [Limit; 4] {
 fn by_case() -> Vec<Refusal> {
     let (task, number) = (TaskId::new(1), TaskId::new(2));
     let (tasks, start, edges) = (2, 1, 3);
+    let far = TaskId::new(limits::MAX_TASKS as u32);
+    let edge = |from, to| Refusal::BadEdge {
+        place: 0,
+        from,
+        to,
+        tasks,
+    };
     let limits = [
         Limit::Tasks { tasks: 1_025 },
         Limit::Edges { edges: 8_193 },
@@ -95,12 +102,13 @@ fn by_case() -> Vec<Refusal> {
             task,
             fault: Fault::Predecessor { number, tasks },
         },
-        Refusal::BadEdge {
-            place: 0,
-            from: task,
-            to: number,
-            tasks,
+        Refusal::BadPart {
+            task,
+            fault: Fault::Predecessor { number: far, tasks },
         },
+        edge(task, number),
+        edge(task, far),
+        edge(far, task),
         Refusal::BadEnds {
             tasks,
             fault: Fault::LastStart {
@@ -128,6 +136,7 @@ fn by_case() -> Vec<Refusal> {
             owner: WorkerId::new(0),
         },
     ]);
+    all.push(Refusal::BadFirstLine { line: 1 });
     all.extend(
         [(Some(4), Some(0)), (Some(4), None), (None, None)].map(|(expected, whole)| Refusal::TextEnds {
             line: 4,
@@ -187,7 +196,12 @@ fn the_numbers_are_the_limits() {
     let room = limits::PREVIEW_MAX_WORKERS * limits::PREVIEW_MAX_SLOTS;
     let roots = Refusal::TooManyRoots { roots: 40, room }.advice();
     assert!(roots.contains(&format!(
-        "A preview has room for {room} roots at most, the engine for all."
+        "A preview has room for {room} roots at most, with {} workers and {} slots; the engine for all, with {} workers and \
+         {} slots.",
+        limits::PREVIEW_MAX_WORKERS,
+        limits::PREVIEW_MAX_SLOTS,
+        limits::MAX_WORKERS,
+        limits::MAX_SLOTS
     )));
     assert!(limits::MAX_WORKERS * limits::MAX_SLOTS >= limits::MAX_TASKS);
 }
@@ -353,6 +367,36 @@ fn dummies_added() {
     assert!(chain(1_024, 0, 0).to_text().is_ok());
     // the number that the advice names
     assert_eq!(limits::MAX_TASKS - 2, 1_022);
+}
+
+/// The first line that counts has to be n alone; of another one the whole list is said.
+#[test]
+fn n_alone() {
+    for (text, line) in [
+        ("2 0\n0 0 0\n", 1),
+        ("# images\n\nn\n", 3),
+        ("123456", 1),
+        ("65536\n", 1),
+    ] {
+        let refusal = Tables::from_text(text.as_bytes()).unwrap_err();
+        assert_eq!(refusal, Refusal::BadFirstLine { line });
+        assert!(refusal.to_string().ends_with(", which isn't n alone"));
+    }
+    let second = Tables::from_text(b"0\n0 0\n1 0 0\n").unwrap_err();
+    assert_eq!(second, Refusal::BadLayout { line: 2 });
+}
+
+/// A predecessor that is no task: with all tasks up to it, and a larger n, the text is begun.
+#[test]
+fn tasks_added_up_to_a_predecessor() {
+    let begun = |text: &str| Job::from_text(text.as_bytes(), 2, 4).and_then(|mut job| job.begin());
+    let refusal = begun("1\n0 0 0\n1 5 1 4\n2 0 1 1\n").unwrap_err();
+    assert!(refusal
+        .advice()
+        .starts_with("correct that predecessor, or add all tasks up to it; in a text, raise n too."));
+    assert_eq!(begun("3\n0 0 0\n1 5 1 4\n2 0 1 1\n3 0 0\n4 0 0\n"), Ok(()));
+    let far = begun("1\n0 0 0\n1 5 1 1024\n2 0 1 1\n").unwrap_err();
+    assert!(far.advice().starts_with("correct that predecessor. "));
 }
 
 /// Before begin there is something better to do than to report it.

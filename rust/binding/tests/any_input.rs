@@ -86,7 +86,10 @@ fn read(text: &[u8]) -> Result<Tables, Refusal> {
             assert_eq!((refusal.number(), refusal.detail()), (expected.number, expected.detail));
             assert!(matches!(
                 refusal,
-                Refusal::BeyondLimit { .. } | Refusal::BadLayout { .. } | Refusal::TextEnds { .. }
+                Refusal::BeyondLimit { .. }
+                    | Refusal::BadLayout { .. }
+                    | Refusal::BadFirstLine { .. }
+                    | Refusal::TextEnds { .. }
             ));
         }
         _ => panic!("{found:?}, where the model has {expected:?}"),

@@ -309,7 +309,8 @@ fn a_first_copy_becomes_a_later_one() -> Result<(), Refusal> {
                 the task, only of the worker that it is fixed to.";
     assert!(first.advice().contains(said), "{}", first.advice());
     assert!(!later.advice().contains("any one worker"));
-    let itself = "If that is the refused worker itself, it starts and completes what it has fetched before it fetches or \
+    let itself =
+        "If that is the refused worker itself, it starts and completes what it has fetched before it fetches or \
                   releases again.";
     assert!(later.advice().contains(itself));
 
