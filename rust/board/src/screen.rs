@@ -320,3 +320,27 @@ fn stepped_back(last: Option<(Step, WorkerId)>) -> Vec<String> {
     };
     lines(&[&told, "Escape closes"])
 }
+
+#[cfg(test)]
+mod tests {
+    use super::*;
+    use yolluvek::Refusal;
+
+    /// The longest answers, with the longest numbers: the panel has their lines, and no more.
+    #[test]
+    fn the_panel_is_as_long_as_the_longest_answer() {
+        let (task, owner) = (TaskId::new(1_023), WorkerId::new(15));
+        let full = [
+            Refusal::NoRoom { task },
+            Refusal::NoRoomForFirst { task },
+            Refusal::RingFull { task, owner },
+        ];
+        let lines = full.map(|refusal| {
+            let [meaning, to_do] =
+                [&*refusal.to_string(), refusal.advice()].map(|text| paragraph("Meaning  ", text).len());
+            // the words that differ, and the key that closes
+            meaning + to_do + 2
+        });
+        assert_eq!(lines.into_iter().max(), Some(PANEL), "{lines:?}");
+    }
+}
