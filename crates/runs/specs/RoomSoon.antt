@@ -54,7 +54,7 @@ pub record RoomSoon : Type 0 where
       → (further : List Call) → _≡_ {A = ℕ} (begins further (memoryOf r)) 0 → _≡_ {A = ℕ} (releases plain i further (memoryOf r)) 0
       → (owner : ℕ) → owner < r .workers → r .workers ≤ fetches owner further (memoryOf r)
       → (limits′ : Limits) → KeptBy limits′ (viewOf r) → WouldPlace limits′ (longer r further) i t
-  -- "The refused worker can fetch itself, since a ring that it owns is full.": it is idle, and every idle worker's Fetch would be accepted
+  -- "The refused worker can fetch itself, since a ring that it owns is full": it is idle, and every idle worker's Fetch would be accepted
   pub refusedIdle : (r : Run) (limits : Limits) (i t : ℕ) → releaseAnswer limits r i ≡ refused ringsFull t → _≡_ {A = ℕ} (rowIn (memoryOf r) i .phase) 0
   pub canFetch : (r : Run) (limits : Limits) (i t : ℕ) → releaseAnswer limits r i ≡ refused ringsFull t
       → (owner : ℕ) → owner < r .workers → _≡_ {A = ℕ} (rowIn (memoryOf r) owner .phase) 0
