@@ -65,7 +65,7 @@ module _ {F : Family} where
   beginRows limits p k m =
       -- 2: "N, E, P, K or (begin) a weight beyond its limit"
       row beyondLimit (only 0 ((BeyondPK limits p k ⊎ Beyond limits (tasks m) (edges m)) ⊎ Heavy (m .weights)))
-      -- 1: "a lent length isn't the stated one"
+      -- 1: "a lent length isn't the stated one"; in figures, list by list: `lengths-stated` of each family (`proofs/Lengths.antt`)
       ∷ row wrongLength (only 0 (¬ (Lengths p k m)))
       -- (3, 4 and 5 are the rows of the graph's own check, `tableRows`)
       -- 3: "start t ≤ start t+1 ≤ E fails, or a predecessor ≥ N", "smallest such task"
@@ -105,7 +105,7 @@ module _ {F : Family} where
   headedRows limits p k i s m own =
       -- 2: "N, E, P, K .. beyond its limit"
       row beyondLimit (only 0 (BeyondPK limits p k ⊎ Beyond limits (tasks m) (edges m)))
-      -- 1: "a lent length isn't the stated one"
+      -- 1: "a lent length isn't the stated one"; in figures, list by list: `lengths-stated` of each family (`proofs/Lengths.antt`)
       ∷ row wrongLength (only 0 (¬ (Lengths p k m)))
       -- 7: "worker ≥ P", "that number"
       ∷ row noSuchWorker (only i (p ≤ i))
