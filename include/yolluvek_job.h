@@ -644,6 +644,25 @@ static inline size_t yolluvek_digits(const char *mark, const char *end)
     return number;
 }
 
+/*
+ * The next line from `*line` on that is neither blank nor a comment: its first mark, NULL where there is none. `*stop` is its end, `*line` the
+ * line after it, and `*lines` has counted all lines up to it.
+ */
+static inline const char *yolluvek_next_line(const char **line, const char *end, const char **stop, uint32_t *lines)
+{
+    while (*line < end) {
+        const char *first;
+        *stop = yolluvek_line_end(*line, end);
+        first = yolluvek_field(*line, *stop, 0);
+        *line = *stop < end ? *stop + 1 : end;
+        ++*lines;
+        if (first < *stop && *first != '#') {
+            return first;
+        }
+    }
+    return NULL;
+}
+
 /* The first line of a text that is neither blank nor a comment; both 0 where there is none. */
 typedef struct {
     uint32_t line; /* counted from 1 */
@@ -653,17 +672,12 @@ typedef struct {
 static inline yolluvek_text_head yolluvek_text_begins(const void *text, size_t length)
 {
     yolluvek_text_head head = {0, 0};
-    const char *line = length == 0 ? "" : (const char *)text, *end = line + length;
+    const char *line = length == 0 ? "" : (const char *)text, *end = line + length, *stop;
     uint32_t lines = 0;
-    while (line < end) {
-        const char *stop = yolluvek_line_end(line, end), *first = yolluvek_field(line, stop, 0);
-        lines++;
-        if (first < stop && *first != '#') {
-            head.line = lines;
-            head.n = yolluvek_digits(first, stop);
-            return head;
-        }
-        line = stop < end ? stop + 1 : end;
+    const char *first = yolluvek_next_line(&line, end, &stop, &lines);
+    if (first != NULL) {
+        head.line = lines;
+        head.n = yolluvek_digits(first, stop);
     }
     return head;
 }
@@ -679,21 +693,16 @@ typedef struct {
 static inline yolluvek_text_end yolluvek_text_ends(const void *text, size_t length, uint32_t detail)
 {
     yolluvek_text_end ends = {0, 0, 0, 0};
-    const char *line = length == 0 ? "" : (const char *)text, *end = line + length;
+    const char *line = length == 0 ? "" : (const char *)text, *end = line + length, *stop, *first;
     uint32_t lines = 0;
-    while (line < end) {
-        const char *stop = yolluvek_line_end(line, end), *first = yolluvek_field(line, stop, 0);
-        lines++;
-        if (first < stop && *first != '#') {
-            const char *time = yolluvek_field(line, stop, 1);
-            if (ends.expected == 0) {
-                ends.expected = yolluvek_digits(first, stop) + 2;
-            } else {
-                ends.found++;
-                ends.other = ends.found >= 2 && time < stop && yolluvek_digits(time, stop) == 0;
-            }
+    while ((first = yolluvek_next_line(&line, end, &stop, &lines)) != NULL) {
+        if (ends.expected == 0) {
+            ends.expected = yolluvek_digits(first, stop) + 2;
+        } else {
+            const char *time = yolluvek_field(first, stop, 1);
+            ends.found++;
+            ends.other = ends.found >= 2 && time < stop && yolluvek_digits(time, stop) == 0;
         }
-        line = stop < end ? stop + 1 : end;
     }
     ends.early = detail > lines;
     if (!ends.early) {
