@@ -1,5 +1,7 @@
 // What is judged before a call's own rule: the numbers and the lengths of the lent lists (2, 1), and for a step the worker (7), the
 // phase word (8) and whether the step suits it (9).
+#![tactic(auto)]
+
 ghost use Rattle.std.specs.Prelude.{◌≡◌, ◌≤◌};
 ghost use Rattle.task.specs.Types.{engine};
 ghost use Rattle.rules.specs.Memory.{Mem};
@@ -10,7 +12,7 @@ ghost use Rattle.admission.specs.Admission.{sizes_of, Judges, Knows, Admits, ans
 use task::{Limits, Next, Row, Step, StepAnswer, StepOutcome, WorkerId, refusal};
 
 // The lengths of the lent lists.
-#[derive(Drop)]
+#[derive(Clone, Copy)]
 pub struct Sizes {
     pub weights: usize,
     pub pred_starts: usize,
@@ -62,7 +64,7 @@ pub fn lengths_fit(sizes: Sizes, p: usize, k: usize) -> bool
 }
 
 // The numbers, all lengths and the worker are as they must be, or the refusal.
-#[derive(Drop)]
+#[derive(Clone, Copy)]
 pub enum Judged {
     Fit,
     Refused(u32, u32),
@@ -86,7 +88,7 @@ pub fn judge(limits: Limits, sizes: Sizes, p: usize, k: usize, worker: WorkerId)
 }
 
 // Refused, or the phase that a step leads to.
-#[derive(Drop)]
+#[derive(Clone, Copy)]
 pub enum Phased {
     Refused(u32, u32),
     To(u32),
@@ -107,7 +109,7 @@ pub fn phase_after(phase: u32, step: Step) -> Phased
 }
 
 // Refused, or the worker's row in the phase that the step leads to.
-#[derive(Drop)]
+#[derive(Clone, Copy)]
 pub enum Admitted {
     Refused(u32, u32),
     To(Row),
@@ -139,7 +141,7 @@ pub fn admit(judged: Judged, row: Row, step: Step) -> Admitted
 }
 
 // A step's end: refused, or its outcome and the worker's row after it.
-#[derive(Drop)]
+#[derive(Clone, Copy)]
 pub enum Stepped {
     Refused(u32, u32),
     Taken(StepOutcome, Row),

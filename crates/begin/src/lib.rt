@@ -1,4 +1,6 @@
 // Begin on the lent lists but the rows: judged from what is read, then everything is laid down.
+#![tactic(auto)]
+
 ghost use Rattle.rules.specs.Memory.{mem_of};
 ghost use Rattle.begin.specs.Begin.{Begins};
 
@@ -6,7 +8,7 @@ use admission::Sizes;
 use task::{Answer, Limits};
 
 // Begin's answer, and how many rows the caller has to clear: P, or 0 where it is refused.
-#[derive(Drop)]
+#[derive(Clone, Copy)]
 pub struct Begun {
     pub answer: Answer,
     pub rows: usize,

@@ -1,4 +1,6 @@
 // What begin is refused for: 2, 1, 3, 4, 5, 6 in order.
+#![tactic(auto)]
+
 ghost use Rattle.begin_check.specs.Judging.{Judges};
 
 use admission::Sizes;

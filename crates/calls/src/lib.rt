@@ -1,4 +1,6 @@
 // The engine's calls, made as the commands of a script ask for them, and their answers printed.
+#![tactic(auto)]
+
 use scripts::script::{Call, Command};
 use scripts::tell;
 use task::{Limits, RowCell, WorkerId};

@@ -6,7 +6,7 @@ use crate::read::Count;
 use crate::{read, show};
 
 // A text behind the line of its case, from one place to another, or a line that is no such case; and where the next line starts.
-#[derive(Drop)]
+#[derive(Clone, Copy)]
 pub struct Text {
     pub good: bool,
     pub from: usize,

@@ -2,14 +2,14 @@
 ghost use Rattle.std.specs.Prelude.{◌≡◌, ◌≤◌, ◌<◌, length};
 
 // The value that digits spell, and the place after them.
-#[derive(Drop)]
+#[derive(Clone, Copy)]
 struct Digits {
     value: u64,
     end: usize,
 }
 
 // A number of a line and the place after it; not good where no digit stands there, or it needs more than 32 bits.
-#[derive(Drop)]
+#[derive(Clone, Copy)]
 pub struct Number {
     pub good: bool,
     pub value: u32,
@@ -17,7 +17,7 @@ pub struct Number {
 }
 
 // How many numbers a line has; not good where something else stands in it, or there are too many.
-#[derive(Drop)]
+#[derive(Clone, Copy)]
 pub struct Count {
     pub good: bool,
     pub count: usize,

@@ -1,4 +1,6 @@
 // Complete: the held task's weight leaves the worker's own counter; the task joins the record, and the completed buffer if it has successors.
+#![tactic(auto)]
+
 ghost use Rattle.std.specs.Prelude.{◌≡◌, ◌+◌, ◌*◌, ◌≤◌, ◌<◌, length, set};
 ghost use Rattle.task.specs.Types.{engine};
 ghost use Rattle.task.specs.declared.StepOutcome.{StepOutcome};
@@ -12,7 +14,7 @@ use task::{Row, Step, StepOutcome, TaskId, WorkerId, refusal};
 
 // What Complete is to do: refused, or the held task joins the record, and the buffer where it is no sink; with the run words and the task's
 // weight as read.
-#[derive(Drop)]
+#[derive(Clone, Copy)]
 pub enum CompletePlan {
     Refused(u32, u32),
     Sink(u32, u32, u32),

@@ -1,6 +1,8 @@
 // Ranks of the tasks that stripping leaves, the same inside a component and falling along the edges between components:
 // Pearce's form of Tarjan's search, along the predecessors. Whoever takes them judges them, so nothing is proved of the
 // ranks; of the search, that it ends and stays inside its tables.
+#![tactic(auto)]
+
 ghost use Rattle.std.specs.Prelude.{◌≡◌, ℕ, ◌+◌, ◌≤◌, ◌<◌, length, get_or};
 ghost use Rattle.graph.specs.Graph.{graph_of};
 ghost use Rattle.graph.specs.Conditions.{Sound};
@@ -13,7 +15,7 @@ const MOST: u32 = 16384;
 const TOP: u32 = 65535;
 
 // Where the search stands: at a task, with the last of those that are left but in no component yet.
-#[derive(Drop)]
+#[derive(Clone, Copy)]
 struct Place {
     task: usize,
     last: usize,

@@ -1,4 +1,6 @@
 // Counters: whether they are in their range, a weight that joins or leaves one, and the target of a Release.
+#![tactic(auto)]
+
 ghost use Rattle.std.specs.Prelude.{◌≡◌, true, ◌+◌, ◌*◌, ◌≤◌, ◌<◌, length, get_or, set, pos, ◌+ℤ◌, ◌-ℤ◌};
 ghost use Rattle.std.specs.Int.Signed.{mag};
 ghost use Rattle.task.specs.Types.{engine};
@@ -51,7 +53,7 @@ fn add_counter(sum: i64, counter: i32) -> i64
 }
 
 // The sum of a worker's counters, which needs more than 32 bits, and whether all of them are in their range.
-#[derive(Drop)]
+#[derive(Clone, Copy)]
 struct Load {
     sum: i64,
     fits: bool,
@@ -76,7 +78,7 @@ fn load_of(counters: &[i32], p: usize, worker: WorkerId) -> Load
 }
 
 // A counter out of its range, or the worker with the least sum of its p counters.
-#[derive(Drop)]
+#[derive(Clone, Copy)]
 pub enum Choice {
     Damaged,
     Target(WorkerId),

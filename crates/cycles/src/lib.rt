@@ -1,5 +1,7 @@
 // The smallest task on a cycle: only where stripping leaves some tasks are they searched. Ranks of their components name
 // a task below which none is on a cycle, and that it reaches itself is looked up.
+#![tactic(auto)]
+
 ghost use Rattle.std.specs.Prelude.{◌≡◌, ◌↔◌, [], ◌∷◌, ℕ, ◌+◌, ◌≤◌, ◌<◌, length, get_or};
 ghost use Rattle.lists.specs.Decided.{holds};
 ghost use Rattle.lists.specs.Lists.{occ};
@@ -189,7 +191,7 @@ fn search(n: usize, starts: &[u32], preds: &[u32], left: &[u32]) -> usize
 }
 
 // What 5 is judged by: the smallest task on a cycle, or n; and how many tasks were stripped.
-#[derive(Drop)]
+#[derive(Clone, Copy)]
 pub struct Judged {
     pub first: usize,
     pub stripped: usize,

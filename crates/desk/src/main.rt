@@ -1,5 +1,7 @@
 // The desk program: reads a task text from standard input and prints its run with two workers and four slots. Where its input can't be
 // read to the end, nothing is judged; a failed read or write is told on standard error.
+#![tactic(auto)]
+
 fn main() {
     // one byte more than a text may have, so that a longer one is refused and not cut
     let mut text = [0u8; 65537];

@@ -5,6 +5,8 @@
 // t L          a text: its L bytes stand behind the line, and a line feed behind them
 //
 // Numbers are decimal, up to 32 bits, each behind one blank. A line that is none of these is printed as unreadable.
+#![tactic(auto)]
+
 use cases::{lines, read, show};
 
 // All that the desk program prints for a text.

@@ -2,6 +2,8 @@
 // through these; `engine_ref` has document 01's form. Each is lent all lists of a run and the numbers P and K, mutably what its rule
 // writes: the other lists keep their words by their type. 2, 1 and 7 come first; then the worker's row is read, the step taken by value,
 // and where it is accepted the words of the row that it changes are stored.
+#![tactic(auto)]
+
 ghost use Rattle.std.specs.Prelude.{◌≡◌};
 ghost use Rattle.task.specs.declared.Step.{Step};
 ghost use Rattle.rules.specs.Plans.{result_of};

@@ -1,4 +1,6 @@
 // The engine's begin with the worker rows as cells, six words each: the same memory as a list of `Row`.
+#![tactic(auto)]
+
 ghost use Rattle.std.specs.Prelude.{◌≡◌};
 ghost use Rattle.rules.specs.Begin.{begin};
 ghost use Rattle.rules.specs.Plans.{result_of};

@@ -1,5 +1,7 @@
 // What the engine's calls share, which lend the worker rows as cells, six words each: the same memory as a list of `Row`. The lengths of
 // all lent lists; the end of each step, which stores the words of the row that it changes.
+#![tactic(auto)]
+
 ghost use Rattle.std.specs.Prelude.{◌≡◌, ◌<◌, length, get_or};
 ghost use Rattle.task.specs.Types.{idle};
 ghost use Rattle.rows.specs.Rows.{rows_of};

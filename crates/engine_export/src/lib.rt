@@ -1,6 +1,8 @@
 // The engine for C and Rust: lists as pointer and length, all those of a run in document 01's order, then P, K and, for a step, the
 // worker. A row is lent as its cell of six words, the same memory as a `Row`. A call answers the number and the detail, 0 and 0 where it
 // accepts; a step answers its outcome too.
+#![tactic(auto)]
+
 ghost use Rattle.std.specs.Prelude.{◌≡◌};
 ghost use Rattle.task.specs.Types.{engine};
 ghost use Rattle.task.specs.declared.Step.{Step};

@@ -1,5 +1,7 @@
 // One of the engine's four steps by its name, for callers that choose it at run time, as the desk program does: what `engine` has as four
 // calls, lent mutably what any of them writes.
+#![tactic(auto)]
+
 ghost use Rattle.std.specs.Prelude.{◌≡◌};
 ghost use Rattle.rules.specs.Plans.{result_of};
 ghost use Rattle.rules.specs.Steps.{step};

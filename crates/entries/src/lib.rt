@@ -1,4 +1,6 @@
 // Entries of the execution record: (task, worker).
+#![tactic(auto)]
+
 ghost use Rattle.std.specs.Prelude.{◌≡◌, ◌+◌, ◌*◌, ◌<◌, length, get_or, set};
 
 use task::{TaskId, WorkerId};
@@ -12,7 +14,7 @@ pub fn put_entry(executed: &mut [u32], n: usize, task: TaskId, worker: WorkerId)
     executed[2 * n + 1] = worker.0;
 }
 
-#[derive(Drop)]
+#[derive(Clone, Copy)]
 pub struct Entry {
     pub task: TaskId,
     pub worker: WorkerId,

@@ -1,4 +1,6 @@
 // Fetch: everything is read and checked; then the task leaves its ring. Its weight and the counters are not read: they are not lent.
+#![tactic(auto)]
+
 ghost use Rattle.std.specs.Prelude.{◌≡◌, ◌+◌, ◌≤◌, length, set};
 ghost use Rattle.task.specs.declared.StepOutcome.{StepOutcome};
 ghost use Rattle.ring.specs.Ring.{store_ends, head_on};
@@ -14,7 +16,7 @@ use task::{Ends, Row, Step, StepOutcome, TaskId, WorkerId, refusal};
 
 // What Fetch is to do: refused; or the head of the ring that this worker fills is taken, whose head, tail and count follow, with the task there
 // and the accepted word, each as read.
-#[derive(Drop)]
+#[derive(Clone, Copy)]
 pub enum FetchPlan {
     Refused(u32, u32),
     Take(WorkerId, u32, u32, u32, TaskId, u32),

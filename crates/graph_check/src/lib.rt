@@ -1,4 +1,6 @@
 // The graph check that every call on a graph shares: 2, 1, 3, 4, 5 in order.
+#![tactic(auto)]
+
 ghost use Rattle.std.specs.Prelude.{◌≡◌, true, length};
 ghost use Rattle.graph.specs.Graph.{graph_of};
 ghost use Rattle.graph.specs.Conditions.{Sized};
@@ -9,7 +11,7 @@ ghost use Rattle.task.specs.declared.Answer.TheVariants.{Refused};
 use task::{Answer, Limits, refusal};
 
 // The answer, and how many tasks were stripped where 5 was judged.
-#[derive(Drop)]
+#[derive(Clone, Copy)]
 pub struct Checked {
     pub answer: Answer,
     pub stripped: usize,

@@ -1,5 +1,7 @@
 // The graph layer's calls for C and Rust: lists as pointer and length; each call answers the number and the detail, 0 and 0
 // where it accepts.
+#![tactic(auto)]
+
 ghost use Rattle.std.specs.Prelude.{◌≡◌, true, ◌+◌, ◌-◌, ◌≤◌, ◌<◌, length, get_or};
 ghost use Rattle.graph.specs.Check.{check_answer};
 ghost use Rattle.graph.specs.Successors.{linked};
@@ -89,7 +91,7 @@ pub extern "C" fn yolluvek_judge_lookup(
 
 // Where a lookup's part stands in the table on the side named, and how many neighbours it has; 0 and 0 where the lookup is refused.
 #[repr(C)]
-#[derive(Drop)]
+#[derive(Clone, Copy)]
 pub struct Part {
     pub place: u32,
     pub count: u32,

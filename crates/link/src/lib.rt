@@ -1,4 +1,6 @@
 // Check and fill in one call: where the graph is refused, nothing is written.
+#![tactic(auto)]
+
 ghost use Rattle.std.specs.Prelude.{◌≡◌};
 ghost use Rattle.graph.specs.Successors.{linked_of, linked};
 

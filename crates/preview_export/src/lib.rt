@@ -1,4 +1,6 @@
 // The preview for C and Rust: begin and the four steps of the engine, on the same lists, with the preview's limits. "Both call one core."
+#![tactic(auto)]
+
 ghost use Rattle.std.specs.Prelude.{◌≡◌};
 ghost use Rattle.task.specs.Types.{preview};
 ghost use Rattle.task.specs.declared.Step.{Step};

@@ -1,4 +1,6 @@
 // What the desk program prints, put into a lent buffer: each function puts its bytes at a place and answers the place behind them.
+#![tactic(auto)]
+
 ghost use Rattle.std.specs.Prelude.{◌+◌, ◌*◌, ◌≤◌, length};
 ghost use Rattle.desk_rule.specs.Printed.{pair_line};
 ghost use Rattle.desk_rule.specs.Output.{refused_line, entry_lines};

@@ -1,5 +1,7 @@
 // `begin` in document 01's form, lent all lists of a run, the worker rows as one list of records: the lists but the rows are laid down by
 // value, then so many rows are cleared as that says.
+#![tactic(auto)]
+
 ghost use Rattle.std.specs.Prelude.{◌≡◌};
 ghost use Rattle.rules.specs.Memory.{mem_of};
 ghost use Rattle.rules.specs.Begin.{begin};

@@ -1,5 +1,7 @@
 // `complete` in document 01's form, lent all lists of a run, the worker rows as one list of records: the worker's row is read, the step is
 // taken by value, and the row that is then the worker's is stored.
+#![tactic(auto)]
+
 ghost use Rattle.std.specs.Prelude.{◌≡◌};
 ghost use Rattle.task.specs.declared.Step.{Step};
 ghost use Rattle.rules.specs.Memory.{mem_of};

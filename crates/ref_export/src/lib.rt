@@ -1,5 +1,7 @@
 // The calls of `engine_ref` for C and Rust, for the tests that hold them to the model: the rows as one list of records, the rest as in
 // `engine_export`.
+#![tactic(auto)]
+
 ghost use Rattle.std.specs.Prelude.{◌≡◌};
 ghost use Rattle.task.specs.Types.{engine};
 ghost use Rattle.task.specs.declared.Step.{Step};

@@ -1,4 +1,6 @@
 // Release: the oldest completed task's successor at the cursor loses a degree; at zero it joins a ring.
+#![tactic(auto)]
+
 ghost use Rattle.std.specs.Prelude.{◌≡◌, ◌<◌, length};
 ghost use Rattle.rules.specs.Memory.{with_places};
 ghost use Rattle.admission.specs.Admission.{Knows};

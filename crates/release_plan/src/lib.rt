@@ -1,4 +1,6 @@
 // What Release reads before it writes: the successor at the cursor, and the owner whose ring takes it; so what it is to do.
+#![tactic(auto)]
+
 ghost use Rattle.std.specs.Prelude.{◌≡◌, ◌+◌, ◌*◌, ◌≤◌, ◌<◌, length};
 ghost use Rattle.task.specs.Types.{engine};
 ghost use Rattle.ring.specs.Ring.{end_words};
@@ -12,7 +14,7 @@ use searches::Found;
 use task::{Ends, Row, TaskId, WorkerId, refusal};
 
 // Refused, or the successor at the cursor, the completed task that it follows, and how many successors that one has.
-#[derive(Drop)]
+#[derive(Clone, Copy)]
 pub enum Reached {
     Refused(u32, u32),
     At(TaskId, TaskId, u32),
@@ -66,7 +68,7 @@ pub fn pick_successor(
 
 // Refused; or a successor that waits on, with the degree left to it and the accepted word as read; or one that is ready. Both with the number of
 // successors that the completed task has.
-#[derive(Drop)]
+#[derive(Clone, Copy)]
 pub enum Pick {
     Refused(u32, u32),
     Waiting(TaskId, u32, u32, u32),
@@ -128,7 +130,7 @@ pub fn pick_next(
 }
 
 // Refused, or the worker whose ring takes the task, and that ring's ends as read.
-#[derive(Drop)]
+#[derive(Clone, Copy)]
 pub enum Owner {
     Refused(u32, u32),
     At(WorkerId, Ends),
@@ -162,7 +164,7 @@ pub fn find_owner(
 
 // What Release is to do: refused; or the successor waits on, with the degree left to it; or it joins the ring of this owner, whose head, tail and
 // count follow, with its weight. Behind the task stands the number of successors that the completed task has, last the accepted word, each as read.
-#[derive(Drop)]
+#[derive(Clone, Copy)]
 pub enum ReleasePlan {
     Refused(u32, u32),
     Lower(TaskId, u32, u32, u32),

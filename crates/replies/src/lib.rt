@@ -1,4 +1,6 @@
 // What the calls for C and Rust answer: the number and the detail, 0 and 0 where accepted; a step answers its outcome too.
+#![tactic(auto)]
+
 ghost use Rattle.std.specs.Prelude.{◌≡◌};
 ghost use Rattle.task.specs.Refusals.{outcome_says, release_says};
 ghost use Rattle.task.specs.declared.StepAnswer.{StepAnswer};
@@ -7,7 +9,7 @@ ghost use Rattle.replies.specs.Replies.{reply_of, said_of, step_reply_of};
 use task::{Answer, ReleaseOutcome, StepAnswer, StepOutcome};
 
 #[repr(C)]
-#[derive(Drop)]
+#[derive(Clone, Copy)]
 pub struct Reply {
     pub number: u32,
     pub detail: u32,
@@ -28,7 +30,7 @@ pub fn reply_of(answer: Answer) -> Reply
 // The kind is 0 of a refused step, of Start and of Complete, 1 of a Fetch with its task, 2 of a Release with the degree left, 3 of one
 // with the task placed and its owner.
 #[repr(C)]
-#[derive(Drop)]
+#[derive(Clone, Copy)]
 pub struct StepReply {
     pub number: u32,
     pub detail: u32,

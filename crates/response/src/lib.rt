@@ -1,4 +1,6 @@
 // What the desk answers to a text: it is read, begun and run, and what is to be printed is put into a lent buffer.
+#![tactic(auto)]
+
 ghost use Rattle.std.specs.Prelude.{◌≡◌, ◌+◌, ◌≤◌, length};
 ghost use Rattle.task.specs.Types.{engine};
 ghost use Rattle.engine_cells.specs.Cells.{cell_mem};

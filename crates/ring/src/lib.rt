@@ -1,5 +1,7 @@
 // Rings of tasks. Append and take advance a ring's ends and say the slot, whatever an item is: on one ring's ends, lent, and on the
 // words of all ends; with them a task joins a ring of tasks.
+#![tactic(auto)]
+
 ghost use Rattle.std.specs.Prelude.{◌≡◌, ◌&&◌, ◌+◌, ◌*◌, ◌%◌, ◌≤◌, ◌<◌, length, get_or};
 ghost use Rattle.lists.specs.Circles.{after};
 ghost use Rattle.task.specs.Types.{engine};

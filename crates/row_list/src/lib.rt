@@ -1,4 +1,6 @@
 // The worker rows as one lent list of records: thin functions that read one row, store it back, and clear rows.
+#![tactic(auto)]
+
 ghost use Rattle.std.specs.Prelude.{◌≡◌, ◌≤◌, length, get_or, set};
 ghost use Rattle.task.specs.Types.{idle};
 ghost use Rattle.rows.specs.Rows.{cleared_rows};

@@ -1,4 +1,6 @@
 // Worker rows as lent words, six to a row: the same memory as a list of `Row`. A word's place in its row is named here alone.
+#![tactic(auto)]
+
 ghost use Rattle.std.specs.Prelude.{◌≡◌, ◌≤◌, ◌<◌, length, get_or};
 ghost use Rattle.task.specs.Types.{idle};
 ghost use Rattle.rules.specs.Memory.{with_hand, with_pointer};

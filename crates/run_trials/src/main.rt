@@ -6,6 +6,8 @@
 //              them, while the others hold the word everywhere; then commands (scripts/src/script.rt)
 //
 // Numbers are decimal, up to 32 bits, each behind one blank. A line that is none of these is printed as unreadable.
+#![tactic(auto)]
+
 ghost use Rattle.std.specs.Prelude.{◌≤◌};
 
 use cases::{lines, read, show};

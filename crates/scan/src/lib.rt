@@ -1,18 +1,20 @@
 // The pieces of a task text at a place: blanks, the end of a line, a number. Each looks at the line that stands there and at no
 // other.
+#![tactic(auto)]
+
 ghost use Rattle.std.specs.Prelude.{◌≡◌, ◌≤◌, length};
 ghost use Rattle.layout.specs.Reader.{skippable, parted};
 ghost use Rattle.layout.specs.Scan.{line_at, Marked, Trimmed, NextLine, EndsAt, Closes, Found};
 
 // Whether the line ends at a place, and where the next one starts.
-#[derive(Drop)]
+#[derive(Clone, Copy)]
 pub struct LineEnd {
     pub closed: bool,
     pub next: usize,
 }
 
 // A number of the line and the place after it; a value over 65,535 where there is none.
-#[derive(Drop)]
+#[derive(Clone, Copy)]
 pub struct Number {
     pub value: u32,
     pub next: usize,

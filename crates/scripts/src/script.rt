@@ -25,7 +25,7 @@ const NONE: u32 = 9;
 // Behind the last command.
 const END: u32 = 10;
 
-#[derive(Drop)]
+#[derive(Clone, Copy)]
 pub struct Command {
     pub what: u32,
     pub p: u32,
@@ -36,7 +36,7 @@ pub struct Command {
 }
 
 // A call that a command stands for.
-#[derive(Drop)]
+#[derive(Clone, Copy)]
 pub enum Call {
     Begin,
     Lists,
@@ -45,7 +45,7 @@ pub enum Call {
 
 // How far a script has come: where the command stands, whose turn it is, how many steps have been tried in it, how many
 // are still to be accepted, and after how many turns without one the command ends.
-#[derive(Drop)]
+#[derive(Clone, Copy)]
 pub struct At {
     pub place: usize,
     pub worker: u32,

@@ -1,4 +1,6 @@
 // Searches over rings: the first ring of an owner that isn't empty, the first ring of a filler that isn't full.
+#![tactic(auto)]
+
 ghost use Rattle.std.specs.Prelude.{◌≡◌, not, ◌+◌, ◌*◌, ◌≤◌, ◌<◌, length};
 ghost use Rattle.lists.specs.Circles.{after, around};
 ghost use Rattle.task.specs.Types.{engine};
@@ -30,7 +32,7 @@ pub fn after_worker(p: usize, worker: WorkerId) -> WorkerId
 }
 
 // A damaged ring met, none found, or the worker whose ring it is, and that ring's ends.
-#[derive(Drop)]
+#[derive(Clone, Copy)]
 pub enum Found {
     Unsound,
     None,

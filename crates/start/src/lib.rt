@@ -1,4 +1,6 @@
 // Start: the phase alone.
+#![tactic(auto)]
+
 ghost use Rattle.std.specs.Prelude.{◌≡◌, length};
 ghost use Rattle.admission.specs.Admission.{Knows};
 ghost use Rattle.admission.specs.declared.Sizes.{Sizes};

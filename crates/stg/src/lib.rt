@@ -1,4 +1,6 @@
 // The reader of task texts. The text is judged line by line into scratch lists; only an accepted text reaches the lent ones.
+#![tactic(auto)]
+
 ghost use Rattle.std.specs.Prelude.{◌≡◌, [], ◌++◌, ◌≤◌, ◌<◌, ◌^◌, length, take, drop};
 ghost use Rattle.task.specs.Refusals.{beyond_limit, broken_layout};
 ghost use Rattle.task.specs.declared.ReadAnswer.TheVariants.{Refused};
@@ -121,7 +123,7 @@ fn copy(from: &[u32], n: usize, to: &mut [u32])
 }
 
 // How many words of each list an answer writes: none where the text is refused.
-#[derive(Drop)]
+#[derive(Clone, Copy)]
 struct Sizes {
     weights: usize,
     starts: usize,

@@ -1,5 +1,7 @@
 // The reader and the writer for C and Rust: lists as pointer and length. They answer the number and the detail, 0 and 0 where
 // they accept, and then N and E, or the bytes used, 0 where they refuse.
+#![tactic(auto)]
+
 ghost use Rattle.std.specs.Prelude.{◌≡◌};
 ghost use Rattle.layout.specs.Reader.{read_text};
 ghost use Rattle.layout.specs.Writer.{write_text};
@@ -8,7 +10,7 @@ ghost use Rattle.stg_export.specs.Replies.{reply_of, replied, replied_of, write_
 use task::{ReadAnswer, WriteAnswer};
 
 #[repr(C)]
-#[derive(Drop)]
+#[derive(Clone, Copy)]
 pub struct ReadReply {
     pub number: u32,
     pub detail: u32,
@@ -17,7 +19,7 @@ pub struct ReadReply {
 }
 
 #[repr(C)]
-#[derive(Drop)]
+#[derive(Clone, Copy)]
 pub struct WriteReply {
     pub number: u32,
     pub detail: u32,

@@ -1,5 +1,7 @@
 // Strips tasks without remaining successors, last to first, along the predecessor lists. What is left are exactly the
 // tasks on a cycle or with a path of edges to one.
+#![tactic(auto)]
+
 ghost use Rattle.std.specs.Prelude.{◌≡◌, ◌↔◌, ℕ, ◌+◌, ◌≤◌, ◌<◌, [], ◌∷◌, ◌++◌, length, get_or, take, drop};
 ghost use Rattle.std.proofs.Math.Decide.{ℕ_discrete};
 ghost use Rattle.lists.specs.Lists.{occ};

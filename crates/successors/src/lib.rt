@@ -1,4 +1,6 @@
 // The successor table, filled from the predecessor table, each task's successors rising, and the degrees.
+#![tactic(auto)]
+
 ghost use Rattle.std.specs.Prelude.{◌≡◌, ◌+◌, ◌≤◌, ◌<◌, length, get_or, set};
 ghost use Rattle.graph.specs.Graph.{graph_of};
 ghost use Rattle.graph.specs.Conditions.{Sound};

@@ -1,5 +1,7 @@
 // One leaf per number of the graph check, on parts of lists: sizes and weights (2), ranges and words (3), a
 // predecessor twice (4); and how often each number stands in a list.
+#![tactic(auto)]
+
 ghost use Rattle.std.specs.Prelude.{◌≡◌, true, false, ℕ, ◌+◌, ◌≤◌, ◌<◌, length, get_or};
 ghost use Rattle.std.proofs.Math.Decide.{dec_lt};
 ghost use Rattle.lists.specs.Decided.{holds};

@@ -1,5 +1,7 @@
 // The types of the engine's interface: task and worker numbers, worker rows, ring ends, steps, the table of
 // phase against step, limits, refusals and answers.
+#![tactic(auto)]
+
 pub mod refusal;
 
 ghost use Rattle.std.specs.Prelude.{◌≡◌, ◌<◌, min};
@@ -8,7 +10,7 @@ ghost use Rattle.task.specs.Phases.{next_phase};
 
 // A task's number. NIL stands for "no task" in a worker's row.
 #[repr(C)]
-#[derive(Drop)]
+#[derive(Clone, Copy)]
 pub struct TaskId(pub u32);
 
 impl TaskId {
@@ -29,7 +31,7 @@ impl TaskId {
 
 // A worker's number (the thread ID of the published algorithm).
 #[repr(C)]
-#[derive(Drop)]
+#[derive(Clone, Copy)]
 pub struct WorkerId(pub u32);
 
 impl WorkerId {
@@ -43,7 +45,7 @@ impl WorkerId {
 // What a worker keeps between its steps: the phase, the task in hand, the ring where the next scan starts, and the
 // places of its completed buffer with the cursor over the successors of the oldest task there.
 #[repr(C)]
-#[derive(Drop)]
+#[derive(Clone, Copy)]
 pub struct Row {
     pub phase: u32,
     pub held: TaskId,
@@ -77,14 +79,14 @@ pub type RowCell = [u32; ROW_WORDS];
 // A ring's ends: head is the next slot to take, tail the slot that the next task goes to, count how many tasks stand from
 // head on, modulo K.
 #[repr(C)]
-#[derive(Drop)]
+#[derive(Clone, Copy)]
 pub struct Ends {
     pub head: u32,
     pub tail: u32,
     pub count: u32,
 }
 
-#[derive(Drop)]
+#[derive(Clone, Copy)]
 pub enum Step {
     Fetch,
     Start,
@@ -93,7 +95,7 @@ pub enum Step {
 }
 
 // The phase after a step, or refused where the step does not suit the phase.
-#[derive(Drop)]
+#[derive(Clone, Copy)]
 pub enum Next {
     Refused,
     To(u32),
@@ -128,7 +130,7 @@ pub fn next_phase(phase: u32, step: Step) -> Next
 }
 
 // The side of a task on which its neighbours stand.
-#[derive(Drop)]
+#[derive(Clone, Copy)]
 pub enum Side {
     Predecessors,
     Successors,
@@ -136,7 +138,7 @@ pub enum Side {
 
 // How large a job may be. A limit above the engine's counts as the engine's.
 #[repr(C)]
-#[derive(Drop)]
+#[derive(Clone, Copy)]
 pub struct Limits {
     pub tasks: usize,
     pub edges: usize,
@@ -192,35 +194,35 @@ pub fn smaller(a: usize, b: usize) -> usize
 
 // The answer of begin, of the calls on a graph and of lookup's judging call: refused with its number and detail, or
 // accepted.
-#[derive(Drop)]
+#[derive(Clone, Copy)]
 pub enum Answer {
     Refused(u32, u32),
     Accepted,
 }
 
 // The reader's answer: refused, or accepted with N and E.
-#[derive(Drop)]
+#[derive(Clone, Copy)]
 pub enum ReadAnswer {
     Refused(u32, u32),
     Accepted(u32, u32),
 }
 
 // The writer's answer: refused, or accepted with the bytes used.
-#[derive(Drop)]
+#[derive(Clone, Copy)]
 pub enum WriteAnswer {
     Refused(u32, u32),
     Accepted(u32),
 }
 
 // What a Release did: the degree left, or the task placed and its new owner.
-#[derive(Drop)]
+#[derive(Clone, Copy)]
 pub enum ReleaseOutcome {
     DegreeLeft(u32),
     Placed(TaskId, WorkerId),
 }
 
 // What an accepted step answers: nothing more (Start, Complete), the task fetched, or what a Release did.
-#[derive(Drop)]
+#[derive(Clone, Copy)]
 pub enum StepOutcome {
     Moved,
     Fetched(TaskId),
@@ -228,7 +230,7 @@ pub enum StepOutcome {
 }
 
 // A step's answer: refused with its number and detail, or accepted with its outcome.
-#[derive(Drop)]
+#[derive(Clone, Copy)]
 pub enum StepAnswer {
     Refused(u32, u32),
     Accepted(StepOutcome),

@@ -1,10 +1,12 @@
 // The lines of a task text: the next one that is not skipped, the first one's n, a task's line.
+#![tactic(auto)]
+
 ghost use Rattle.std.specs.Prelude.{◌≡◌, suc, ◌≤◌, ◌<◌, length};
 ghost use Rattle.layout.specs.Scan.{NextContent, Filled, HeadFound, FirstFound};
 ghost use Rattle.text_lines.specs.TaskLines.{TaskFound};
 
 // A line that is not skipped: the place of its first mark and its number; the text's length where there is none.
-#[derive(Drop)]
+#[derive(Clone, Copy)]
 pub struct Content {
     pub place: usize,
     pub line: usize,
@@ -32,7 +34,7 @@ pub fn next_content(text: &[u8], at: usize, line: usize) -> Content
 }
 
 // Whether a line has as many numbers as asked for, and the place after them.
-#[derive(Drop)]
+#[derive(Clone, Copy)]
 struct Span {
     full: bool,
     next: usize,
@@ -66,7 +68,7 @@ fn fill_numbers(text: &[u8], at: usize, count: usize, e: usize, words: &mut [u32
 }
 
 // A task line's time and count of predecessors, and the place after them.
-#[derive(Drop)]
+#[derive(Clone, Copy)]
 struct Head {
     fits: bool,
     time: u32,
@@ -107,7 +109,7 @@ fn task_head(text: &[u8], at: usize, t: usize, last: bool) -> Head
 }
 
 // A task line as read: broken, with too many edges, or the place of the next line and the edges up to here.
-#[derive(Drop)]
+#[derive(Clone, Copy)]
 pub enum TaskLine {
     Broken,
     Over,
@@ -152,7 +154,7 @@ pub fn task_line(
 }
 
 // The first line that is not skipped: how many tasks follow, or 0 where it breaks the layout, and the place of the next line.
-#[derive(Drop)]
+#[derive(Clone, Copy)]
 pub struct First {
     pub tasks: usize,
     pub next: usize,

@@ -1,4 +1,6 @@
 // Bytes put into a lent buffer: each function puts them at a place and answers the place behind them.
+#![tactic(auto)]
+
 ghost use Rattle.std.specs.Prelude.{◌≡◌, [], ◌∷◌, ◌+◌, ◌≤◌, ◌<◌, length};
 ghost use Rattle.layout.specs.Digits.{digits_of};
 ghost use Rattle.text_put.specs.Appending.{Appends};

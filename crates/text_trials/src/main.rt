@@ -6,6 +6,8 @@
 //              predecessor starts and predecessors
 //
 // Numbers are decimal, up to 32 bits, each behind one blank. A line that is none of these is printed as unreadable.
+#![tactic(auto)]
+
 ghost use Rattle.std.specs.Prelude.{◌<◌, length};
 
 use cases::{lines, read, show};

@@ -1,4 +1,6 @@
 // The writer: a graph as a task text. It measures the text first, so that a buffer too small keeps its bytes.
+#![tactic(auto)]
+
 ghost use Rattle.std.specs.Prelude.{◌≡◌, ◌∷◌, ℕ, ◌+◌, ◌-◌, ◌≤◌, ◌<◌, length, get_or};
 ghost use Rattle.lists.specs.Sums.{sum_to, sum_of};
 ghost use Rattle.graph.specs.Graph.{graph_of};

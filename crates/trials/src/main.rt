@@ -8,6 +8,7 @@
 //              questions, each a side (0 predecessors, else successors) and a task
 //
 // Numbers are decimal, up to 32 bits, each behind one blank. A line that is none of these is printed as unreadable.
+#![tactic(auto)]
 
 ghost use Rattle.std.specs.Prelude.{◌≤◌, ◌<◌, length};
 

@@ -1,4 +1,6 @@
 // A turn of the desk: it takes the first accepted of Release, Fetch, Start, Complete, or nothing.
+#![tactic(auto)]
+
 ghost use Rattle.std.specs.Prelude.{◌≡◌, ◌<◌, get_or};
 ghost use Rattle.task.specs.Types.{engine};
 ghost use Rattle.task.specs.declared.Step.{Step};

@@ -1,4 +1,6 @@
 // The desk's run: one turn after the other, the workers by turns.
+#![tactic(auto)]
+
 ghost use Rattle.std.specs.Prelude.{◌≡◌, ◌≤◌, length};
 ghost use Rattle.task.specs.Types.{engine};
 ghost use Rattle.rules.specs.Desk.{desk_run};

@@ -1,5 +1,7 @@
 // What is judged before a weak step's own rule: the numbers and the lengths of the lent lists (2, 1), the worker (7), the phase word (8)
 // and whether the step suits it (9); and what every weak step reads last, R and the accepted word.
+#![tactic(auto)]
+
 ghost use Rattle.std.specs.Prelude.{◌≡◌, ◌≤◌, length};
 ghost use Rattle.task.specs.Types.{engine};
 ghost use Rattle.plans.specs.Sizes.{others_fit, lengths_fit};
@@ -13,7 +15,7 @@ use task::{Limits, Step, TaskId, WorkerId, refusal};
 use weak_task::{TaskCopy, WeakAnswer, WeakOutcome, WeakRow};
 
 // The lengths of the lent lists; the rings' is counted in copies.
-#[derive(Drop)]
+#[derive(Clone, Copy)]
 pub struct WeakSizes {
     pub weights: usize,
     pub pred_starts: usize,
@@ -80,7 +82,7 @@ pub fn judge(limits: Limits, sizes: WeakSizes, p: usize, k: usize, worker: Worke
 }
 
 // Refused, or the worker's row in the phase that the step leads to.
-#[derive(Drop)]
+#[derive(Clone, Copy)]
 pub enum WeakAdmitted {
     Refused(u32, u32),
     To(WeakRow),
@@ -121,7 +123,7 @@ pub fn copy_fits(copy: TaskCopy, tasks: usize) -> bool
 }
 
 // R or the accepted word is damaged, or the accepted word.
-#[derive(Drop)]
+#[derive(Clone, Copy)]
 pub enum Counted {
     Damaged,
     At(u32),
@@ -144,7 +146,7 @@ pub fn count_of(run: &[u32], tasks: usize, edges: usize) -> Counted
 }
 
 // A step's end: refused, or its outcome and the worker's row after it.
-#[derive(Drop)]
+#[derive(Clone, Copy)]
 pub enum WeakStepped {
     Refused(u32, u32),
     Taken(WeakOutcome, WeakRow),

@@ -1,4 +1,6 @@
 // Begin of a weak job on the lent lists but the rows: judged from what is read, then everything is laid down.
+#![tactic(auto)]
+
 ghost use Rattle.weak_rules.specs.Memory.{mem_of};
 ghost use Rattle.weak_rows.specs.Copies.{copies_of};
 ghost use Rattle.weak_begin.specs.Begin.{Begins};

@@ -1,4 +1,6 @@
 // What begin of a weak job is refused for: 2, 1, 3, 4, 5, 6 in order.
+#![tactic(auto)]
+
 ghost use Rattle.weak_begin_check.specs.Judging.{Judges};
 
 use task::{Answer, Limits, refusal};

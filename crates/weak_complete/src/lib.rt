@@ -1,5 +1,7 @@
 // Complete of a weak job: the held copy joins the record and its task's degree falls by one; with the last copy the task's weight leaves the
 // worker's own counter, and the task joins the completed buffer if it has successors.
+#![tactic(auto)]
+
 ghost use Rattle.std.specs.Prelude.{◌≡◌, [], ◌∷◌, ◌+◌, ◌*◌, ◌≤◌, ◌<◌, length, set};
 ghost use Rattle.task.specs.Types.{engine};
 ghost use Rattle.weak_task.specs.Types.{copy_of};
@@ -16,7 +18,7 @@ use weak_task::{TaskCopy, WeakOutcome, WeakRow};
 
 // What Complete is to do: refused; a copy joins the record that isn't its task's last; the last one does, and its task is a sink, or joins
 // the buffer. With the entries word, the accepted word, and the task's degree or, for the last copy, its weight, as read.
-#[derive(Drop)]
+#[derive(Clone, Copy)]
 pub enum CompletePlan {
     Refused(u32, u32),
     Copy(u32, u32, u32),

@@ -1,5 +1,7 @@
 // A weak job's begin, with the worker rows and the slots as cells, seven words and two: the same memory as lists of `WeakRow` and of
 // `TaskCopy`.
+#![tactic(auto)]
+
 ghost use Rattle.std.specs.Prelude.{◌≡◌};
 ghost use Rattle.weak_rules.specs.Begin.{begin};
 ghost use Rattle.weak_rules.specs.Plans.{result_of};

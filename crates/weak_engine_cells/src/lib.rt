@@ -1,5 +1,7 @@
 // What a weak job's calls share, which lend the worker rows and the slots as cells, seven words and two: the same memory as lists of
 // `WeakRow` and of `TaskCopy`. The lengths of all lent lists; the end of each step, which stores the words of the row that it changes.
+#![tactic(auto)]
+
 ghost use Rattle.std.specs.Prelude.{◌≡◌, ◌<◌, length, get_or};
 ghost use Rattle.weak_task.specs.Types.{idle};
 ghost use Rattle.weak_rows.specs.Rows.{rows_of};

@@ -1,6 +1,8 @@
 // A weak job's calls for C and Rust: lists as pointer and length, all those of a run, then P, K and, for a step, the worker. A slot is lent
 // as its cell of two words and a row as its cell of seven, the same memory as a `TaskCopy` and a `WeakRow`. A call answers the number and
 // the detail, 0 and 0 where it accepts; a step answers its outcome too.
+#![tactic(auto)]
+
 ghost use Rattle.std.specs.Prelude.{◌≡◌};
 ghost use Rattle.task.specs.Types.{engine};
 ghost use Rattle.task.specs.declared.Step.{Step};

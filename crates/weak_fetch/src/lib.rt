@@ -1,5 +1,7 @@
 // Fetch of a weak job: everything is read and checked; then the copy leaves its ring. Weights, counters and fixed workers are not read:
 // they are not lent.
+#![tactic(auto)]
+
 ghost use Rattle.std.specs.Prelude.{◌≡◌, length};
 ghost use Rattle.weak_task.specs.Types.{copy_of};
 ghost use Rattle.weak_rows.specs.Copies.{copies_of};
@@ -16,7 +18,7 @@ use weak_task::{CopyCell, TaskCopy, WeakOutcome, WeakRow};
 
 // What Fetch is to do: refused, or the head of this filler's ring is taken. With the ring's ends (head, tail, count), the copy's words and
 // the accepted word, as read.
-#[derive(Drop)]
+#[derive(Clone, Copy)]
 pub enum CopyPlan {
     Refused(u32, u32),
     Take(WorkerId, u32, u32, u32, TaskId, TaskId, u32),

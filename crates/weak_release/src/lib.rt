@@ -1,5 +1,7 @@
 // Release of a weak job: a copy of the oldest completed task's successor at the cursor joins a ring. A task's first copy picks the ring and
 // fixes the task's worker, its later copies follow.
+#![tactic(auto)]
+
 ghost use Rattle.std.specs.Prelude.{◌≡◌, ◌+◌, ◌*◌, ◌≤◌, ◌<◌, length};
 ghost use Rattle.task.specs.Types.{engine};
 ghost use Rattle.weak_task.specs.Rows.{with_places};
@@ -17,7 +19,7 @@ use weak_task::{CopyCell, TaskCopy, WeakOutcome, WeakRow};
 
 // The successor at the cursor, the completed task that it follows, and how many successors that one has: of a task that is fixed to no worker
 // yet, or to this one. Or refused.
-#[derive(Drop)]
+#[derive(Clone, Copy)]
 pub enum CopyPick {
     Refused(u32, u32),
     First(TaskId, TaskId, u32),
@@ -71,7 +73,7 @@ pub fn pick_copy(
 
 // What Release is to do: refused; a task's first copy joins the ring of this owner, and the weight with it; or a later one does. With the copy
 // that was picked, the owner, the ring's ends (head, tail, count), the weight of a first copy, and the accepted word, as read.
-#[derive(Drop)]
+#[derive(Clone, Copy)]
 pub enum WeakPlan {
     Refused(u32, u32),
     First(TaskId, TaskId, u32, WorkerId, u32, u32, u32, u32, u32),

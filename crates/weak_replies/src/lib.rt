@@ -1,4 +1,6 @@
 // What the weak calls for C and Rust answer: the number and the detail, 0 and 0 where accepted, and the outcome.
+#![tactic(auto)]
+
 ghost use Rattle.std.specs.Prelude.{◌≡◌};
 ghost use Rattle.weak_task.specs.declared.WeakAnswer.{WeakAnswer};
 ghost use Rattle.weak_replies.specs.Replies.{weak_reply_of};
@@ -8,7 +10,7 @@ use weak_task::{WeakAnswer, WeakOutcome};
 // The kind is 0 of a refused step, of Start and of Complete, 1 of a Fetch with its copy, 2 of a Release with the copy placed and its owner.
 // A copy is its task and its predecessor.
 #[repr(C)]
-#[derive(Drop)]
+#[derive(Clone, Copy)]
 pub struct WeakReply {
     pub number: u32,
     pub detail: u32,

@@ -1,4 +1,6 @@
 // The roots of a weak job at begin: fixed to their workers, their copies in the rings, their degrees, and their number.
+#![tactic(auto)]
+
 ghost use Rattle.std.specs.Prelude.{◌≡◌, List, ℕ, ◌+◌, ◌≤◌, ◌<◌, max, length, replicate, set};
 ghost use Rattle.task.specs.Types.{engine};
 ghost use Rattle.weak_task.specs.Types.{unfixed};

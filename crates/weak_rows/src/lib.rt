@@ -1,5 +1,7 @@
 // The worker rows and the rings of a weak job as lent words: seven words to a row, two to a slot. The same memory as lists of `WeakRow`
 // and of `TaskCopy`. A word's place is named here alone.
+#![tactic(auto)]
+
 ghost use Rattle.std.specs.Prelude.{◌≡◌, ◌+◌, ◌*◌, ◌≤◌, ◌<◌, length, get_or, set, replicate};
 ghost use Rattle.ring.specs.Ring.{slot_at, ends_at, Sound, rings_of, appended_at, Inside};
 ghost use Rattle.weak_task.specs.Types.{copy, copy_of, idle};

@@ -1,4 +1,6 @@
 // Start of a weak job: the phase alone.
+#![tactic(auto)]
+
 ghost use Rattle.std.specs.Prelude.{◌≡◌, length};
 ghost use Rattle.weak_admission.specs.Admission.{Knows};
 ghost use Rattle.weak_admission.specs.declared.WeakSizes.{WeakSizes};

@@ -1,4 +1,6 @@
 // The types of weak jobs' interface: copies, worker rows with a copy in hand, what a weak step answers.
+#![tactic(auto)]
+
 ghost use Rattle.std.specs.Prelude.{◌≡◌};
 ghost use Rattle.weak_task.specs.Types.{no_copy, idle};
 
@@ -9,7 +11,7 @@ pub const UNFIXED: WorkerId = WorkerId(65535);
 
 // A copy of a task: the task, and the finished neighbour that it is run with. A root's one copy has NIL for this.
 #[repr(C)]
-#[derive(Drop)]
+#[derive(Clone, Copy)]
 pub struct TaskCopy {
     pub task: TaskId,
     pub predecessor: TaskId,
@@ -40,7 +42,7 @@ pub type CopyCell = [u32; COPY_WORDS];
 
 // What a worker of a weak job keeps between its steps: as a plain job's, with a copy in hand.
 #[repr(C)]
-#[derive(Drop)]
+#[derive(Clone, Copy)]
 pub struct WeakRow {
     pub phase: u32,
     pub held: TaskCopy,
@@ -75,7 +77,7 @@ pub const WEAK_ROW_WORDS: usize = 7;
 pub type WeakRowCell = [u32; WEAK_ROW_WORDS];
 
 // What an accepted weak step answers: nothing more (Start, Complete), the copy fetched, or the copy made and its owner.
-#[derive(Drop)]
+#[derive(Clone, Copy)]
 pub enum WeakOutcome {
     Moved,
     Fetched(TaskCopy),
@@ -83,7 +85,7 @@ pub enum WeakOutcome {
 }
 
 // A weak step's answer: refused with its number and detail, or accepted with its outcome.
-#[derive(Drop)]
+#[derive(Clone, Copy)]
 pub enum WeakAnswer {
     Refused(u32, u32),
     Accepted(WeakOutcome),

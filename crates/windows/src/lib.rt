@@ -1,5 +1,7 @@
 // Load windows: for every run of m neighbouring record entries the weight that each worker finished, and the spread. All that
 // can refuse is judged before the first result is written. From one window to the next one entry leaves the sums and one enters.
+#![tactic(auto)]
+
 ghost use Rattle.std.specs.Prelude.{◌≡◌, ◌+◌, ◌-◌, ◌*◌, ◌≤◌, ◌<◌, min, max, length, get_or, set};
 ghost use Rattle.loads.specs.Windows.{task_at, worker_at, weight_at, window_sums, with_spread, window_count, windows, counts_fit, entry_fits, record_fits, Recorded, Spans, windows_answer, shown_as, window_loads};
 

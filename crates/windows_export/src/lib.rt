@@ -1,4 +1,6 @@
 // Load windows for C and Rust: lists as pointer and length. The call answers the number and the detail, 0 and 0 where it accepts.
+#![tactic(auto)]
+
 ghost use Rattle.std.specs.Prelude.{◌≡◌};
 ghost use Rattle.task.specs.Types.{engine};
 ghost use Rattle.loads.specs.Windows.{window_loads};

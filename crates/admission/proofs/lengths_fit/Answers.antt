@@ -1,0 +1,6 @@
+use Rattle.admission.proofs.Laws.{lengths-are}
+use borrow.Author.Rules.{rules}
+use Rattle.admission.proofs.lengths_fit.Goals as goal
+
+pub returns : goal.returns
+returns c = λ m e. lengths-are _ _ _ m e _ (c.others_fit.ensures m e)

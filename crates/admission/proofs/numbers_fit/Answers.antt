@@ -1,0 +1,6 @@
+use Rattle.admission.proofs.Laws.{numbers-are}
+use borrow.Author.Rules.{rules}
+use Rattle.admission.proofs.numbers_fit.Goals as goal
+
+pub returns : goal.returns
+returns c = numbers-are _ _ _ _ c.capped-most.ensures

@@ -1,0 +1,19 @@
+use Rattle.admission.proofs.Laws.{few-squares, few_words, few-places, others-are}
+use native.Mathlib.Omega.{arith}
+use borrow.Author.Rules.{rules}
+use Rattle.admission.proofs.others_fit.Goals as goal
+
+pub overflow_mul-squares : goal.overflow_mul-squares
+overflow_mul-squares c = omega (arith, few-squares _ _ _ c.requires)
+
+pub overflow_mul-result : goal.overflow_mul-result
+overflow_mul-result c = omega (arith, few_words _ _ _ c.requires)
+
+pub overflow_mul-result-2 : goal.overflow_mul-result-2
+overflow_mul-result-2 c = omega (arith, few-squares _ _ _ c.requires)
+
+pub overflow_mul-result-3 : goal.overflow_mul-result-3
+overflow_mul-result-3 c = omega (arith, few-places _ _ _ c.requires)
+
+pub returns : goal.returns
+returns c = others-are _ _ _

@@ -1,0 +1,13 @@
+use Rattle.counters.proofs.Best.{Best, best-first, best-replaced, best-kept, best-whole, FitTo, fit_none, damaged-here, fit_on, fit-whole}
+use mir.Syntax.{w64}
+use mathlib.Core.Logic.{⊎_elim}
+use Prim.Native.Nat.{◌≤◌, ◌-◌}
+use native.Mathlib.Omega.{arith}
+use borrow.Author.Rules.{rules}
+use Rattle.counters.proofs.choose_wide.Given as goal
+
+abbrev pub invariant-loop-j : goal.invariant-loop-j
+invariant-loop-j l = Best w64 l.p l.counters l.j l.best.0 l.least × (FitTo l.p l.counters l.j × (l.j ≤ l.p))
+
+abbrev pub decreases-loop-j : goal.decreases-loop-j
+decreases-loop-j l = l.p - l.j

@@ -1,0 +1,15 @@
+use Rattle.lists.proofs.Places.{place-small}
+use Rattle.counters.proofs.Sums.{Summed, sum-none, sum-on, sum-whole, Ranged, ranged-none, ranged-on, ranged-whole}
+use mathlib.Core.Path.{refl}
+use mir.Syntax.{w64}
+use Rattle.lists.proofs.Places.{place-lt}
+use Prim.Native.Nat.{◌≤◌, ◌-◌}
+use native.Mathlib.Omega.{arith}
+use borrow.Author.Rules.{rules}
+use Rattle.counters.proofs.load_of.Given as goal
+
+abbrev pub invariant-loop-f : goal.invariant-loop-f
+invariant-loop-f l = (l.f ≤ l.p) × (Summed w64 2147483648 l.counters l.first l.f l.sum × Ranged l.counters l.first l.f l.fits)
+
+abbrev pub decreases-loop-f : goal.decreases-loop-f
+decreases-loop-f l = l.p - l.f

@@ -1,0 +1,7 @@
+-- None below the first level task is on a cycle; if it reaches itself, it is the smallest.
+use Rattle.cycles.proofs.First.{found_first}
+use borrow.Author.Rules.{rules}
+use Rattle.cycles.proofs.by_ranks.Goals as goal
+
+pub returns-then-on_cycle : goal.returns-then-on_cycle
+returns-then-on_cycle c = λ h. found_first _ c.on_cycle.ensures c.if-on_cycle.true h (c.first_level-first.ensures h)

@@ -1,0 +1,15 @@
+-- The loop: the words passed so far are marked besides.
+use native.Mathlib.Decide.{ℕ_discrete}
+use Rattle.lists.proofs.Occurrences.{at-occ}
+use Prim.Native.Nat.{◌≤◌, ◌-◌}
+use native.Mathlib.Omega.{arith}
+use lib.ListN.{length, take}
+use Rattle.cycles.specs.Marks.{Grown}
+use Rattle.cycles.proofs.Marks.{grown-none, grown-more, grown-all}
+use Rattle.cycles.proofs.mark_all.Given as goal
+
+abbrev pub invariant-loop-i : goal.invariant-loop-i
+invariant-loop-i l = (l.i ≤ length l.words) × Grown (take l.i l.words) l.from l.initial.seen l.initial.queue l.seen l.queue l.tail
+
+abbrev pub decreases-loop-i : goal.decreases-loop-i
+decreases-loop-i l = length l.words - l.i

@@ -1,0 +1,19 @@
+use Rattle.engine_export.proofs.Laws.{step-replied}
+use Rattle.replies.specs.Replies.{step_reply_of}
+use Rattle.replies.proofs.Laws.{in-case}
+use borrow.Author.Rules.{rules}
+use Rattle.preview_export.proofs.yolluvek_preview_release.Goals as goal
+
+pub returns-in-Refused : goal.returns-in-Refused
+returns-in-Refused c =
+    step-replied _ _ _ _ step_reply_of _ _ _ _ _ _
+    c.preview.ensures
+    c.release-answer.ensures
+    (in-case step_reply_of _ _ _ c.in-Refused.is c.refused.ensures)
+
+pub returns : goal.returns
+returns c =
+    step-replied _ _ _ _ step_reply_of _ _ _ _ _ _
+    c.preview.ensures
+    c.release-answer.ensures
+    c.step_reply_of.ensures

@@ -1,0 +1,11 @@
+-- The lines of the first x entries are put, each of at most 22 bytes.
+use Prim.Native.Nat.{◌+◌, ◌-◌, ◌*◌, ◌≤◌}
+use native.Mathlib.Omega.{arith}
+use Rattle.printing.proofs.Laws.{EntriesPut, no-entries, next-entry, all-entries}
+use Rattle.printing.proofs.put_entries.Given as goal
+
+abbrev pub invariant-loop-x : goal.invariant-loop-x
+invariant-loop-x l = (l.x ≤ l.initial.out) × (l.end ≤ l.executed + l.x * 22) × EntriesPut l.executed l.initial.out l.n l.at l.x l.out l.end
+
+abbrev pub decreases-loop-x : goal.decreases-loop-x
+decreases-loop-x l = l.initial.out - l.x

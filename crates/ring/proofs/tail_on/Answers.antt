@@ -1,0 +1,6 @@
+use Rattle.ring.proofs.Laws.{tail-made}
+use borrow.Author.Rules.{rules}
+use Rattle.ring.proofs.tail_on.Goals as goal
+
+pub returns : goal.returns
+returns c = tail-made _ _ _ c.after_slot-tail.ensures

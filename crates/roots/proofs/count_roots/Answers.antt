@@ -1,0 +1,43 @@
+use Prim.Native.Nat.{◌-◌, ◌≤◌}
+use mathlib.Core.Logic.{⊎_elim}
+use mathlib.Core.Path.{◌≡◌}
+use native.Mathlib.Omega.{arith}
+use Rattle.roots.proofs.Laws.{levels, levels-none, levels-hit, levels-miss, roots-counted}
+use Rattle.roots.proofs.count_roots.Goals as goal
+
+pub loop-t-init : goal.loop-t-init
+loop-t-init c = (omega arith, (omega arith, levels-none _))
+
+pub offset_bounds-starts-t : goal.offset_bounds-starts-t
+offset_bounds-starts-t c = omega arith
+
+pub bounds-starts-t : goal.bounds-starts-t
+bounds-starts-t c = omega arith
+
+pub overflow_add-t : goal.overflow_add-t
+overflow_add-t c = omega arith
+
+pub offset_bounds-starts-t-in-loop-t : goal.offset_bounds-starts-t-in-loop-t
+offset_bounds-starts-t-in-loop-t c = omega arith
+
+pub bounds-starts-t-in-loop-t : goal.bounds-starts-t-in-loop-t
+bounds-starts-t-in-loop-t c = omega arith
+
+pub overflow_add-found : goal.overflow_add-found
+overflow_add-found c = omega arith
+
+pub overflow_add-t-in-loop-t : goal.overflow_add-t-in-loop-t
+overflow_add-t-in-loop-t c = omega arith
+
+pub loop-t-smaller : goal.loop-t-smaller
+loop-t-smaller c = omega arith
+
+pub loop-t-preserved : goal.loop-t-preserved
+loop-t-preserved c =
+    ⊎_elim
+    (λ w. (omega arith, (omega arith, levels-hit _ _ _ _ c.loop-t.invariant.1.1 w.0.taken w.1)))
+    (λ w. (omega arith, (omega arith, levels-miss _ _ _ _ c.loop-t.invariant.1.1 w.0.left w.1)))
+    c.if-starts-t.branch
+
+pub returns : goal.returns
+returns c = (omega arith, λ preds s. roots-counted _ s _ _ c.loop-t.invariant.1.1 (omega arith) (omega arith))

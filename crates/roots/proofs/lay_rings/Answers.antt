@@ -1,0 +1,13 @@
+-- Cleared lists are laid down up to task 0.
+use Rattle.roots.proofs.Laying.{laid_none}
+use borrow.Author.Rules.{rules}
+use Rattle.roots.proofs.lay_rings.Goals as goal
+
+pub place_roots-requires : goal.place_roots-requires
+place_roots-requires c =
+    laid_none _ _ _ _ _ _ _ _ _ _
+    c.requires.0
+    c.requires.1
+    c.clear.ensures
+    c.clear-2.ensures
+    c.clear_counters.ensures

@@ -1,0 +1,15 @@
+-- The rows before row i are cleared, and the others are as they were.
+use Rattle.rows.proofs.Laws.{words-cleared-none, words-cleared-next, words-cleared}
+use Rattle.rows.specs.Rows.{rows_of, cleared_rows}
+use Prim.Native.Nat.{◌-◌, ◌≤◌}
+use mathlib.Core.Path.{◌≡◌, refl}
+use native.Mathlib.Omega.{arith}
+use borrow.Author.Rules.{rules}
+use lib.ListN.{length}
+use Rattle.rows.proofs.clear_rows.Given as goal
+
+abbrev pub invariant-loop-i : goal.invariant-loop-i
+invariant-loop-i l = (l.i ≤ l.cells) × ((length l.rows ≡ length l.n) × (rows_of l.rows ≡ cleared_rows l.i (rows_of l.n)))
+
+abbrev pub decreases-loop-i : goal.decreases-loop-i
+decreases-loop-i l = l.cells - l.i

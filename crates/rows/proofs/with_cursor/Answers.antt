@@ -1,0 +1,6 @@
+use Rattle.rows.proofs.Laws.{cursor-put}
+use borrow.Author.Rules.{rules}
+use Rattle.rows.proofs.with_cursor.Goals as goal
+
+pub returns : goal.returns
+returns c = cursor-put c.args.cells (search rules) _

@@ -1,0 +1,6 @@
+use Rattle.rows.proofs.Laws.{hand-put}
+use borrow.Author.Rules.{rules}
+use Rattle.rows.proofs.with_hand.Goals as goal
+
+pub returns : goal.returns
+returns c = hand-put c.args.cells (search rules) _ _

@@ -1,0 +1,6 @@
+use Rattle.rows.proofs.Laws.{pointer-put}
+use borrow.Author.Rules.{rules}
+use Rattle.rows.proofs.with_pointer.Goals as goal
+
+pub returns : goal.returns
+returns c = pointer-put c.args.cells (search rules) _

@@ -1,0 +1,12 @@
+-- Only blanks stand before the place.
+use Prim.Native.Nat.{◌-◌}
+use borrow.Author.Rules.{rules}
+use lib.ListN.{length}
+use Rattle.layout.proofs.Places.{Passed, passed_start, passed-blank, passed-mark, passed-end}
+use Rattle.scan.proofs.past_blanks.Given as goal
+
+abbrev pub invariant-loop-p : goal.invariant-loop-p
+invariant-loop-p l = Passed l.text l.at l.p
+
+abbrev pub decreases-loop-p : goal.decreases-loop-p
+decreases-loop-p l = length l.text - l.p

@@ -1,0 +1,14 @@
+-- The loop keeps: the first i words are taken from the counts. The next word's task still has a successor left.
+use borrow.Author.Rules.{rules}
+use native.Mathlib.Omega.{arith}
+use Prim.Native.Nat.{◌≤◌, ◌-◌}
+use lib.ListN.{length, take}
+use Rattle.strip.specs.Queue.{Lowered}
+use Rattle.strip.proofs.Queue.{lowered_none, lower-next, lowered-next, lowered-all}
+use Rattle.strip.proofs.lower_all.Given as goal
+
+abbrev pub invariant-loop-i : goal.invariant-loop-i
+invariant-loop-i l = (l.i ≤ length l.words) × Lowered (take l.i l.words) l.from l.left l.initial.left l.queue l.initial.queue l.tail
+
+abbrev pub decreases-loop-i : goal.decreases-loop-i
+decreases-loop-i l = length l.words - l.i

@@ -1,0 +1,14 @@
+-- After i words each count is how often its number stands among them; so it is at most i, and adding 1 fits.
+use Rattle.tables.proofs.Laws.{word_below, Counted, count_none, count_small, count_turn, count-whole}
+use lib.ListN.{length, get_or, length-set}
+use mathlib.Core.Path.{◌≡◌, refl}
+use Prim.Native.Nat.{◌≤◌, ◌<◌, ◌-◌}
+use borrow.Author.Rules.{rules}
+use native.Mathlib.Omega.{arith}
+use Rattle.tables.proofs.count_words.Given as goal
+
+abbrev pub invariant-loop-i : goal.invariant-loop-i
+invariant-loop-i l = (l.i ≤ length l.words) × ((length l.counts ≡ length l.initial.counts) × Counted l.words l.initial.counts l.counts l.i)
+
+abbrev pub decreases-loop-i : goal.decreases-loop-i
+decreases-loop-i l = length l.words - l.i

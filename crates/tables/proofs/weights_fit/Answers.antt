@@ -1,0 +1,6 @@
+use Rattle.tables.proofs.Laws.{light-made}
+use borrow.Author.Rules.{rules}
+use Rattle.tables.proofs.weights_fit.Goals as goal
+
+pub returns : goal.returns
+returns c = light-made _ _ c.flat_below.ensures

@@ -1,0 +1,14 @@
+-- The numbers found so far stand in the words from e up to k, as far as there is room.
+use Prim.Native.Nat.{◌-◌, ◌≤◌}
+use mathlib.Core.Path.{refl}
+use native.Mathlib.Omega.{arith}
+use borrow.Author.Rules.{rules}
+use Rattle.layout.specs.Scan.{Filling, too_few}
+use Rattle.layout.proofs.TaskLaws.{found-numbers, found-not, fill_none, fill_more, fill-short, fill-whole}
+use Rattle.text_lines.proofs.fill_numbers.Given as goal
+
+abbrev pub invariant-loop-k : goal.invariant-loop-k
+invariant-loop-k l = (l.k ≤ l.initial.words) × Filling l.text l.at l.e l.end l.p l.k l.words
+
+abbrev pub decreases-loop-k : goal.decreases-loop-k
+decreases-loop-k l = l.initial.words - l.k

@@ -1,0 +1,7 @@
+use native.Mathlib.Omega.{arith}
+use borrow.Author.Rules.{rules}
+use Rattle.text_put.proofs.Laws.{byte_put}
+use Rattle.text_put.proofs.put_byte.Goals as goal
+
+pub returns : goal.returns
+returns c = byte_put _ _ c.args.out.now (omega arith)

@@ -1,0 +1,7 @@
+use Rattle.text_put.proofs.Laws.{appends-then}
+use borrow.Author.Rules.{rules}
+use Rattle.text_write.proofs.put_next.Goals as goal
+
+pub returns : goal.returns
+returns c =
+    appends-then c.put_byte-next.ensures c.put_number.ensures

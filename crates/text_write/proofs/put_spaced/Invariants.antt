@@ -1,0 +1,12 @@
+-- The first i numbers are put.
+use Prim.Native.Nat.{◌-◌, ◌≤◌}
+use native.Mathlib.Omega.{arith}
+use lib.ListN.{length}
+use Rattle.text_write.proofs.Laws.{Spacing, none-spaced, space-room, next-spaced, all-spaced}
+use Rattle.text_write.proofs.put_spaced.Given as goal
+
+abbrev pub invariant-loop-i : goal.invariant-loop-i
+invariant-loop-i l = (l.i ≤ length l.initial.out) × Spacing l.numbers l.initial.out l.at l.i l.out l.end
+
+abbrev pub decreases-loop-i : goal.decreases-loop-i
+decreases-loop-i l = length l.initial.out - l.i

@@ -1,0 +1,53 @@
+-- The sum fits its type: a time has at most ten digits.
+use Prim.Native.Nat.{◌*◌, ◌≤◌}
+use native.Mathlib.Omega.{arith}
+use lib.ListN.{length}
+use Rattle.lists.specs.Sums.{sum_to}
+use Rattle.layout.specs.Plain.{line_size}
+use Rattle.layout.proofs.Sizes.{text-size, lines-most, preds-most}
+use Rattle.text_write.proofs.text_size.Goals as goal
+use Rattle.text_write.proofs.text_size.Goals.{After-shared_slice_known-1}
+
+lines : (c : After-shared_slice_known-1) → sum_to (length c.args.weights.now) (line_size c.args.weights.now c.args.starts.now) ≤ 1024 * 21
+lines c =
+    let s = c.before in
+    omega (
+      arith,
+      s.requires.0.sized.tasks,
+      lines-most s.args.weights.now _ _ s.requires.0 9 (λ t h. omega (arith, c.type_inv.weights t)),
+    )
+
+pub lines_size-lines-requires : goal.lines_size-lines-requires
+lines_size-lines-requires c =
+    let sound = c.requires.0 in (sound.sized.tasks, sound.sized.starts, λ t h. (sound.good t h).rises)
+
+pub overflow_sub-weights : goal.overflow_sub-weights
+overflow_sub-weights c = omega arith
+
+pub overflow_cast-weights : goal.overflow_cast-weights
+overflow_cast-weights c = omega (arith, c.requires.0.sized.tasks)
+
+pub width-requires : goal.width-requires
+width-requires c = omega arith
+
+pub overflow_add-result : goal.overflow_add-result
+overflow_add-result c = omega arith
+
+pub overflow_add-result-2 : goal.overflow_add-result-2
+overflow_add-result-2 c = omega (arith, lines (goal.at.overflow_add-result-2 c).After-shared_slice_known-1)
+
+pub preds_size-requires : goal.preds_size-requires
+preds_size-requires c = c.requires.0.sized.edges
+
+pub overflow_add-result-3 : goal.overflow_add-result-3
+overflow_add-result-3 c =
+    let s = (goal.at.overflow_add-result-3 c).After-shared_slice_known-1 in
+    omega (arith, lines s, preds-most s.before.args.weights.now _ _ s.before.requires.0, s.before.requires.0.sized.edges)
+
+pub returns : goal.returns
+returns c =
+    let s = (goal.at.returns c).Start in
+    omega (
+      arith,
+      text-size s.args.weights.now s.args.starts.now s.args.preds.now s.requires.0,
+    )

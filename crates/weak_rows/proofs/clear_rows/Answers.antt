@@ -1,0 +1,27 @@
+use Rattle.weak_rows.proofs.Laws.{Cleared, cleared-none, cleared-next, cleared-all}
+use Prim.Native.Nat.{◌-◌, ◌≤◌}
+use mathlib.Core.Path.{refl}
+use native.Mathlib.Omega.{arith}
+use borrow.Author.Rules.{rules}
+use Rattle.weak_rows.proofs.clear_rows.Goals as goal
+
+pub loop-i-init : goal.loop-i-init
+loop-i-init c = (omega arith, cleared-none _)
+
+pub bounds-rows-i : goal.bounds-rows-i
+bounds-rows-i c = omega arith
+
+pub overflow_add-i : goal.overflow_add-i
+overflow_add-i c = omega arith
+
+pub loop-i-smaller : goal.loop-i-smaller
+loop-i-smaller c = omega arith
+
+pub loop-i-preserved : goal.loop-i-preserved
+loop-i-preserved c = (omega arith, cleared-next _ _ _ c.loop-i.invariant.1 _ (omega arith) refl)
+
+pub shape_of-rows : goal.shape_of-rows
+shape_of-rows c = c.loop-i.invariant.1.kept
+
+pub returns : goal.returns
+returns c = cleared-all _ _ _ c.loop-i.invariant.1 _ (omega arith)

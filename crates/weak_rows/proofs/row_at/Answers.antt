@@ -1,0 +1,7 @@
+use Rattle.weak_rows.proofs.Laws.{rows_at}
+use native.Mathlib.Omega.{arith}
+use borrow.Author.Rules.{rules}
+use Rattle.weak_rows.proofs.row_at.Goals as goal
+
+pub returns : goal.returns
+returns c = rows_at _ _ _ _ (omega arith) c.row_of.ensures
