@@ -35,7 +35,7 @@ def snake(part):
 def turned(word, apart={}):
     if word in apart:
         return apart[word]
-    if "::" in word or "·" in word or "#" in word:
+    if any(mark in word for mark in ("::", "·", "#", "/")):
         return word
     return "-".join(snake(p) for p in word.split("-"))
 

@@ -1,19 +1,18 @@
 -- The row is the phase's, and the entry is the rule's.
 use mathlib.Core.Path.{◌≡◌}
-use mathlib.Core.Logic.{⊎_elim}
 use native.Mathlib.Omega.{arith}
 use Rattle.task.specs.declared.Step.TheVariants.{Fetch, Start, Complete, Release}
 use Rattle.task.proofs.PhaseTable.{row_of, row-of, no_row, column-of}
-use borrow.Author.Rules.{rules}
 use Rattle.task.proofs.next_phase.Goals as goal
-use Rattle.task.proofs.next_phase.Goals.{Joined-phase}
+use Rattle.task.proofs.next_phase.Goals.{Joined-phase, in-0, in-1, in-2, in_default}
 
 row_is : (m : Joined-phase) → m.match-phase.row ≡ row_of m.args.phase
-row_is m =
-    ⊎_elim (λ w. row-of _ _ 0 (omega arith) (omega arith) w.2)
-    (⊎_elim (λ w. row-of _ _ 1 (omega arith) (omega arith) w.2)
-    (⊎_elim (λ w. row-of _ _ 2 (omega arith) (omega arith) w.2) (λ w. no_row _ _ (omega arith) w.1)))
-    m.match-phase.branch
+row_is m = elim m.match-phase.branch [
+  in-0 w ↦ row-of _ _ 0 (omega arith) (omega arith) w.row-is
+  | in-1 w ↦ row-of _ _ 1 (omega arith) (omega arith) w.row-is
+  | in-2 w ↦ row-of _ _ 2 (omega arith) (omega arith) w.row-is
+  | in_default w ↦ no_row _ _ (omega arith) w.row-is
+]
 
 pub returns-in-Fetch : goal.returns-in-Fetch
 returns-in-Fetch c = column-of _ _ _ (row_is (goal.at.returns-in-Fetch c).Joined-phase) Fetch c.in-Fetch.is

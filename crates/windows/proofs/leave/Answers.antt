@@ -1,0 +1,15 @@
+-- The entry's words as they were read.
+use Rattle.windows.proofs.Sliding.{leaving, left}
+use borrow.Author.Rules.{rules}
+use Rattle.windows.proofs.leave.Goals as goal
+
+pub overflow_sub-sums : goal.overflow_sub-sums
+overflow_sub-sums c =
+    let s = (goal.at.overflow_sub-sums c).Start in
+    let a = s.args in
+    leaving a.weights.now a.executed.now a.sums.now a.x c.entry_at-entry.ensures s.requires.2
+
+pub returns : goal.returns
+returns c =
+    let a = c.args in
+    left a.weights.now a.executed.now a.sums.now a.x c.entry_at-entry.ensures

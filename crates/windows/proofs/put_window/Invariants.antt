@@ -1,0 +1,12 @@
+-- The first i sums stand in the window.
+use Prim.Native.Nat.{◌-◌, ◌≤◌}
+use native.Mathlib.Omega.{arith}
+use lib.ListN.{length}
+use Rattle.windows.proofs.Putting.{Putting, none-put, out-size, out-kept, next-put, all-put}
+use Rattle.windows.proofs.put_window.Given as goal
+
+abbrev pub invariant-loop-i : goal.invariant-loop-i
+invariant-loop-i l = (l.i ≤ length l.initial.out) × Putting l.initial.out l.sums l.out l.low l.high l.i
+
+abbrev pub decreases-loop-i : goal.decreases-loop-i
+decreases-loop-i l = length l.initial.out - l.i

@@ -1,0 +1,14 @@
+-- The first x entries are in.
+use Prim.Native.Nat.{◌-◌, ◌≤◌}
+use mathlib.Core.Path.{◌≡◌}
+use native.Mathlib.Omega.{arith}
+use lib.ListN.{length}
+use Rattle.loads.specs.Windows.{window_sums}
+use Rattle.windows.proofs.Sliding.{sums-length, first-asks, first-in, all_in}
+use Rattle.windows.proofs.sum_first.Given as goal
+
+abbrev pub invariant-loop-x : goal.invariant-loop-x
+invariant-loop-x l = (l.x ≤ l.initial.sums) × (l.sums ≡ window_sums (length l.weights) l.executed l.m l.x 0)
+
+abbrev pub decreases-loop-x : goal.decreases-loop-x
+decreases-loop-x l = l.initial.sums - l.x
