@@ -27,7 +27,7 @@ class Func:
         for k, (old, new) in enumerate(j["needs"]):
             at = j["asked_at"][k][0] if k < len(j["asked_at"]) else None
             self.needs.append((norm(old), new, at))
-        self.imports, self.left = set(), []
+        self.imports, self.left, self.named = set(), [], set()
 
     def place(self, name):
         n = norm(name)
@@ -42,6 +42,17 @@ class Func:
                 return None
             place = self.j["places"][self.places[place]][1]
         return place
+
+    def nameable(self, place):
+        """The nearest place from here back that today's Goals name."""
+        while place is not None:
+            i = self.places[place]
+            new, p = self.j["places_by_name"][i], self.j["places"][i]
+            if p[1] is None or not re.match(r"After-", place) or p[3] or re.match(r"After-loop", place):
+                if not re.match(r"(In|At)-.*-\d$", new) and "arg" not in new:
+                    return new
+            place = p[1]
+        return "Start"
 
     def need(self, name):
         n = norm(name)
@@ -78,12 +89,10 @@ def path(f, var, befores, segs, place, need):
             return var
         if here is None:
             return None
-        i = f.places[here]
-        new = f.j["places_by_name"][i]
+        new = f.nameable(here)
         if need is None:
-            return None
-        if here == place:
-            return f"(goal.at.{need} {var}).{new}"
+            return var if new == f.nameable(place) else None
+        f.named.add(new)
         return f"(goal.at.{need} {var}).{new}"
     s0 = norm(segs[0])
     if s0 in ("args", "requires", "ranges", "utf8"):
@@ -132,13 +141,32 @@ def path(f, var, befores, segs, place, need):
 PATH = re.compile(r"(?<![\w.'-])([A-Za-z_][\w']*)((?:\.before)*)((?:\.[A-Za-z0-9_'-]+)*)(?![\w'-])")
 
 
+ALIAS = re.compile(r"let ([\w']+) = ([A-Za-z_][\w']*)((?:\.before)*) in(\s*)")
+
+
 def body(f, text, var, place, need):
+    alias = {}
+
+    def drop(m):
+        if m[2] == var or m[2] in alias:
+            alias[m[1]] = alias.get(m[2], 0) + m[3].count(".before")
+            return m[4].replace("\n", "", 1).lstrip(" ") if "\n" not in m[4] else m[4]
+        return m[0]
+
+    while True:
+        new = ALIAS.sub(drop, text, count=1)
+        if new == text:
+            break
+        text = new
+
     def one(m):
-        if m[1] != var:
+        if m[1] != var and m[1] not in alias:
             return m[0]
-        k = m[2].count(".before")
+        k = m[2].count(".before") + alias.get(m[1], 0)
         segs = [x for x in m[3].split(".") if x]
         new = path(f, var, k, segs, place, need)
+        if new is None and segs and m[1] == var == "w":
+            return m[0]
         if new is None:
             f.left.append(m[0][-60:])
             return m[0]
@@ -199,7 +227,7 @@ def fields_of(names, text):
     return out
 
 
-def turn(file, j, crate, fpath):
+def turn(file, j, crate, fpath, out=None):
     with open(file, encoding="utf-8") as it:
         text = it.read()
     f = Func(j, crate, fpath)
@@ -257,13 +285,8 @@ def turn(file, j, crate, fpath):
             f.left.append(f"{kind}-{loop} by cases")
             continue
         params = mm[1].split()
-        want = []
-        for v, c in zip(vars_, changed):
-            if not c:
-                want.append(f"l.{v}")
-        first = [f"l.initial.{v}" for v, c in zip(vars_, changed) if c]
-        now = [f"l.{v}" for v, c in zip(vars_, changed) if c]
-        want += first + now
+        want = [f"l.initial.{v}" if c else f"l.{v}" for v, c in zip(vars_, changed)]
+        want += [f"l.{v}" for v, c in zip(vars_, changed) if c]
         if len(want) != len(params):
             # each variable has both, in turn?
             f.left.append(f"{kind}-{loop}: {len(params)} parameters, {len(want)} known")
@@ -272,11 +295,16 @@ def turn(file, j, crate, fpath):
         b = re.sub(r"(?<![\w.'-])([A-Za-z_][\w'₀-₉-]*)", lambda m: sub.get(m[1], m[1]) if m[1] != "_" else m[1], b)
         out_inv.append("\n".join(note + [f"abbrev pub {kind}-{new} : goal.{kind}-{new}"] + unf + [f"{kind}-{new} l ={b}"]))
     out_ans = []
+    last = None
     for nm, name, unf, clauses, note in answers:
         got = f.need(nm)
+        cut = re.match(r"slice[-_]bounds[-_](\S+)-(start|end)(-\d+)?$", nm)
+        if not got and cut and last:
+            got = (norm(nm), f"slice_bounds-{norm(cut[1])}-{cut[2]}{cut[3] or ''}", last)
+        if got:
+            last = got[2]
         if not got:
             f.left.append(f"goal {nm}")
-            out_ans.append("\n".join(note + [f"{name} : tie.Need-{nm}"] + unf + [clauses]))
             continue
         old, new, at = got
         mm = re.match(rf"^{re.escape(name)} (\S+)((?: \S+)*?) =", clauses)
@@ -284,6 +312,7 @@ def turn(file, j, crate, fpath):
             f.left.append(f"clauses of {nm}")
             continue
         var = mm[1]
+        more = "".join(" " + x for x in mm[2].split() if x != "κs")
         b = clauses[mm.end():]
         if b.strip() == "search rules":
             continue
@@ -298,7 +327,7 @@ def turn(file, j, crate, fpath):
                 b = " " + mlet[1] + "record { " + "; ".join(f"{n} = {p}" for n, p in parts) + " }"
             else:
                 f.left.append(f"record of {new}")
-        out_ans.append("\n".join(note + [f"pub {new} : goal.{new}"] + unf + [f"{new} {var} ={b}"]))
+        out_ans.append("\n".join(note + [f"pub {new} : goal.{new}"] + unf + [f"{new} {var}{more} ={b}"]))
     # helpers over places
     places = set()
     outh = []
@@ -308,7 +337,7 @@ def turn(file, j, crate, fpath):
             if not p:
                 f.left.append("place " + m[1])
                 return m[0]
-            new = j["places_by_name"][f.places[p]]
+            new = f.nameable(p)
             places.add(new)
             return new
         sigs = re.findall(r"\((\w+) : (?:lts|tie)\.([\w-]+)", h)
@@ -329,7 +358,8 @@ def turn(file, j, crate, fpath):
     uses = [u if u.startswith("use ") else "use " + u for u in uses]
     own = f"Rattle.{crate}.proofs.{fpath.replace('/', '.')}"
     uses = [u for u in uses if not re.search(re.escape(own) + r"\.(Tie|Statement|Reads|Lts)\b", u)]
-    d = os.path.dirname(file)
+    d = out or os.path.dirname(file)
+    places |= f.named
     inv_helpers = []
     if out_inv:
         text_inv = "\n\n".join(out_inv)
@@ -359,7 +389,15 @@ def turn(file, j, crate, fpath):
         pls = [f"use {own}.Goals.{{{', '.join(sorted(places))}}}"] if places else []
         ans = "\n".join((comments if not out_inv else comments[1:]) + uses + more + [f"use {own}.Goals as goal"] + pls) + "\n\n" + "\n\n".join(outh + out_ans) + "\n"
         open(os.path.join(d, "Answers.antt"), "w", encoding="utf-8").write(ans)
-    os.remove(file)
+    for name in ("Invariants.antt", "Answers.antt"):
+        made = os.path.join(d, name)
+        if os.path.isfile(made):
+            with open(made, encoding="utf-8") as it:
+                tidy = re.sub(r"=\n[ \t]+\n", "=\n", it.read())
+            with open(made, "w", encoding="utf-8") as it:
+                it.write(tidy)
+    if not out:
+        os.remove(file)
     for l in f.left:
         print(f"left: {file}: {l}")
 

@@ -14,7 +14,7 @@ use Rattle.task.specs.declared.Answer.TheVariants.{Refused, Accepted}
 use Rattle.task.specs.declared.Row.{Row}
 use Rattle.graph.specs.Graph.{Graph, graph_of}
 use Rattle.graph.specs.Conditions.{Sound, GraphFits}
-use Rattle.graph.specs.Successors.{succ_starts, succ_words, degree_list}
+use Rattle.graph.specs.Successors.{succ_starts_of, succ_words, degree_list}
 use Rattle.graph.proofs.Accepted.{fits-sound}
 use Rattle.graph.proofs.Reversed.{length-degrees, length-roots}
 use Rattle.ring.specs.Ring.{ring_words, end_words}
@@ -127,7 +127,7 @@ module _ (limits : Limits) (p k rows : ℕ) (w s e ss sc d r n : List ℕ) (c : 
   begin-refused i j q = (λ rs h. rw (answer-is rs h, q), omega arith)
 
   module _ (q : a ≡ Accepted) (ss' sc' d' r' n' : List ℕ) (c' : List ℤ) (b' x' u' : List ℕ)
-      (hs : ss' ≡ succ_starts (graph_of (length w) s e)) (hw : sc' ≡ succ_words (graph_of (length w) s e)) (hd : d' ≡ degree_list (graph_of (length w) s e))
+      (hs : ss' ≡ succ_starts_of (graph_of (length w) s e)) (hw : sc' ≡ succ_words (graph_of (length w) s e)) (hd : d' ≡ degree_list (graph_of (length w) s e))
       (placed : Placed p k w d' (length d') r' n' c')
       (hb : b' ≡ replicate (length b) 0) (hx : x' ≡ replicate (length x) 0) (hu : u' ≡ replicate (length u) 0) where
     abbrev after : List Row → Mem

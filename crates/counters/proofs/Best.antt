@@ -22,9 +22,9 @@ use Rattle.choice.specs.Least.{load, least_from, least}
 use Rattle.choice.proofs.Least.{least-replaces, least-keeps}
 
 -- The best of the workers before j and its sum: from it and the later ones comes the target.
-pub record Best (w : Width) (p : ℕ) (counters : List ℤ) (j best sum : ℕ) : Type 0 where
+pub record Best (p : ℕ) (counters : List ℤ) (j best : ℕ) (sum : ℤ) : Type 0 where
   pub worker : best < p
-  pub sum_is : to_z w sum ≡ load p counters best
+  pub sum_is : sum ≡ load p counters best
   pub rest : least (all_of p) (load p counters) ≡ least_from best (drop j (all_of p)) (load p counters)
 
 module _ (w : Width) (p : ℕ) (counters : List ℤ) where
@@ -32,11 +32,11 @@ module _ (w : Width) (p : ℕ) (counters : List ℤ) where
   from : (j : ℕ) → j < p → drop j (all_of p) ≡ j ∷ drop (suc j) (all_of p)
   from j h = drop-cons (all_of p) j 0 (omega (arith, length-all p)) ∙ ap (λ (x : ℕ). x ∷ drop (suc j) (all_of p)) (all-at p j h)
 
-  pub best-first : (s : ℤ) → SFits w s → s ≡ load p counters 0 → 0 < p → Best w p counters 1 0 (of_z w s)
+  pub best-first : (s : ℤ) → SFits w s → s ≡ load p counters 0 → 0 < p → Best p counters 1 0 (to_z w (of_z w s))
   unfolding least
   best-first s k e h = record { worker = h; sum_is = to_z-of_z w s k ∙ e; rest = ap (λ (js : List ℕ). least js (load p counters)) (from 0 h) }
 
-  module _ (j best sum : ℕ) (b : Best w p counters j best sum) where
+  module _ (j best : ℕ) (sum : ℤ) (b : Best p counters j best sum) where
     -- worker j and its sum, just computed
     module _ (inside : j < p) (s : ℤ) (is_sum : SFits w s) (e : s ≡ load p counters j) where
       abbrev later : List ℕ
@@ -45,13 +45,13 @@ module _ (w : Width) (p : ℕ) (counters : List ℤ) where
       new-sum : to_z w (of_z w s) ≡ load p counters j
       new-sum = to_z-of_z w s is_sum ∙ e
 
-      compared : lt_z (load p counters j) (load p counters best) ≡ lt_z (to_z w (of_z w s)) (to_z w sum)
+      compared : lt_z (load p counters j) (load p counters best) ≡ lt_z (to_z w (of_z w s)) sum
       compared = rw (new-sum, b.sum_is)
 
       looked : least (all_of p) (load p counters) ≡ least_from best (j ∷ later) (load p counters)
       looked = rw add-one (b.rest ∙ ap (λ (js : List ℕ). least_from best js (load p counters)) (from j inside))
 
-      pub best-replaced : lt_z (to_z w (of_z w s)) (to_z w sum) ≡ true → Best w p counters (j + 1) j (of_z w s)
+      pub best-replaced : lt_z (to_z w (of_z w s)) sum ≡ true → Best p counters (j + 1) j (to_z w (of_z w s))
       best-replaced t =
           record {
             worker = inside;
@@ -59,7 +59,7 @@ module _ (w : Width) (p : ℕ) (counters : List ℤ) where
             rest = looked ∙ least-replaces (load p counters) best j later (compared ∙ t);
           }
 
-      pub best-kept : lt_z (to_z w (of_z w s)) (to_z w sum) ≡ false → Best w p counters (j + 1) best sum
+      pub best-kept : lt_z (to_z w (of_z w s)) sum ≡ false → Best p counters (j + 1) best sum
       best-kept t =
           record {
             worker = b.worker;

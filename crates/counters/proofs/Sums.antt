@@ -22,29 +22,29 @@ use Rattle.counters.specs.Choice.{small_counter, Small}
 use Rattle.choice.specs.Least.{load}
 use Rattle.counters.proofs.Laws.{mag-plus, mag-within, test_read}
 
--- The sum of f counters from place `first` on, each of a magnitude below `each`. A local that was written with an integer holds its bits.
-pub record Summed (w : Width) (each : ℕ) (counters : List ℤ) (first f sum : ℕ) : Type 0 where
-  pub total : to_z w sum ≡ sum_to_z f (λ i. get_or counters (first + i) (pos 0))
-  pub small : mag (to_z w sum) ≤ each * f
+-- The sum of f counters from place `first` on, each of a magnitude below `each`.
+pub record Summed (each : ℕ) (counters : List ℤ) (first f : ℕ) (sum : ℤ) : Type 0 where
+  pub total : sum ≡ sum_to_z f (λ i. get_or counters (first + i) (pos 0))
+  pub small : mag sum ≤ each * f
 
-module _ (w : Width) (each : ℕ) (counters : List ℤ) (first : ℕ) where
-  pub sum-none : to_z w 0 ≡ pos 0 → Summed w each counters first 0 0
+module _ (each : ℕ) (counters : List ℤ) (first : ℕ) where
+  pub sum-none : Summed each counters first 0 (pos 0)
   unfolding sum_to_z
-  sum-none e = record { total = e; small = rw e (omega arith) }
+  sum-none = record { total = refl; small = omega arith }
 
-  -- the next counter, as it is read, joins
-  pub sum-on : (f sum : ℕ) → Summed w each counters first f sum → SFits w32 (get_or counters (first + f) (pos 0))
-      → (r : ℤ) → SFits w r → r ≡ to_z w sum +ℤ to_z w32 (of_z w32 (get_or counters (first + f) (pos 0)))
-      → mag (get_or counters (first + f) (pos 0)) < each → Summed w each counters first (f + 1) (of_z w r)
+  -- the next counter, as it is read, joins; a local that was written with an integer holds its bits
+  pub sum-on : (w : Width) (f : ℕ) (sum : ℤ) → Summed each counters first f sum → SFits w32 (get_or counters (first + f) (pos 0))
+      → (r : ℤ) → SFits w r → r ≡ sum +ℤ to_z w32 (of_z w32 (get_or counters (first + f) (pos 0)))
+      → mag (get_or counters (first + f) (pos 0)) < each → Summed each counters first (f + 1) (to_z w (of_z w r))
   unfolding sum_to_z
-  sum-on f sum s is_IsWord r k e m =
+  sum-on w f sum s is_IsWord r k e m =
       let q = rw (to_z-of_z w32 _ is_IsWord) at e in
       record {
         total = rw (to_z-of_z w r k, q, s.total, add-one);
-        small = rw (to_z-of_z w r k, q, add-one, mul-suc) (omega (arith, s.small, m, mag-plus (to_z w sum) (get_or counters (first + f) (pos 0))));
+        small = rw (to_z-of_z w r k, q, add-one, mul-suc) (omega (arith, s.small, m, mag-plus sum (get_or counters (first + f) (pos 0))));
       }
 
-  pub sum-whole : (p j f sum : ℕ) → Summed w each counters first f sum → first ≡ j * p → f ≡ p → to_z w sum ≡ load p counters j
+  pub sum-whole : (p j f : ℕ) (sum : ℤ) → Summed each counters first f sum → first ≡ j * p → f ≡ p → sum ≡ load p counters j
   unfolding load
   sum-whole p j f sum s e q = rw (e, q) at s.total
 
@@ -107,15 +107,15 @@ small-on counters q small s is_IsWord b h = record { each = λ t i l. go t i l (
         rw e (mag-within 67108863 (get_or counters q (pos 0)) (rw (test_read _ is_IsWord small_counter b h) at (and-true small b t).1))
 
 -- At 32 bits, 16 small counters.
-module _ (counters : List ℤ) (first f sum : ℕ) (s : Summed w32 67108865 counters first f sum) (few : f < 16) where
+module _ (counters : List ℤ) (first f : ℕ) (sum : ℤ) (s : Summed 67108865 counters first f sum) (few : f < 16) where
   module _ (is_IsWord : SFits w32 (get_or counters (first + f) (pos 0))) (small : mag (get_or counters (first + f) (pos 0)) ≤ 67108864) where
     abbrev narrow : ℤ
-    narrow = to_z w32 sum +ℤ to_z w32 (of_z w32 (get_or counters (first + f) (pos 0)))
+    narrow = sum +ℤ to_z w32 (of_z w32 (get_or counters (first + f) (pos 0)))
 
     pub narrow-fits : SFits w32 narrow
     narrow-fits =
         rw (to_z-of_z w32 _ is_IsWord)
-        (record { sfits = omega (arith, s.small, small, mag-plus (to_z w32 sum) (get_or counters (first + f) (pos 0))) })
+        (record { sfits = omega (arith, s.small, small, mag-plus sum (get_or counters (first + f) (pos 0))) })
 
-    pub narrow-on : Summed w32 67108865 counters first (f + 1) (of_z w32 narrow)
-    narrow-on = sum-on w32 67108865 counters first f sum s is_IsWord narrow narrow-fits refl (omega (arith, small))
+    pub narrow-on : Summed 67108865 counters first (f + 1) (to_z w32 (of_z w32 narrow))
+    narrow-on = sum-on 67108865 counters first w32 f sum s is_IsWord narrow narrow-fits refl (omega (arith, small))

@@ -12,7 +12,7 @@ use Rattle.task.specs.Phases.{next_phase}
 use Rattle.graph.specs.Graph.{part}
 use Rattle.graph.specs.Check.{sizes_fit, first_bad, first_twice, first_on_cycle, tables_answer, check_answer}
 use Rattle.graph.specs.Decide.{below?, among?, light?, good?, bad?, ends_fit?, twice?, twice_in?, find-twice, edge?, thru?, path?, leads?, on_cycle?}
-use Rattle.graph.specs.Successors.{succs_below, succ_start, succ_starts, succ_words, degree_list, roots}
+use Rattle.graph.specs.Successors.{succs_below, succ_start, succ_starts_of, succ_words, degree_list, roots}
 use Rattle.ring.specs.Ring.{capacity, slot_at, ends_at, store_ends, sound, empty, full, head_on, tail_on}
 use Rattle.choice.specs.Least.{load, least_from, least}
 use Rattle.choice.specs.Search.{search}
@@ -115,5 +115,5 @@ pub record Examples : Type 0 where
       ≡ 114 ∷ 101 ∷ 102 ∷ 117 ∷ 115 ∷ 101 ∷ 100 ∷ 32 ∷ 51 ∷ 32 ∷ 49 ∷ 10 ∷ []
 
 pub examples : Examples
-unfolding ℕ_discrete dec_le dec_lt first_below occ_of joined tabulate all_of sum_to after around capped next_phase part sizes_fit first_bad first_twice first_on_cycle tables_answer check_answer below? among? light? good? bad? ends_fit? twice? twice_in? find-twice edge? thru? path? leads? on_cycle? succs_below succ_start succ_starts succ_words degree_list roots capacity slot_at ends_at store_ends sound empty full head_on tail_on sum_to_z load least_from least search all_steps all_entries numbers_fit all_fit others_fit lengths_fit counters_fit store_words updated written counted carried_out scan fetch_task fetch_from fetch_rule start_rule complete_sink complete_inner complete_rule advanced find_room release_to release_ready release_waiting release_rule rule_of step_plan step cleared roots_laid begun roots_answer begin_answer begin turn turns desk_run weights_of starts_from preds_of lines trim skipped fields digits value_of row_of task_of contents tasks_from verdict laid read_text digits_before digits_of pair_line refused_line entry_lines run_lines graph_output desk_memory desk_read desk_output
+unfolding ℕ_discrete dec_le dec_lt first_below occ_of joined tabulate all_of sum_to after around capped next_phase part sizes_fit first_bad first_twice first_on_cycle tables_answer check_answer below? among? light? good? bad? ends_fit? twice? twice_in? find-twice edge? thru? path? leads? on_cycle? succs_below succ_start succ_starts_of succ_words degree_list roots capacity slot_at ends_at store_ends sound empty full head_on tail_on sum_to_z load least_from least search all_steps all_entries numbers_fit all_fit others_fit lengths_fit counters_fit store_words updated written counted carried_out scan fetch_task fetch_from fetch_rule start_rule complete_sink complete_inner complete_rule advanced find_room release_to release_ready release_waiting release_rule rule_of step_plan step cleared roots_laid begun roots_answer begin_answer begin turn turns desk_run weights_of starts_from preds_of lines trim skipped fields digits value_of row_of task_of contents tasks_from verdict laid read_text digits_before digits_of pair_line refused_line entry_lines run_lines graph_output desk_memory desk_read desk_output
 examples = record { nought = refl; seven = refl; ten = refl; five_digits = refl; diamond = refl; nothing = refl; two_roots = refl; eight_roots = refl; nine_roots = refl; bad_predecessor = refl }

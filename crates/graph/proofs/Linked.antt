@@ -12,7 +12,7 @@ use Rattle.task.specs.declared.Answer.TheVariants.{Refused, Accepted}
 use Rattle.task.specs.declared.Limits.{Limits}
 use Rattle.task.specs.declared.Side.{Side}
 use Rattle.graph.specs.Graph.{Graph, graph_of}
-use Rattle.graph.specs.Successors.{succ_starts, succ_words, degree_list, Linked, fill_if, link_answer, linked}
+use Rattle.graph.specs.Successors.{succ_starts_of, succ_words, degree_list, Linked, fill_if, link_answer, linked}
 use Rattle.graph.specs.Lookup.{lent_of, LookupFits}
 use Rattle.graph.specs.Tables.{Unfit, check_rows}
 use Rattle.graph.proofs.Refusals.{link-follows}
@@ -31,7 +31,7 @@ module _ (g : Graph) (s w d : List ℕ) where
   fill-kept (Refused k y) n x e = (refl, (refl, refl))
 
   fill_done : (a : Answer) → answer_says (fill_if a g s w d).answer ≡ accepted
-      → ((fill_if a g s w d).starts ≡ succ_starts g) × (((fill_if a g s w d).succs ≡ succ_words g) × ((fill_if a g s w d).degrees ≡ degree_list g))
+      → ((fill_if a g s w d).starts ≡ succ_starts_of g) × (((fill_if a g s w d).succs ≡ succ_words g) × ((fill_if a g s w d).degrees ≡ degree_list g))
   fill_done Accepted e = (refl, (refl, refl))
   fill_done (Refused k y) e = absurd (let z : ◌≡◌ {A = ℕ} 0 1 = cc in omega arith)
 
@@ -55,7 +55,7 @@ module _ (limits : Limits) (weights starts preds s w d : List ℕ) where
 
   module _ (e : answer_says left.answer ≡ accepted) where
     -- accepted: "Successors are filled, degrees are numbers of predecessors"
-    pub linked-accepted : (left.starts ≡ succ_starts (graph_of (length weights) starts preds))
+    pub linked-accepted : (left.starts ≡ succ_starts_of (graph_of (length weights) starts preds))
         × ((left.succs ≡ succ_words (graph_of (length weights) starts preds)) × (left.degrees ≡ degree_list (graph_of (length weights) starts preds)))
     unfolding linked
     linked-accepted = fill_done (graph_of (length weights) starts preds) s w d (link_answer limits weights starts preds s w d) e

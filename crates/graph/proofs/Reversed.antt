@@ -19,7 +19,7 @@ use Rattle.lists.proofs.Sums.{sum-find, sum_same, sum-zero, sum-only, sum-suc, s
 use Rattle.lists.proofs.Blocks.{length-tabulate, get_d_tabulate, block_at, occ-all, joined-rises}
 use Rattle.graph.specs.Graph.{Among, part, Graph, graph_of, edge_count, preds_of}
 use Rattle.graph.specs.Conditions.{Good, Acceptable, Sound}
-use Rattle.graph.specs.Successors.{succs_below, succs_of, succ_start, succ_starts, succ_words, degree_list, roots}
+use Rattle.graph.specs.Successors.{succs_below, succs_of, succ_start, succ_starts_of, succ_words, degree_list, roots}
 use Rattle.graph.specs.Lookup.{lent_of, starts_on, words_on, LookupFits}
 use Rattle.task.specs.declared.Side.{Side}
 use Rattle.task.specs.declared.Side.TheVariants.{Predecessors, Successors}
@@ -58,27 +58,27 @@ module _ (g : Graph) where
       length-joined n (λ s. replicate (occ u (preds_of g s)) s) ∙ sum_same n (λ t. occ u (preds_of g t)) (λ t. length (replicate (occ u (preds_of g t)) t)) (λ t l. length-replicate (occ u (preds_of g t)) t)
 
   -- u's part of the successor table is u's successors
-  pub succ-part : (u : ℕ) → u < g.tasks → part (succ_starts g) (succ_words g) u ≡ succs_of g u
-  unfolding part succ_starts succ_words succ_start
+  pub succ-part : (u : ℕ) → u < g.tasks → part (succ_starts_of g) (succ_words g) u ≡ succs_of g u
+  unfolding part succ_starts_of succ_words succ_start
   succ-part u h =
-      let a : get_or (succ_starts g) u 0 ≡ succ_start g u = get_d_tabulate (g.tasks + 1) (succ_start g) 0 u (omega arith) in
-      let b : get_or (succ_starts g) (u + 1) 0 ≡ succ_start g (u + 1) = get_d_tabulate (g.tasks + 1) (succ_start g) 0 (u + 1) (omega arith) in
+      let a : get_or (succ_starts_of g) u 0 ≡ succ_start g u = get_d_tabulate (g.tasks + 1) (succ_start g) 0 u (omega arith) in
+      let b : get_or (succ_starts_of g) (u + 1) 0 ≡ succ_start g (u + 1) = get_d_tabulate (g.tasks + 1) (succ_start g) 0 (u + 1) (omega arith) in
       let c : succ_start g (u + 1) ≡ succ_start g u + length (succs_of g u) = ap (succ_start g) (add-one u) ∙ sum-suc u (λ v. length (succs_of g v)) in
-      let w : get_or (succ_starts g) (u + 1) 0 - get_or (succ_starts g) u 0 ≡ length (succs_of g u) = omega (arith, a, b, c) in
-      ap (λ (k : ℕ). take k (drop (get_or (succ_starts g) u 0) (succ_words g))) w
+      let w : get_or (succ_starts_of g) (u + 1) 0 - get_or (succ_starts_of g) u 0 ≡ length (succs_of g u) = omega (arith, a, b, c) in
+      ap (λ (k : ℕ). take k (drop (get_or (succ_starts_of g) u 0) (succ_words g))) w
       ∙ ap (λ (k : ℕ). take (length (succs_of g u)) (drop k (succ_words g))) a
       ∙ block_at (succs_of g) g.tasks u h
 
-  start-at : (u : ℕ) → u ≤ g.tasks → get_or (succ_starts g) u 0 ≡ succ_start g u
-  unfolding succ_starts
+  start-at : (u : ℕ) → u ≤ g.tasks → get_or (succ_starts_of g) u 0 ≡ succ_start g u
+  unfolding succ_starts_of
   start-at u h = get_d_tabulate (g.tasks + 1) (succ_start g) 0 u (omega arith)
 
   -- the same of the table itself
-  pub table-reversed : (u t : ℕ) → u < g.tasks → t < g.tasks → occ t (part (succ_starts g) (succ_words g) u) ≡ occ u (preds_of g t)
+  pub table-reversed : (u t : ℕ) → u < g.tasks → t < g.tasks → occ t (part (succ_starts_of g) (succ_words g) u) ≡ occ u (preds_of g t)
   table-reversed u t h k = ap (occ t) (succ-part u h) ∙ reversed u t k
 
   -- the table is sound: its ranges rise inside it and its words are tasks
-  pub table-good : (u : ℕ) → u < g.tasks → Good g.tasks (succ_starts g) (succ_words g) u
+  pub table-good : (u : ℕ) → u < g.tasks → Good g.tasks (succ_starts_of g) (succ_words g) u
   unfolding succ_start succ_words
   table-good u h =
       let c : succ_start g (u + 1) ≡ succ_start g u + length (succs_of g u) = ap (succ_start g) (add-one u) ∙ sum-suc u (λ v. length (succs_of g v)) in
@@ -88,8 +88,8 @@ module _ (g : Graph) where
         below = λ t k. succs-below u t (rw (succ-part u h) at k);
       }
 
-  pub length-succ_starts : length (succ_starts g) ≡ g.tasks + 1
-  unfolding succ_starts
+  pub length-succ_starts : length (succ_starts_of g) ≡ g.tasks + 1
+  unfolding succ_starts_of
   length-succ_starts = length-tabulate (g.tasks + 1) (succ_start g)
 
   pub length-degrees : length (degree_list g) ≡ g.tasks
@@ -140,7 +140,7 @@ module _ (g : Graph) where
         ∙ sym (length-joined g.tasks (succs_of g)) ∙ length-succ_words
 
     -- and it runs from 0 to E
-    pub table-ends : (◌≡◌ {A = ℕ} (get_or (succ_starts g) 0 0) 0) × (get_or (succ_starts g) g.tasks 0 ≡ edge_count g)
+    pub table-ends : (◌≡◌ {A = ℕ} (get_or (succ_starts_of g) 0 0) 0) × (get_or (succ_starts_of g) g.tasks 0 ≡ edge_count g)
     unfolding succ_start sum_to succ_words
     table-ends = (start-at 0 (omega arith), start-at g.tasks (omega arith) ∙ sym (length-joined g.tasks (succs_of g)) ∙ length-succ_words)
 
@@ -237,7 +237,7 @@ module _ (g : Graph) where
 
 -- beside a sound graph's successor table every task's neighbours can be looked up on both sides
 pub table-lookup : (weights starts preds : List ℕ) → Sound (graph_of (length weights) starts preds) → (side : Side) (t : ℕ) → t < length weights
-    → LookupFits side (lent_of weights starts preds (succ_starts (graph_of (length weights) starts preds)) (succ_words (graph_of (length weights) starts preds))) t
+    → LookupFits side (lent_of weights starts preds (succ_starts_of (graph_of (length weights) starts preds)) (succ_words (graph_of (length weights) starts preds))) t
 table-lookup weights starts preds s side t h =
     record {
       tasks = s.sized.tasks;
@@ -249,6 +249,6 @@ table-lookup weights starts preds s side t h =
       good = on side;
     }
   where
-    on : (d : Side) → Good (length weights) (starts_on d (lent_of weights starts preds (succ_starts (graph_of (length weights) starts preds)) (succ_words (graph_of (length weights) starts preds)))) (words_on d (lent_of weights starts preds (succ_starts (graph_of (length weights) starts preds)) (succ_words (graph_of (length weights) starts preds)))) t
+    on : (d : Side) → Good (length weights) (starts_on d (lent_of weights starts preds (succ_starts_of (graph_of (length weights) starts preds)) (succ_words (graph_of (length weights) starts preds)))) (words_on d (lent_of weights starts preds (succ_starts_of (graph_of (length weights) starts preds)) (succ_words (graph_of (length weights) starts preds)))) t
     on Predecessors = s.good t h
     on Successors = table-good (graph_of (length weights) starts preds) t h

@@ -23,8 +23,8 @@ unfoldable pub succ_start : Graph → ℕ → ℕ
 succ_start g u = sum_to u (λ v. length (succs_of g v))
 
 -- "Successor starts N+1"
-unfoldable pub succ_starts : Graph → List ℕ
-succ_starts g = tabulate (g.tasks + 1) (succ_start g)
+unfoldable pub succ_starts_of : Graph → List ℕ
+succ_starts_of g = tabulate (g.tasks + 1) (succ_start g)
 
 unfoldable pub succ_words : Graph → List ℕ
 succ_words g = joined g.tasks (succs_of g)
@@ -49,7 +49,7 @@ linked_of a s w d = record { answer = a; starts = s; succs = w; degrees = d }
 
 -- a refusal leaves the lent lists; else they are filled
 abbrev pub fill_if : Answer → Graph → List ℕ → List ℕ → List ℕ → Linked
-fill_if Accepted g s w d = linked_of Accepted (succ_starts g) (succ_words g) (degree_list g)
+fill_if Accepted g s w d = linked_of Accepted (succ_starts_of g) (succ_words g) (degree_list g)
 fill_if (Refused n x) g s w d = linked_of (Refused n x) s w d
 
 -- "Each length is exact": successor starts N+1, successors E, degrees N

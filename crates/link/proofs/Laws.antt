@@ -14,7 +14,7 @@ use Rattle.task.specs.declared.Answer.TheVariants.{Refused, Accepted}
 use Rattle.graph.specs.Graph.{graph_of}
 use Rattle.graph.specs.Conditions.{Sound, GraphFits}
 use Rattle.graph.specs.Check.{check_answer}
-use Rattle.graph.specs.Successors.{succ_starts, succ_words, degree_list, linked_of, lent_fit, link_answer, linked}
+use Rattle.graph.specs.Successors.{succ_starts_of, succ_words, degree_list, linked_of, lent_fit, link_answer, linked}
 use Rattle.graph.specs.Tables.{Unfit}
 use Rattle.graph.proofs.Accepted.{link-accepted-iff, fits-sound}
 
@@ -44,7 +44,7 @@ module _ (limits : Limits) (weights starts preds s w d : List ℕ) (a : Answer) 
       ),
     )
 
-    pub link-filled : (s' w' d' : List ℕ) → s' ≡ succ_starts (graph_of (length weights) starts preds) → w' ≡ succ_words (graph_of (length weights) starts preds) → d' ≡ degree_list (graph_of (length weights) starts preds)
+    pub link-filled : (s' w' d' : List ℕ) → s' ≡ succ_starts_of (graph_of (length weights) starts preds) → w' ≡ succ_words (graph_of (length weights) starts preds) → d' ≡ degree_list (graph_of (length weights) starts preds)
         → linked_of a s' w' d' ≡ linked limits weights starts preds s w d
     unfolding linked
     link-filled s' w' d' p q r = rw (answers, e, p, q, r)

@@ -14,6 +14,10 @@ pub neither : {A B : Type 0} → ¬ A → ¬ B → ¬ (A ⊎ B)
 neither n m (inl a) = n a
 neither n m (inr b) = m b
 
+-- both parts of a pair, as a function of two takes them
+pub with_both : {A B C : Type 0} → (A → B → C) → A × B → C
+with_both f h = f h.0 h.1
+
 -- what a test decides: with the test's value goes a reason
 pub data Told (b : Bool) (Yes No : Type 0) : Type 0 where
   told-true : b ≡ true → Yes → Told b Yes No

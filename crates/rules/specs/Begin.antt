@@ -3,7 +3,7 @@ use Rattle.std.specs.Prelude.{ℕ, List, [], length, replicate, pos}
 use Rattle.task.specs.Types.{idle}
 use Rattle.task.specs.declared.Limits.{Limits}
 use Rattle.task.specs.declared.Answer.{Answer}
-use Rattle.graph.specs.Successors.{succ_starts, succ_words, degree_list, roots}
+use Rattle.graph.specs.Successors.{succ_starts_of, succ_words, degree_list, roots}
 pub use Rattle.plans.specs.Begin.{begin_result}
 unfoldable pub use Rattle.plans.specs.Begin.{roots_answer, begin_answer}
 unfoldable pub use Rattle.plans.specs.Laying.{roots_laid}
@@ -14,7 +14,7 @@ use Rattle.rules.specs.Plans.{Result}
 -- of predecessors."
 unfoldable pub cleared : Mem → Mem
 cleared m =
-    mem_of m.weights m.pred_starts m.preds (succ_starts (graph_in m)) (succ_words (graph_in m)) (degree_list (graph_in m))
+    mem_of m.weights m.pred_starts m.preds (succ_starts_of (graph_in m)) (succ_words (graph_in m)) (degree_list (graph_in m))
     (replicate (length m.rings) 0)
     (replicate (length m.ends) 0)
     (replicate (length m.counters) (pos 0))

@@ -2,7 +2,7 @@
 use Rattle.std.specs.Prelude.{ℕ, ◌%◌, ◌<◌, ◌≡◌, cond, List, [], length, get_or, replicate, eqb, pos}
 use Rattle.lists.specs.Sums.{sum_of}
 use Rattle.task.specs.Types.{idle}
-use Rattle.graph.specs.Successors.{succ_starts, succ_words, degree_list, roots}
+use Rattle.graph.specs.Successors.{succ_starts_of, succ_words, degree_list, roots}
 use Rattle.ring.specs.Ring.{slot_at, queue}
 unfoldable pub use Rattle.plans.specs.Laying.{dealt, to_ring}
 use Rattle.rules.specs.Memory.{Mem, graph_in, ring_number, rings_in, ends_in, counter_in, weight_in}
@@ -19,7 +19,7 @@ pub record LaidDown (p k : ℕ) (m b : Mem) : Type 0 where
   pub pred_starts : b.pred_starts ≡ m.pred_starts
   pub preds : b.preds ≡ m.preds
   -- "Successors are filled"
-  pub succ_starts : b.succ_starts ≡ succ_starts (graph_in m)
+  pub succ_starts : b.succ_starts ≡ succ_starts_of (graph_in m)
   pub succs : b.succs ≡ succ_words (graph_in m)
   -- "degrees are numbers of predecessors"
   pub degrees : b.degrees ≡ degree_list (graph_in m)

@@ -18,7 +18,7 @@ use Rattle.task.specs.declared.Limits.{Limits}
 use Rattle.task.specs.declared.Row.{Row}
 use Rattle.graph.specs.Graph.{Graph, part}
 use Rattle.graph.specs.Conditions.{Sound}
-use Rattle.graph.specs.Successors.{succs_of, succ_starts, degree_list, roots}
+use Rattle.graph.specs.Successors.{succs_of, succ_starts_of, degree_list, roots}
 use Rattle.graph.proofs.Accepted.{fits-sound}
 use Rattle.graph.proofs.Reversed.{reversed-all, succs-none, degree-read, occ-roots, succ-part, length-degrees}
 use Rattle.plans.proofs.Dealt.{occ-dealt}
@@ -86,7 +86,7 @@ module _ (p k : ℕ) (m b : Mem) (positive : 0 < p) (sound : Sound (graph_in m))
       go (yes h) =
           successors-at p k b t (rw laid.weights h)
           ∙ ap (λ (a : List ℕ). part a b.succs t) laid.succ_starts
-          ∙ ap (λ (a : List ℕ). part (succ_starts (graph_in m)) a t) laid.succs
+          ∙ ap (λ (a : List ℕ). part (succ_starts_of (graph_in m)) a t) laid.succs
           ∙ succ-part (graph_in m) t h
       go (no n) =
           get_or-eq_default (state_of p k b).successors [] {n = t} (omega (arith, many, ap length laid.weights))

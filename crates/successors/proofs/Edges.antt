@@ -11,7 +11,7 @@ use Rattle.lists.proofs.Sums.{sum_same, sum-prefix, length-joined}
 use Rattle.lists.proofs.Blocks.{tabulate-same}
 use Rattle.graph.specs.Graph.{Graph, preds_of}
 use Rattle.graph.specs.Conditions.{Sound}
-use Rattle.graph.specs.Successors.{succs_below, succs_of, succ_start, succ_starts, succ_words, degree_list}
+use Rattle.graph.specs.Successors.{succs_below, succs_of, succ_start, succ_starts_of, succ_words, degree_list}
 use Rattle.graph.proofs.Parts.{length_part}
 use Rattle.graph.proofs.Reversed.{length-succs_below, length-succs, length-succ_words}
 use Rattle.successors.specs.Filling.{Starts, gaps, sum_below, Summed, placed_of, place_all, Room, Begun}
@@ -113,6 +113,6 @@ module _ (g : Graph) (s : Sound g) where
       pub summed-begun : (succs : List ℕ) → g.tasks ≤ length next → length succs ≡ length g.preds → Begun g next succs
       summed-begun succs h e = record { sound = s; inside = h; places = λ u k. m.places u k ∙ sums-start u; whole = e }
 
-      pub summed-starts : starts ≡ succ_starts g
-      unfolding succ_starts
+      pub summed-starts : starts ≡ succ_starts_of g
+      unfolding succ_starts_of
       summed-starts = m.sums ∙ tabulate-same (g.tasks + 1) (sum_below counts) (succ_start g) (λ u h. sums-start u)

@@ -4,7 +4,7 @@
 ghost use Rattle.std.specs.Prelude.{◌≡◌, ◌+◌, ◌≤◌, ◌<◌, length, get_or, set};
 ghost use Rattle.graph.specs.Graph.{graph_of};
 ghost use Rattle.graph.specs.Conditions.{Sound};
-ghost use Rattle.graph.specs.Successors.{succ_starts, succ_words, degree_list};
+ghost use Rattle.graph.specs.Successors.{succ_starts_of, succ_words, degree_list};
 ghost use Rattle.successors.specs.Filling.{Starts, gaps, sum_below, Summed, placed_of, place_all, Room, Begun};
 
 // Each task's degree is the number of its predecessors.
@@ -87,7 +87,7 @@ pub fn fill(
 )
     requires { Sound (graph_of n starts.now preds.now) × ((length succ_starts.old ≡ n + 1)
         × ((length succs.old ≡ length preds.now) × (length degrees.old ≡ n))) }
-    ensures { (succ_starts.new ≡ succ_starts (graph_of n starts.now preds.now))
+    ensures { (succ_starts.new ≡ succ_starts_of (graph_of n starts.now preds.now))
         × ((succs.new ≡ succ_words (graph_of n starts.now preds.now))
         × (degrees.new ≡ degree_list (graph_of n starts.now preds.now))) }
 {

@@ -19,7 +19,7 @@ use Rattle.weak_task.specs.Types.{Copy, copy}
 use Rattle.graph.specs.Graph.{part}
 use Rattle.graph.specs.Check.{sizes_fit, first_bad, first_twice, first_on_cycle, tables_answer, check_answer}
 use Rattle.graph.specs.Decide.{below?, among?, light?, good?, bad?, ends_fit?, twice?, twice_in?, find-twice, edge?, thru?, path?, leads?, on_cycle?}
-use Rattle.graph.specs.Successors.{succs_below, succ_start, succ_starts, succ_words, roots}
+use Rattle.graph.specs.Successors.{succs_below, succ_start, succ_starts_of, succ_words, roots}
 use Rattle.ring.specs.Ring.{capacity, slot_at, ends_at, store_ends, sound, empty, full, head_on, tail_on, queued, queue}
 use Rattle.choice.specs.Least.{load, least_from, least}
 use Rattle.choice.specs.Search.{search}
@@ -179,7 +179,7 @@ pub record Examples : Type 0 where
 
 -- begin's words and the run's last ones are known from the rules' examples
 pub examples : Examples
-unfolding ℕ_discrete dec_le dec_lt first_below occ_of joined tabulate all_of square sum_to sum_to_z after around capped next_phase part sizes_fit first_bad first_twice first_on_cycle tables_answer check_answer below? among? light? good? bad? ends_fit? twice? twice_in? find-twice edge? thru? path? leads? on_cycle? succs_below succ_start succ_starts succ_words roots capacity slot_at ends_at store_ends sound empty full head_on tail_on queued queue load least_from least search all_steps all_entries numbers_fit all_fit others_fit lengths_fit counters_fit store_words updated written counted carried_out scan fetch_copy fetch_from fetch_rule start_rule complete_copy complete_sink complete_inner complete_last complete_rule advanced find_room release_to release_first release_later release_rule rule_of step_plan step weak_degrees roots_laid cleared begun roots_answer begin_answer begin memory_after buffer_in thread_in record_in state_of
+unfolding ℕ_discrete dec_le dec_lt first_below occ_of joined tabulate all_of square sum_to sum_to_z after around capped next_phase part sizes_fit first_bad first_twice first_on_cycle tables_answer check_answer below? among? light? good? bad? ends_fit? twice? twice_in? find-twice edge? thru? path? leads? on_cycle? succs_below succ_start succ_starts_of succ_words roots capacity slot_at ends_at store_ends sound empty full head_on tail_on queued queue load least_from least search all_steps all_entries numbers_fit all_fit others_fit lengths_fit counters_fit store_words updated written counted carried_out scan fetch_copy fetch_from fetch_rule start_rule complete_copy complete_sink complete_inner complete_last complete_rule advanced find_room release_to release_first release_later release_rule rule_of step_plan step weak_degrees roots_laid cleared begun roots_answer begin_answer begin memory_after buffer_in thread_in record_in state_of
 examples =
     record {
       begins = ap (state_after []) (desk.examples).laid_out;

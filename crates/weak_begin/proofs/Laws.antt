@@ -15,7 +15,7 @@ use Rattle.weak_task.specs.Types.{copy, idle}
 use Rattle.weak_task.specs.declared.WeakRow.{WeakRow}
 use Rattle.graph.specs.Graph.{Graph, graph_of}
 use Rattle.graph.specs.Conditions.{Sound, GraphFits}
-use Rattle.graph.specs.Successors.{succ_starts, succ_words, degree_list, roots}
+use Rattle.graph.specs.Successors.{succ_starts_of, succ_words, degree_list, roots}
 use Rattle.graph.proofs.Accepted.{fits-sound}
 use Rattle.graph.proofs.Reversed.{length-degrees, length-roots}
 use Rattle.ring.specs.Ring.{ring_words, end_words}
@@ -147,7 +147,7 @@ module _ (limits : Limits) (p k rows : ℕ) (w s e ss sc d f : List ℕ) (r : Li
   begin-refused i j q = (λ rs h. rw (answer-is rs h, q), omega arith)
 
   module _ (q : a ≡ Accepted) (ss' sc' d₀ d' f' : List ℕ) (r' : List (List ℕ)) (n' : List ℕ) (c' : List ℤ) (b' x' u' : List ℕ)
-      (hs : ss' ≡ succ_starts (graph_of (length w) s e)) (hw : sc' ≡ succ_words (graph_of (length w) s e)) (hd : d₀ ≡ degree_list (graph_of (length w) s e))
+      (hs : ss' ≡ succ_starts_of (graph_of (length w) s e)) (hw : sc' ≡ succ_words (graph_of (length w) s e)) (hd : d₀ ≡ degree_list (graph_of (length w) s e))
       (placed : Placed p k w d₀ (length d₀) f' (copies_of r') n' c') (raised : Raised d₀ d')
       (hb : b' ≡ replicate (length b) 0) (hx : x' ≡ replicate (length x) 0)
       (hu : (preds : List ℕ) → Sound (graph_of (length w) s preds) → u' ≡ set (replicate (length u) 0) 2 (length (roots (graph_of (length w) s preds)))) where

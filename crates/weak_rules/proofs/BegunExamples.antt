@@ -16,7 +16,7 @@ use Rattle.weak_task.specs.Types.{copy, idle, task_copy}
 use Rattle.graph.specs.Graph.{part}
 use Rattle.graph.specs.Check.{sizes_fit, first_bad, first_twice, first_on_cycle, tables_answer, check_answer}
 use Rattle.graph.specs.Decide.{below?, among?, light?, good?, bad?, ends_fit?, twice?, twice_in?, find-twice, edge?, thru?, path?, leads?, on_cycle?}
-use Rattle.graph.specs.Successors.{succs_below, succ_start, succ_starts, succ_words, roots}
+use Rattle.graph.specs.Successors.{succs_below, succ_start, succ_starts_of, succ_words, roots}
 use Rattle.ring.specs.Ring.{capacity, end_words, slot_at, ends_at, store_ends, tail_on}
 use Rattle.memory.specs.Shape.{all_fit}
 use Rattle.memory.specs.Updates.{updated, written}
@@ -51,5 +51,5 @@ pub record BegunExamples : Type 0 where
   pub three_roots_refused : answer_says (begin engine 1 2 (three_roots 1 2)).answer ≡ refused 6 3
 
 pub begun-examples : BegunExamples
-unfolding ℕ_discrete dec_le dec_lt first_below occ_of joined tabulate all_of sum_to after capped part sizes_fit first_bad first_twice first_on_cycle tables_answer check_answer below? among? light? good? bad? ends_fit? twice? twice_in? find-twice edge? thru? path? leads? on_cycle? succs_below succ_start succ_starts succ_words roots capacity slot_at ends_at store_ends tail_on numbers_fit all_fit others_fit updated written roots_laid weak_degrees cleared begun roots_answer begin_answer begin
+unfolding ℕ_discrete dec_le dec_lt first_below occ_of joined tabulate all_of sum_to after capped part sizes_fit first_bad first_twice first_on_cycle tables_answer check_answer below? among? light? good? bad? ends_fit? twice? twice_in? find-twice edge? thru? path? leads? on_cycle? succs_below succ_start succ_starts_of succ_words roots capacity slot_at ends_at store_ends tail_on numbers_fit all_fit others_fit updated written roots_laid weak_degrees cleared begun roots_answer begin_answer begin
 begun-examples = record { three_roots_begun = refl; three_roots_refused = refl }

@@ -5,7 +5,7 @@ use Rattle.task.specs.Types.{nil}
 use Rattle.task.specs.declared.Limits.{Limits}
 use Rattle.task.specs.declared.Answer.{Answer}
 use Rattle.graph.specs.Graph.{Graph, preds_of}
-use Rattle.graph.specs.Successors.{succ_starts, succ_words, roots}
+use Rattle.graph.specs.Successors.{succ_starts_of, succ_words, roots}
 use Rattle.weak_task.specs.Types.{copy, idle, unfixed}
 use Rattle.plans.specs.Laying.{roots_laid}
 pub use Rattle.plans.specs.Begin.{begin_result}
@@ -22,7 +22,7 @@ weak_degrees g = tabulate g.tasks (λ t. max 1 (length (preds_of g t)))
 -- word .. keeps R"
 unfoldable pub cleared : Mem → Mem
 cleared m =
-    mem_of m.weights m.pred_starts m.preds (succ_starts (graph_in m)) (succ_words (graph_in m)) (weak_degrees (graph_in m))
+    mem_of m.weights m.pred_starts m.preds (succ_starts_of (graph_in m)) (succ_words (graph_in m)) (weak_degrees (graph_in m))
     (replicate (length m.fixed) unfixed.0)
     (replicate (length m.rings) (copy 0 0))
     (replicate (length m.ends) 0)

@@ -4,7 +4,7 @@ use Rattle.lists.specs.Lists.{occ}
 use Rattle.lists.specs.Sums.{sum_of}
 use Rattle.task.specs.Types.{nil}
 use Rattle.graph.specs.Graph.{preds_of}
-use Rattle.graph.specs.Successors.{succ_starts, succ_words, roots}
+use Rattle.graph.specs.Successors.{succ_starts_of, succ_words, roots}
 use Rattle.ring.specs.Ring.{slot_at, queue}
 use Rattle.weak_task.specs.Types.{Copy, copy, idle, unfixed}
 use Rattle.plans.specs.Laying.{dealt}
@@ -26,7 +26,7 @@ pub record LaidDown (p k : ℕ) (m b : Mem) : Type 0 where
   pub pred_starts : b.pred_starts ≡ m.pred_starts
   pub preds : b.preds ≡ m.preds
   -- "Successors are filled"
-  pub succ_starts : b.succ_starts ≡ succ_starts (graph_in m)
+  pub succ_starts : b.succ_starts ≡ succ_starts_of (graph_in m)
   pub succs : b.succs ≡ succ_words (graph_in m)
   -- "degrees are numbers of predecessors", "a root being begun with degree 1"
   pub degree : (t : ℕ) → t < tasks m → 0 < length (preds_of (graph_in m) t) → degree_in b t ≡ length (preds_of (graph_in m) t)

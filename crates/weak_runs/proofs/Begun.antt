@@ -20,7 +20,7 @@ use Rattle.task.specs.declared.Limits.{Limits}
 use Rattle.weak_task.specs.declared.WeakRow.{WeakRow}
 use Rattle.graph.specs.Graph.{Graph, part, preds_of}
 use Rattle.graph.specs.Conditions.{Sound}
-use Rattle.graph.specs.Successors.{succs_of, succ_starts, roots}
+use Rattle.graph.specs.Successors.{succs_of, succ_starts_of, roots}
 use Rattle.graph.proofs.Accepted.{fits-sound}
 use Rattle.graph.proofs.Reversed.{succs-none, occ-roots, succ-part}
 use Rattle.memory.specs.Field as list
@@ -128,7 +128,7 @@ module _ (p k : ℕ) (m b : Mem) (positive : 0 < p) (sound : Sound (graph_in m))
       go (yes h) =
           successors-at p k b t (rw laid.weights h)
           ∙ ap (λ (a : List ℕ). part a b.succs t) laid.succ_starts
-          ∙ ap (λ (a : List ℕ). part (succ_starts (graph_in m)) a t) laid.succs
+          ∙ ap (λ (a : List ℕ). part (succ_starts_of (graph_in m)) a t) laid.succs
           ∙ succ-part (graph_in m) t h
       go (no n) =
           get_or-eq_default (state_of p k b).lists.successors [] {n = t} (omega (arith, many, ap length laid.weights))

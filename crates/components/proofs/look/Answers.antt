@@ -11,28 +11,28 @@ seen : (c : Start) → Looks (graph_of c.args.n c.args.starts.now c.args.preds.n
 seen c = looks c.requires.0 _ _ c.requires.1.1.0.0 c.requires.1.1.1
 
 pub overflow_cast-p : goal.overflow_cast-p
-overflow_cast-p c = let k = seen (goal.at.overflow_cast-p c).After-shared_slice_known-1 in omega arith
+overflow_cast-p c = let k = seen (goal.at.overflow_cast-p c).Start in omega arith
 
 pub offset_bounds-preds-p : goal.offset_bounds-preds-p
-offset_bounds-preds-p c = let k = seen (goal.at.offset_bounds-preds-p c).After-shared_slice_known-1 in omega arith
+offset_bounds-preds-p c = let k = seen (goal.at.offset_bounds-preds-p c).Start in omega arith
 
 pub bounds-preds-p : goal.bounds-preds-p
-bounds-preds-p c = let k = seen (goal.at.bounds-preds-p c).After-shared_slice_known-1 in omega arith
+bounds-preds-p c = let k = seen (goal.at.bounds-preds-p c).Start in omega arith
 
 pub overflow_cast-u : goal.overflow_cast-u
-overflow_cast-u c = let k = seen (goal.at.overflow_cast-u c).After-shared_slice_known-1 in omega arith
+overflow_cast-u c = let k = seen (goal.at.overflow_cast-u c).Start in omega arith
 
 pub offset_bounds-rank-u : goal.offset_bounds-rank-u
-offset_bounds-rank-u c = let k = seen (goal.at.offset_bounds-rank-u c).After-shared_slice_known-1 in omega arith
+offset_bounds-rank-u c = let k = seen (goal.at.offset_bounds-rank-u c).Start in omega arith
 
 pub bounds-rank-u : goal.bounds-rank-u
-bounds-rank-u c = let k = seen (goal.at.bounds-rank-u c).After-shared_slice_known-2-1 in omega arith
+bounds-rank-u c = let k = seen (goal.at.bounds-rank-u c).Start in omega arith
 
 pub enter-requires : goal.enter-requires
-enter-requires c = let s = (goal.at.enter-requires c).After-shared_slice_known-2-1 in let k = seen s in (k.tasks, (omega arith, (s.requires.1.0, (k.task, s.requires.1.1.0.0))))
+enter-requires c = let k = seen (goal.at.enter-requires c).Start in (k.tasks, (omega arith, (c.requires.1.0, (k.task, c.requires.1.1.0.0))))
 
 pub returns-then-low-eq0 : goal.returns-then-low-eq0
-returns-then-low-eq0 c = let s = (goal.at.returns-then-low-eq0 c).After-shared_slice_known-2-1 in (c.enter.ensures, ((seen s).task, s.requires.1.1.0.1))
+returns-then-low-eq0 c = (c.enter.ensures, ((seen (goal.at.returns-then-low-eq0 c).Start).task, c.requires.1.1.0.1))
 
 pub pass-requires : goal.pass-requires
-pass-requires c = let s = (goal.at.pass-requires c).After-shared_slice_known-2-1 in let k = seen s in omega (arith, s.requires.1.1.0.0, k)
+pass-requires c = let k = seen (goal.at.pass-requires c).Start in omega (arith, c.requires.1.1.0.0, k)

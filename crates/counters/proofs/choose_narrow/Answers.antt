@@ -1,10 +1,10 @@
 use Rattle.counters.proofs.Best.{Best, best-first, best-replaced, best-kept, best-whole}
-use mathlib.Core.Logic.{⊎_elim}
 use Prim.Native.Nat.{◌≤◌, ◌-◌}
 use native.Mathlib.Omega.{arith}
 use borrow.Author.Rules.{rules}
 use mir.Syntax.{w32}
 use Rattle.counters.proofs.choose_narrow.Goals as goal
+use Rattle.counters.proofs.choose_narrow.Goals.{then-sum-least, else-sum-least}
 
 pub narrow_load-least-requires : goal.narrow_load-least-requires
 narrow_load-least-requires c = (c.requires.0, (c.requires.1.1.0, (omega arith, c.requires.1.1.1)))
@@ -29,10 +29,10 @@ pub loop-j-preserved : goal.loop-j-preserved
 loop-j-preserved c =
     let r = c.narrow_load-sum in
     let old = c.loop-j.invariant.0 in (
-      ⊎_elim
-          (λ w. rw (w.1, w.2) (best-replaced w32 _ _ _ _ _ old (omega arith) _ (search rules) r.ensures w.0.taken))
-          (λ w. rw (w.1, w.2) (best-kept w32 _ _ _ _ _ old (omega arith) _ (search rules) r.ensures w.0.left))
-          c.if-sum-least.branch,
+      elim c.if-sum-least.branch [
+        then-sum-least w ↦ rw (w.best-is, w.least-is) (best-replaced w32 _ _ _ _ _ old (omega arith) _ (search rules) r.ensures w.if-sum-least.true)
+        | else-sum-least w ↦ rw (w.best-is, w.least-is) (best-kept w32 _ _ _ _ _ old (omega arith) _ (search rules) r.ensures w.if-sum-least.false)
+      ],
       omega arith,
     )
 

@@ -1,10 +1,10 @@
 use Rattle.counters.proofs.Best.{Best, best-first, best-replaced, best-kept, best-whole, FitTo, fit_none, damaged-here, fit_on, fit-whole}
 use mir.Syntax.{w64}
-use mathlib.Core.Logic.{⊎_elim}
 use Prim.Native.Nat.{◌≤◌, ◌-◌}
 use native.Mathlib.Omega.{arith}
 use borrow.Author.Rules.{rules}
 use Rattle.counters.proofs.choose_wide.Goals as goal
+use Rattle.counters.proofs.choose_wide.Goals.{then-load-least, else-load-least}
 
 pub load_of-first-requires : goal.load_of-first-requires
 load_of-first-requires c = omega arith
@@ -39,15 +39,15 @@ pub loop-j-preserved : goal.loop-j-preserved
 loop-j-preserved c =
     let r = c.load_of-load in
     let old = c.loop-j.invariant in (
-      ⊎_elim
-          (λ w. rw (w.2, w.3) (best-replaced w64 _ _ _ _ _ old.0 (omega arith) _ (search rules) r.ensures.0 w.0.taken))
-          (λ w. rw (w.1, w.2) (best-kept w64 _ _ _ _ _ old.0 (omega arith) _ (search rules) r.ensures.0 w.0.left))
-          c.if-load-least.branch,
+      elim c.if-load-least.branch [
+        then-load-least w ↦ rw (w.best-is, w.least-is) (best-replaced w64 _ _ _ _ _ old.0 (omega arith) _ (search rules) r.ensures.0 w.if-load-least.true)
+        | else-load-least w ↦ rw (w.best-is, w.least-is) (best-kept w64 _ _ _ _ _ old.0 (omega arith) _ (search rules) r.ensures.0 w.if-load-least.false)
+      ],
       (fit_on _ _ _ _ r.result.fits r.ensures old.1.0 c.if-not-load.false, omega arith),
     )
 
 pub returns : goal.returns
 returns c =
     let l = c.loop-j in
-    let s = (goal.at.returns c).Start in
-    (fit-whole s.args.p _ l.j l.invariant.1.0 (omega arith) s.requires.0, best-whole w64 _ _ _ _ _ l.invariant.0 (omega arith))
+    
+    (fit-whole c.args.p _ l.j l.invariant.1.0 (omega arith) c.requires.0, best-whole w64 _ _ _ _ _ l.invariant.0 (omega arith))

@@ -7,7 +7,7 @@ use borrow.Author.Rules.{rules}
 use Rattle.counters.proofs.choose_wide.Given as goal
 
 abbrev pub invariant-loop-j : goal.invariant-loop-j
-invariant-loop-j l = Best w64 l.p l.counters l.j l.best.0 l.least × (FitTo l.p l.counters l.j × (l.j ≤ l.p))
+invariant-loop-j l = Best l.p l.counters l.j l.best.0 l.least × (FitTo l.p l.counters l.j × (l.j ≤ l.p))
 
 abbrev pub decreases-loop-j : goal.decreases-loop-j
 decreases-loop-j l = l.p - l.j

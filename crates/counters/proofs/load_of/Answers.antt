@@ -12,7 +12,7 @@ pub overflow_mul-first : goal.overflow_mul-first
 overflow_mul-first c = omega (arith, place-small 16 _ _ c.requires.1.1 c.requires.1.0)
 
 pub loop-f-init : goal.loop-f-init
-loop-f-init c = (omega arith, (sum-none w64 _ _ _ refl, ranged-none _ _))
+loop-f-init c = (omega arith, (sum-none _ _ _, ranged-none _ _))
 
 pub overflow_add-counter : goal.overflow_add-counter
 overflow_add-counter c = omega (arith, place-small 16 _ _ c.requires.1.1 c.requires.1.0)
@@ -41,7 +41,7 @@ loop-f-preserved c =
     let r = c.add_counter-sum in (
       omega arith,
       (
-        sum-on w64 _ _ _ _ _ l.invariant.1.0 (search rules) _ (record { sfits = r.type-inv }) r.ensures (omega arith),
+        sum-on _ _ _ w64 _ _ l.invariant.1.0 (search rules) _ (record { sfits = r.type_inv }) r.ensures (omega arith),
         ranged-on _ _ _ _ l.invariant.1.1
             (omega (arith, place-lt a.p a.p a.worker.0 l.f (omega arith) (omega arith)))
             (search rules) _ c.in_range-fits.ensures,
@@ -51,4 +51,4 @@ loop-f-preserved c =
 pub returns : goal.returns
 returns c =
     let l = c.loop-f in
-    (sum-whole w64 _ _ _ _ _ _ _ l.invariant.1.0 refl (omega arith), ranged-whole _ _ _ _ _ l.invariant.1.1 (omega arith))
+    (sum-whole _ _ _ _ _ _ _ l.invariant.1.0 refl (omega arith), ranged-whole _ _ _ _ _ l.invariant.1.1 (omega arith))

@@ -11,7 +11,7 @@ pub overflow_mul-first : goal.overflow_mul-first
 overflow_mul-first c = omega (arith, place-small 16 _ _ c.requires.1.1.0 c.requires.1.0)
 
 pub loop-f-init : goal.loop-f-init
-loop-f-init c = (omega arith, sum-none w32 _ _ _ refl)
+loop-f-init c = (omega arith, sum-none _ _ _)
 
 pub overflow_add-sum : goal.overflow_add-sum
 overflow_add-sum c = omega (arith, place-small 16 _ _ c.requires.1.1.0 c.requires.1.0)
@@ -26,10 +26,9 @@ bounds-counters-first c =
 
 pub overflow_add-sum-in-loop-f : goal.overflow_add-sum-in-loop-f
 overflow_add-sum-in-loop-f c =
-    let b = (goal.at.overflow_add-sum-in-loop-f c).Start in
     let l = c.loop-f in
     narrow-fits _ _ _ _ l.invariant.1 (omega arith) (search rules)
-    (b.requires.1.1.1 _ (omega (arith, place-lt b.args.p b.args.p b.args.worker.0 l.f (omega arith) (omega arith))))
+    (c.requires.1.1.1 _ (omega (arith, place-lt c.args.p c.args.p c.args.worker.0 l.f (omega arith) (omega arith))))
 
 pub overflow_add-f : goal.overflow_add-f
 overflow_add-f c = omega arith
@@ -39,12 +38,11 @@ loop-f-smaller c = omega arith
 
 pub loop-f-preserved : goal.loop-f-preserved
 loop-f-preserved c =
-    let b = (goal.at.loop-f-preserved c).Start in
     let l = c.loop-f in (
       omega arith,
       narrow-on _ _ _ _ l.invariant.1 (omega arith) (search rules)
-          (b.requires.1.1.1 _ (omega (arith, place-lt b.args.p b.args.p b.args.worker.0 l.f (omega arith) (omega arith)))),
+          (c.requires.1.1.1 _ (omega (arith, place-lt c.args.p c.args.p c.args.worker.0 l.f (omega arith) (omega arith)))),
     )
 
 pub returns : goal.returns
-returns c = sum-whole w32 _ _ _ _ _ _ _ c.loop-f.invariant.1 refl (omega arith)
+returns c = sum-whole _ _ _ _ _ _ _ c.loop-f.invariant.1 refl (omega arith)

@@ -6,7 +6,7 @@ use borrow.Author.Rules.{rules}
 use Rattle.cycles.proofs.lowest_before.Goals as goal
 
 pub returns-then-left-t-eq0 : goal.returns-then-left-t-eq0
-returns-then-left-t-eq0 c = let s = (goal.at.returns-then-left-t-eq0 c).Start in lowest-none s.args.left.now _ _ _ s.requires.1.1.1 c.if-left-t-eq0.true
+returns-then-left-t-eq0 c = lowest-none c.args.left.now _ _ _ c.requires.1.1.1 c.if-left-t-eq0.true
 
 pub overflow_cast-a : goal.overflow_cast-a
 overflow_cast-a c = let p = c.requires in let q = p.0.good _ p.1.0 in omega (arith, q.rises, q.inside, p.0.sized.edges)
@@ -19,6 +19,12 @@ offset_bounds-preds-a c = let p = c.requires in let q = p.0.good _ p.1.0 in omeg
 
 pub slice_bounds-lowest-count : goal.slice_bounds-lowest-count
 slice_bounds-lowest-count c = let p = c.requires in let q = p.0.good _ p.1.0 in omega (arith, q.rises, q.inside, p.0.sized.edges)
+
+pub slice_bounds-lowest-start : goal.slice_bounds-lowest-start
+slice_bounds-lowest-start c = let p = c.requires in let q = p.0.good _ p.1.0 in omega (arith, q.rises, q.inside, p.0.sized.edges)
+
+pub slice_bounds-lowest-end : goal.slice_bounds-lowest-end
+slice_bounds-lowest-end c = let p = c.requires in let q = p.0.good _ p.1.0 in omega (arith, q.rises, q.inside, p.0.sized.edges)
 
 pub lowest-requires : goal.lowest-requires
 unfolding part

@@ -9,7 +9,7 @@ use Rattle.cycles.proofs.Marks.{grown-none, grown-more, grown-all}
 use Rattle.cycles.proofs.mark_all.Given as goal
 
 abbrev pub invariant-loop-i : goal.invariant-loop-i
-invariant-loop-i l = (l.i ≤ length l.words) × Grown (take l.i l.words) l.from l.initial.seen l.initial.queue l.seen l.queue l.tail
+invariant-loop-i l = (l.i ≤ length l.words) × Grown (take l.i l.words) l.initial.seen l.initial.queue l.from l.seen l.queue l.tail
 
 abbrev pub decreases-loop-i : goal.decreases-loop-i
 decreases-loop-i l = length l.words - l.i

@@ -7,4 +7,4 @@ pub mark_before-requires : goal.mark_before-requires
 mark_before-requires c = (c.requires.0, (c.requires.1, fresh))
 
 pub returns : goal.returns
-returns c = mark-tells c.mark_before.new.1.1.1.1.0 c.args.t (c.mark_before.ensures c.args.t)
+returns c = mark-tells c.mark_before.new.seen c.args.t (c.mark_before.ensures c.args.t)

@@ -1,11 +1,11 @@
 use Prim.Native.Nat.{◌-◌}
-use mathlib.Core.Logic.{⊎_elim}
 use native.Mathlib.Omega.{arith}
 use borrow.Author.Count.{below_none, below_more}
 use Rattle.graph.specs.Graph.{graph_of}
 use Rattle.cycles.specs.Ranks.{NoneBelow}
 use Rattle.cycles.proofs.First.{stripped-off, asked-off, found_first, none_first}
 use Rattle.cycles.proofs.search.Goals as goal
+use Rattle.cycles.proofs.search.Goals.{then-left-t-ne0+else-on_cycle, else-left-t-ne0}
 
 pub loop-t-init : goal.loop-t-init
 loop-t-init c = below_none _
@@ -30,10 +30,11 @@ loop-t-smaller c = omega arith
 
 pub loop-t-preserved : goal.loop-t-preserved
 loop-t-preserved c =
-    let start = (goal.at.loop-t-preserved c).Start in
     below_more _ _ c.loop-t.invariant
-    (⊎_elim (λ w. asked-off _ w.1.ensures w.2.left)
-    (λ w. stripped-off _ start.args.left.now (start.requires.1.1 _ (omega arith)) w.left) c.if-left-t-ne0.branch)
+    (elim c.if-left-t-ne0.branch [
+      then-left-t-ne0+else-on_cycle w ↦ asked-off _ w.on_cycle.ensures w.if-on_cycle.false
+      | else-left-t-ne0 w ↦ stripped-off _ c.args.left.now (c.requires.1.1 _ (omega arith)) w.if-left-t-ne0.false
+    ])
 
 pub returns : goal.returns
 returns c = none_first c.loop-t.t (omega arith) c.loop-t.invariant

@@ -5,7 +5,7 @@ use Rattle.printing.proofs.Laws.{EntriesPut, no-entries, next-entry, all-entries
 use Rattle.printing.proofs.put_entries.Given as goal
 
 abbrev pub invariant-loop-x : goal.invariant-loop-x
-invariant-loop-x l = (l.x ≤ l.initial.out) × (l.end ≤ l.executed + l.x * 22) × EntriesPut l.executed l.initial.out l.n l.at l.x l.out l.end
+invariant-loop-x l = (l.x ≤ l.n) × (l.end ≤ l.at + l.x * 22) × EntriesPut l.at l.n l.executed l.initial.out l.x l.out l.end
 
 abbrev pub decreases-loop-x : goal.decreases-loop-x
-decreases-loop-x l = l.initial.out - l.x
+decreases-loop-x l = l.n - l.x

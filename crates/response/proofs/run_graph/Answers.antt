@@ -6,17 +6,17 @@ use borrow.Author.Rules.{rules}
 use lib.ListN.{length, get_or}
 use Rattle.response.proofs.Laws.{Ready, refusal-put, begun-ready, entries-all, lines-put}
 use Rattle.response.proofs.run_graph.Goals as goal
-use Rattle.response.proofs.run_graph.Goals.{After-drive, In_default, Start}
+use Rattle.response.proofs.run_graph.Goals.{After-begin-answer, After-drive, In_default-1, Start}
 
 -- once begin has accepted: the function's entry, and the lists that it was lent
-abbrev entry : In_default → Start
+abbrev entry : In_default-1 → Start
 entry c = c.before.before.before.before.before.before.before.before.before.before.before.before.before.before.before.before.before.before.before.before.before.before.before.before.before.before.before.before.before.before.before.before.before.before.before.before.before.before.before.before.before.before.before.before
 
-ready : (c : In_default) → let a = (entry c).args in Ready a.weights.now a.preds.now a.executed.now a.run.now
+ready : (c : In_default-1) → let a = (entry c).args in Ready a.weights.now a.preds.now a.executed.now a.run.now
 ready c = begun-ready _ c.engine.ensures _ _ _ c.begin-answer.ensures c.in_default.is
 
 -- once the turns are taken
-abbrev told : After-drive → In_default
+abbrev told : After-drive → In_default-1
 told c = c.before.before.before.before.before.before.before.before.before.before.before
 
 module _ (c : After-drive) where
@@ -33,11 +33,11 @@ pub put_refused-requires : goal.put_refused-requires
 put_refused-requires c = omega (arith, c.requires)
 
 pub returns-in-Refused : goal.returns-in-Refused
-returns-in-Refused c = refusal-put _ c.engine.ensures _ _ _ c.begin-answer.ensures _ _ c.in-Refused.is c.before.before.Put-refused.ensures
+returns-in-Refused c = refusal-put _ c.engine.ensures _ _ _ c.begin-answer.ensures _ _ c.in-Refused.is c.before.before.put_refused.ensures
 
 pub drive-requires : goal.drive-requires
 drive-requires c =
-    let r = ready (goal.at.drive-requires c).After-rows-1 in
+    let r = ready (goal.at.drive-requires c).After-begin-answer in
     (r.tasks, (r.edges, omega (arith, r.run)))
 
 pub overflow_cast-weights : goal.overflow_cast-weights
@@ -50,16 +50,15 @@ pub put_pair-at-requires : goal.put_pair-at-requires
 put_pair-at-requires c = omega (arith, c.requires)
 
 pub bounds-run-0 : goal.bounds-run-0
-bounds-run-0 c = omega (arith, run-words (goal.at.bounds-run-0 c).After-drive-arg-8-1)
+bounds-run-0 c = omega (arith, run-words (goal.at.bounds-run-0 c).In_default-1)
 
 pub overflow_cast-run : goal.overflow_cast-run
 overflow_cast-run c = omega (arith, c.type_inv.run 0)
 
 pub put_entries-requires : goal.put_entries-requires
 put_entries-requires c =
-    let d = (goal.at.put_entries-requires c).After-drive-arg-8-1 in
     let p = c.put_pair-at.ensures in
-    (omega (arith, (entry (told d)).requires, (ready (told d)).tasks, entries d, p.0.size, p.1), omega (arith, entries d, room d))
+    (omega (arith, (entry (told (goal.at.put_entries-requires c).In_default-1)).requires, (ready (told (goal.at.put_entries-requires c).In_default-1)).tasks, entries (goal.at.put_entries-requires c).In_default-1, p.0.size, p.1), omega (arith, entries (goal.at.put_entries-requires c).In_default-1, room (goal.at.put_entries-requires c).In_default-1))
 
 pub shape_of-succ_starts : goal.shape_of-succ_starts
 shape_of-succ_starts c = omega (arith, c.begin-answer.auto, c.drive.auto)
@@ -93,7 +92,6 @@ shape_of-rows c = omega (arith, c.begin-answer.auto, c.drive.auto)
 
 pub returns : goal.returns
 returns c =
-    let d = (goal.at.returns c).After-drive-arg-8-1 in
-    let t = told d in
-    lines-put _ t.before.before.before.before.before.before.before.before.before.before.before.before.before.before.before.before.before.before.before.before.before.before.before.before.before.before.before.before.before.before.before.engine.ensures _ _ _ t.before.before.before.before.before.before.before.before.before.before.before.before.before.before.before.before.before.before.before.before.begin.ensures t.enum_told.given.1 _ d.drive.ensures
+    let t = told (goal.at.returns c).In_default-1 in
+    lines-put _ t.before.before.before.before.before.before.before.before.before.before.before.before.before.before.before.before.before.before.before.before.before.before.before.before.before.before.before.before.before.before.before.engine.ensures _ _ _ t.before.before.before.before.before.before.before.before.before.before.before.before.before.before.before.before.before.before.before.before.begin.ensures t.enum_told.given.1 _ c.drive.ensures
     c.put_pair-at.ensures.0 c.put_entries.ensures

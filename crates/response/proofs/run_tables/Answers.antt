@@ -21,5 +21,4 @@ slice_bounds-run_graph-end-8 c = length_part _ 2048 0 (omega arith)
 
 pub returns : goal.returns
 returns c =
-    let entry = (goal.at.returns c).Start in
-    tables-put _ _ _ entry.requires.0 entry.requires.1.0 c.run_graph.ensures
+    tables-put _ _ _ c.requires.0 c.requires.1.0 c.run_graph.ensures

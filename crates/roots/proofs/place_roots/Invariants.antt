@@ -8,7 +8,7 @@ use borrow.Author.Rules.{rules}
 use Rattle.roots.proofs.place_roots.Given as goal
 
 abbrev pub invariant-loop-t : goal.invariant-loop-t
-invariant-loop-t l = Laid l.initial.ends l.initial.counters l.weights l.degrees l.t l.owner.0 l.rings l.ends l.counters
+invariant-loop-t l = Laid l.p l.k l.weights l.degrees l.t l.owner.0 l.rings l.ends l.counters
 
 abbrev pub decreases-loop-t : goal.decreases-loop-t
 decreases-loop-t l = length l.degrees - l.t

@@ -9,7 +9,7 @@ use lib.ListN.{length}
 use Rattle.rows.proofs.clear_rows.Given as goal
 
 abbrev pub invariant-loop-i : goal.invariant-loop-i
-invariant-loop-i l = (l.i ≤ l.cells) × ((length l.rows ≡ length l.n) × (rows_of l.rows ≡ cleared_rows l.i (rows_of l.n)))
+invariant-loop-i l = (l.i ≤ l.n) × ((length l.rows ≡ length l.initial.rows) × (rows_of l.rows ≡ cleared_rows l.i (rows_of l.initial.rows)))
 
 abbrev pub decreases-loop-i : goal.decreases-loop-i
-decreases-loop-i l = l.cells - l.i
+decreases-loop-i l = l.n - l.i

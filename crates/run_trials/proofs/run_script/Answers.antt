@@ -3,6 +3,7 @@ use native.Mathlib.Omega.{arith}
 use borrow.Author.Rules.{rules}
 use lib.ListN.{length}
 use Rattle.run_trials.proofs.run_script.Goals as goal
+use Rattle.run_trials.proofs.run_script.Goals.{In-loop-left}
 
 pub overflow_sub-left : goal.overflow_sub-left
 overflow_sub-left c = omega (arith, (goal.at.overflow_sub-left c).In-loop-left)

@@ -52,10 +52,10 @@ returns c =
     let here = c.loop-fillers in
     let judged =
     ends-test (sound _) _ _ _ _ _ _ c.is_sound.ensures
-    c.ends_at-both.ensures c.ring_number.ensures.0 c.if-not-is_sound.false-raw in (
-      look-stops _ _ _ _ _ _ here.invariant.1 here.invariant.0 (omega (arith, c.if-fillers-eq0.false)) judged
+    c.ends_at-both.ensures c.ring_number.ensures.0 c.if-not-is_sound.false-raw in record {
+      result_value = look-stops _ _ _ _ _ _ here.invariant.1 here.invariant.0 (omega (arith, c.if-fillers-eq0.false)) judged
           (not-empty _ _ _ _ _ _ c.is_sound_empty.ensures
           c.ends_at-both.ensures c.ring_number.ensures.0
-          c.if-not-is_sound_empty.true-raw judged),
-      ends_read _ _ _ _ c.ends_at-both.ensures c.ring_number.ensures.0,
-    )
+          c.if-not-is_sound_empty.true-raw judged);
+      reads = ends_read _ _ _ _ c.ends_at-both.ensures c.ring_number.ensures.0;
+    }

@@ -37,16 +37,14 @@ broken-requires-then-first-eq0 c = omega (arith, number_small c.next_content-con
 
 pub returns-then-first-eq0 : goal.returns-then-first-eq0
 returns-then-first-eq0 c =
-    let l = (goal.at.returns-then-first-eq0 c).After-first_line-first in
     line-broken _
-    (bad-first l.before.before.before.next-content.ensures l.before.if1.false l.first-line.ensures c.if-first-eq0.true)
+    (bad-first c.next_content-content.ensures c.if-content-text.false c.first_line-first.ensures c.if-first-eq0.true)
     c.broken-then-first-eq0.ensures
 
 pub returns-then-first-gt1024 : goal.returns-then-first-gt1024
 returns-then-first-gt1024 c =
-    let l = (goal.at.returns-then-first-gt1024 c).After-first_line-first in
     limit-passed
-    (over_first l.before.before.before.next-content.ensures l.before.if1.false l.first-line.ensures c.if-first-gt1024.true)
+    (over_first c.next_content-content.ensures c.if-content-text.false c.first_line-first.ensures c.if-first-gt1024.true)
     c.over.ensures
 
 pub overflow_add-content : goal.overflow_add-content
@@ -54,17 +52,15 @@ overflow_add-content c = omega (arith, number_small c.next_content-content.ensur
 
 pub read_tasks-requires : goal.read_tasks-requires
 read_tasks-requires c =
-    let l = (goal.at.read_tasks-requires c).After-first_line-first in
-    reading l.before.before.before.next-content.ensures l.before.if1.false l.first-line.ensures
+    reading c.next_content-content.ensures c.if-content-text.false c.first_line-first.ensures
     c.if-first-eq0.false
     c.if-first-gt1024.false
-    l.before.before.before.before.before.before.before.before.requires
+    c.requires
 
 pub returns : goal.returns
 returns c =
-    let r = (goal.at.returns c).After-read_tasks in
-    let l = r.before.before.before.before.before.before.before.before.before in
+    
     rw
-    (whole l.before.before.before.next-content.ensures l.before.if1.false l.first-line.ensures
-    r.before.before.before.before.before.before.before.if2.false r.before.before.before.before.before.if3.false)
-    r.read-tasks.ensures
+    (whole c.next_content-content.ensures c.if-content-text.false c.first_line-first.ensures
+    c.if-first-eq0.false c.if-first-gt1024.false)
+    c.read_tasks.ensures

@@ -47,7 +47,6 @@ copy-requires-3 c = (holds (goal.at.copy-requires-3 c).After-sizes_of-sizes).pre
 
 pub returns : goal.returns
 returns c =
-    let k = (goal.at.returns c).After-sizes_of-sizes in
-    let a = (entry k).args in
-    read-laid a.text.now a.weights.now a.starts.now a.preds.now (fits k) (judged k).before.before.before.before.if2.false (judged k).judge.ensures
-    k.sizes-of.ensures _ _ _ c.copy.ensures c.copy-2.ensures c.copy-3.ensures
+    let a = (entry (goal.at.returns c).After-sizes_of-sizes).args in
+    read-laid a.text.now a.weights.now a.starts.now a.preds.now (fits (goal.at.returns c).After-sizes_of-sizes) (judged (goal.at.returns c).After-sizes_of-sizes).before.before.before.before.if2.false (judged (goal.at.returns c).After-sizes_of-sizes).judge.ensures
+    c.sizes_of-sizes.ensures _ _ _ c.copy.ensures c.copy-2.ensures c.copy-3.ensures

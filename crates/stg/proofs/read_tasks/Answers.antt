@@ -58,9 +58,8 @@ broken-requires c = omega (arith, number_small c.next_content-content.ensures)
 
 pub returns-then-content-text : goal.returns-then-content-text
 returns-then-content-text c =
-    let k = (goal.at.returns-then-content-text c).After-next_content-content in
     line-broken _
-    (early k.before.before.loop.invariant k.next-content.ensures c.if-content-text.true k.before.loop-test.true)
+    (early c.loop-t.invariant c.next_content-content.ensures c.if-content-text.true c.loop-t-test.true)
     c.broken.ensures
 
 pub overflow_add-t : goal.overflow_add-t
@@ -68,43 +67,37 @@ overflow_add-t c = omega arith
 
 pub task_line-read-requires : goal.task_line-read-requires
 task_line-read-requires c =
-    let k = (goal.at.task_line-read-requires c).After-next_content-content in
-    let f = k.before.before.loop.invariant in (
-      omega (arith, place_of k.next-content.ensures c.if-content-text.false),
+    let f = c.loop-t.invariant in (
+      omega (arith, place_of c.next_content-content.ensures c.if-content-text.false),
       (omega (arith, f.few), (f.limit, (f.room-w, (f.room-s, f.room-p)))),
     )
 
 pub refused_line-requires : goal.refused_line-requires
 refused_line-requires c =
-    let k = (goal.at.refused_line-requires c).After-next_content-content in
-    omega (arith, number_small k.next-content.ensures, k.before.before.loop.invariant.short)
+    omega (arith, number_small c.next_content-content.ensures, c.loop-t.invariant.short)
 
 pub returns-in_default : goal.returns-in_default
 returns-in_default c =
-    let l = (goal.at.returns-in_default c).After-task_line-read in
-    let k = l.before.before.before.before.before.before in
-    not-read k.before.before.loop.invariant k.next-content.ensures l.before.before.before.before.if1.false k.before.loop-test.true
-    l.task-line.ensures refl c.in_default.keys2 c.refused_line.ensures
+    
+    not-read c.loop-t.invariant c.next_content-content.ensures c.if-content-text.false c.loop-t-test.true
+    c.task_line-read.ensures refl c.in_default.keys2 c.refused_line.ensures
 
 pub overflow_add-line : goal.overflow_add-line
 overflow_add-line c =
-    let k = (goal.at.overflow_add-line c).After-next_content-content in
-    omega (arith, number_small k.next-content.ensures, k.before.before.loop.invariant.short)
+    omega (arith, number_small c.next_content-content.ensures, c.loop-t.invariant.short)
 
 pub overflow_add-t-in-loop-t : goal.overflow_add-t-in-loop-t
 overflow_add-t-in-loop-t c =
-    let k = (goal.at.overflow_add-t-in-loop-t c).After-next_content-content in
-    omega (arith, k.before.before.loop.invariant.few)
+    omega (arith, c.loop-t.invariant.few)
 
 pub loop-t-smaller : goal.loop-t-smaller
 loop-t-smaller c = omega arith
 
 pub loop-t-preserved : goal.loop-t-preserved
 loop-t-preserved c =
-    let l = (goal.at.loop-t-preserved c).After-task_line-read in
-    let k = l.before.before.before.before.before.before in
-    read-on k.before.before.loop.invariant k.next-content.ensures l.before.before.before.before.if1.false k.before.loop-test.true
-    l.task-line.ensures refl c.in-Read.is
+    
+    read-on c.loop-t.invariant c.next_content-content.ensures c.if-content-text.false c.loop-t-test.true
+    c.task_line-read.ensures refl c.in-Read.is
 
 pub next_content-content-requires-2 : goal.next_content-content-requires-2
 next_content-content-requires-2 c =
@@ -116,9 +109,8 @@ broken-requires-then-content-text-2 c = omega (arith, number_small c.next_conten
 
 pub returns-then-content-text-2 : goal.returns-then-content-text-2
 returns-then-content-text-2 c =
-    let k = (goal.at.returns-then-content-text-2 c).After-next_content-content-2 in
     line-broken _
-    (late k.before.before.loop.invariant k.next-content2.ensures c.if-content-text-2.true k.before.loop-test.false)
+    (late c.loop-t.invariant c.next_content-content-2.ensures c.if-content-text-2.true c.loop-t-test.false)
     c.broken-then-content-text-2.ensures
 
 pub overflow_cast-result : goal.overflow_cast-result
@@ -129,5 +121,4 @@ overflow_cast-result-2 c = omega arith
 
 pub returns : goal.returns
 returns c =
-    let k = (goal.at.returns c).After-next_content-content-2 in
-    all_done k.before.before.loop.invariant k.next-content2.ensures c.if-content-text-2.false k.before.loop-test.false
+    all_done c.loop-t.invariant c.next_content-content-2.ensures c.if-content-text-2.false c.loop-t-test.false

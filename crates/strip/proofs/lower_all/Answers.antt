@@ -14,16 +14,14 @@ overflow_cast-u c = omega (arith, c.type_inv.words c.loop-i.i)
 
 pub lower-tail-requires : goal.lower-tail-requires
 lower-tail-requires c =
-    let at = (goal.at.lower-tail-requires c).At-loop-i in
-    (at.loop.invariant.1.queued, lower-next _ _ _ _ _ _ _ _ (omega arith) at.loop.invariant.1 at.before.before.before.before.requires.1)
+    (c.loop-i.invariant.1.queued, lower-next _ _ _ _ _ _ _ _ (omega arith) c.loop-i.invariant.1 c.requires.1)
 
 pub loop-i-smaller : goal.loop-i-smaller
 loop-i-smaller c = omega arith
 
 pub loop-i-preserved : goal.loop-i-preserved
 loop-i-preserved c =
-    let at = (goal.at.loop-i-preserved c).At-loop-i in
-    (omega arith, lowered-next at.before.before.before.before.args.words.now _ _ _ _ _ _ at.loop.i (omega arith) at.loop.invariant.1 _ _ _ c.lower-tail.ensures)
+    (omega arith, lowered-next c.args.words.now _ _ _ _ _ _ c.loop-i.i (omega arith) c.loop-i.invariant.1 _ _ _ c.lower-tail.ensures)
 
 pub shape_of-left : goal.shape_of-left
 shape_of-left c = omega arith

@@ -8,7 +8,7 @@ use Rattle.strip.proofs.Queue.{lowered_none, lower-next, lowered-next, lowered-a
 use Rattle.strip.proofs.lower_all.Given as goal
 
 abbrev pub invariant-loop-i : goal.invariant-loop-i
-invariant-loop-i l = (l.i ≤ length l.words) × Lowered (take l.i l.words) l.from l.left l.initial.left l.queue l.initial.queue l.tail
+invariant-loop-i l = (l.i ≤ length l.words) × Lowered (take l.i l.words) l.initial.left l.left l.initial.queue l.queue l.from l.tail
 
 abbrev pub decreases-loop-i : goal.decreases-loop-i
 decreases-loop-i l = length l.words - l.i

@@ -61,11 +61,16 @@ offset_bounds-preds-a c = let r = next (goal.at.offset_bounds-preds-a c).In-loop
 pub slice_bounds-lower_all-count : goal.slice_bounds-lower_all-count
 slice_bounds-lower_all-count c = let r = next (goal.at.slice_bounds-lower_all-count c).In-loop-head in omega arith
 
+pub slice_bounds-lower_all-start : goal.slice_bounds-lower_all-start
+slice_bounds-lower_all-start c = let r = next (goal.at.slice_bounds-lower_all-start c).In-loop-head in omega arith
+
+pub slice_bounds-lower_all-end : goal.slice_bounds-lower_all-end
+slice_bounds-lower_all-end c = let r = next (goal.at.slice_bounds-lower_all-end c).In-loop-head in omega arith
+
 pub lower_all-tail-requires : goal.lower_all-tail-requires
 unfolding part
 lower_all-tail-requires c =
-    let m = (goal.at.lower_all-tail-requires c).In-loop-head in
-    (m.before.loop.invariant.0.emptied.queued, next-counts (graph m) (entry m).requires.0 _ _ _ _ m.before.loop.invariant.0 m.loop-test.true)
+    (c.loop-head.invariant.0.emptied.queued, next-counts (graph (goal.at.lower_all-tail-requires c).In-loop-head) (entry (goal.at.lower_all-tail-requires c).In-loop-head).requires.0 _ _ _ _ c.loop-head.invariant.0 c.loop-head-test.true)
 
 pub overflow_add-head : goal.overflow_add-head
 overflow_add-head c = omega arith
@@ -76,10 +81,9 @@ loop-head-smaller c = omega arith
 pub loop-head-preserved : goal.loop-head-preserved
 unfolding part
 loop-head-preserved c =
-    let m = (goal.at.loop-head-preserved c).In-loop-head in
-    let i = m.before.loop.invariant in
+    let i = c.loop-head.invariant in
     let l = c.lower_all-tail.ensures in
-    (strip-next (graph m) (entry m).requires.0 _ _ _ _ i.0 m.loop-test.true _ _ _ l, (omega arith, l.behind ∙ drop-later _ _ _ _ l.longer i.1.1))
+    (strip-next (graph (goal.at.loop-head-preserved c).In-loop-head) (entry (goal.at.loop-head-preserved c).In-loop-head).requires.0 _ _ _ _ i.0 c.loop-head-test.true _ _ _ l, (omega arith, l.behind ∙ drop-later _ _ _ _ l.longer i.1.1))
 
 pub shape_of-left : goal.shape_of-left
 shape_of-left c = omega arith
@@ -89,6 +93,5 @@ shape_of-order c = omega arith
 
 pub returns : goal.returns
 returns c =
-    let s = (goal.at.returns c).After-queue_sinks-tail in
     let i = c.loop-head.invariant in
-    strip-ends _ s.before.before.before.before.before.before.before.requires.0 _ _ _ _ i.0 c.loop-head-test.false _ (i.1.1 ∙ drop-later _ _ _ _ i.1.0 s.queue-sinks.ensures.behind)
+    strip-ends _ c.requires.0 _ _ _ _ i.0 c.loop-head-test.false _ (i.1.1 ∙ drop-later _ _ _ _ i.1.0 c.queue_sinks-tail.ensures.behind)

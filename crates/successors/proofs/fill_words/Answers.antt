@@ -34,6 +34,12 @@ offset_bounds-preds-a c = omega (arith, c.type_inv.starts c.loop-t.t)
 pub slice_bounds-place_all-count : goal.slice_bounds-place_all-count
 slice_bounds-place_all-count c = (c.requires.sound.good c.loop-t.t (omega arith)).rises
 
+pub slice_bounds-place_all-start : goal.slice_bounds-place_all-start
+slice_bounds-place_all-start c = omega (arith, (c.requires.sound.good c.loop-t.t (omega arith)).rises)
+
+pub slice_bounds-place_all-end : goal.slice_bounds-place_all-end
+slice_bounds-place_all-end c = omega (arith, (c.requires.sound.good c.loop-t.t (omega arith)).inside)
+
 pub overflow_cast-t : goal.overflow_cast-t
 overflow_cast-t c = omega arith
 

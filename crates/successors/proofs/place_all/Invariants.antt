@@ -6,7 +6,7 @@ use Rattle.successors.proofs.Places.{Placing, placing-none, placing-here, placin
 use Rattle.successors.proofs.place_all.Given as goal
 
 abbrev pub invariant-loop-i : goal.invariant-loop-i
-invariant-loop-i l = Placing l.initial.succs l.words l.t l.initial.next l.next l.succs l.i
+invariant-loop-i l = Placing l.t l.words l.initial.next l.initial.succs l.next l.succs l.i
 
 abbrev pub decreases-loop-i : goal.decreases-loop-i
 decreases-loop-i l = length l.words - l.i

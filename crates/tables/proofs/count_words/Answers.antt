@@ -5,9 +5,9 @@ use Prim.Native.Nat.{◌≤◌, ◌<◌, ◌-◌}
 use borrow.Author.Rules.{rules}
 use native.Mathlib.Omega.{arith}
 use Rattle.tables.proofs.count_words.Goals as goal
-use Rattle.tables.proofs.count_words.Goals.{After-shared_slice_known-1}
+use Rattle.tables.proofs.count_words.Goals.{In-loop-i}
 
-inside : (c : After-shared_slice_known-1) → get_or c.args.words.now c.loop-i.i 0 < length c.args.counts.now
+inside : (c : In-loop-i) → get_or c.args.words.now c.loop-i.i 0 < length c.args.counts.now
 inside c = word_below c.args.words.now c.loop-i.i c.loop-i-test.true _ c.requires.0
 
 pub loop-i-init : goal.loop-i-init
@@ -20,19 +20,19 @@ pub overflow_cast-u : goal.overflow_cast-u
 overflow_cast-u c = omega (arith, c.type_inv.words c.loop-i.i)
 
 pub offset_bounds-counts-u : goal.offset_bounds-counts-u
-offset_bounds-counts-u c = omega (arith, inside (goal.at.offset_bounds-counts-u c).After-shared_slice_known-1, c.type_inv.words c.loop-i.i)
+offset_bounds-counts-u c = omega (arith, inside (goal.at.offset_bounds-counts-u c).In-loop-i, c.type_inv.words c.loop-i.i)
 
 pub bounds-counts-u : goal.bounds-counts-u
-bounds-counts-u c = omega (arith, inside (goal.at.bounds-counts-u c).After-shared_slice_known-1)
+bounds-counts-u c = omega (arith, inside (goal.at.bounds-counts-u c).In-loop-i)
 
 pub overflow_add-counts : goal.overflow_add-counts
-overflow_add-counts c = omega (arith, c.requires.1.1 (get_or c.args.words.now c.loop-i.i 0), inside (goal.at.overflow_add-counts c).After-shared_slice_known-1, count_small c.loop-i.invariant.1.1 (omega arith) (get_or c.args.words.now c.loop-i.i 0))
+overflow_add-counts c = omega (arith, c.requires.1.1 (get_or c.args.words.now c.loop-i.i 0), inside (goal.at.overflow_add-counts c).In-loop-i, count_small c.loop-i.invariant.1.1 (omega arith) (get_or c.args.words.now c.loop-i.i 0))
 
 pub offset_bounds-counts-u-in-loop-i : goal.offset_bounds-counts-u-in-loop-i
-offset_bounds-counts-u-in-loop-i c = omega (arith, inside (goal.at.offset_bounds-counts-u-in-loop-i c).After-shared_slice_known-1, c.type_inv.words c.loop-i.i)
+offset_bounds-counts-u-in-loop-i c = omega (arith, inside (goal.at.offset_bounds-counts-u-in-loop-i c).In-loop-i, c.type_inv.words c.loop-i.i)
 
 pub bounds-counts-u-in-loop-i : goal.bounds-counts-u-in-loop-i
-bounds-counts-u-in-loop-i c = omega (arith, inside (goal.at.bounds-counts-u-in-loop-i c).After-shared_slice_known-1)
+bounds-counts-u-in-loop-i c = omega (arith, inside (goal.at.bounds-counts-u-in-loop-i c).In-loop-i)
 
 pub overflow_add-i : goal.overflow_add-i
 overflow_add-i c = omega arith
@@ -41,7 +41,7 @@ pub loop-i-smaller : goal.loop-i-smaller
 loop-i-smaller c = omega arith
 
 pub loop-i-preserved : goal.loop-i-preserved
-loop-i-preserved c = (omega arith, (simp length-set (omega arith), count_turn c.loop-i.invariant.1.1 (omega arith) (omega (arith, inside (goal.at.loop-i-preserved c).After-shared_slice_known-1))))
+loop-i-preserved c = (omega arith, (simp length-set (omega arith), count_turn c.loop-i.invariant.1.1 (omega arith) (omega (arith, inside (goal.at.loop-i-preserved c).In-loop-i))))
 
 pub returns : goal.returns
 returns c = λ u. omega (arith, count-whole c.loop-i.invariant.1.1 (omega arith) u, c.requires.1.1 u)

@@ -5,5 +5,4 @@ use Rattle.tables.proofs.first_bad.Goals as goal
 
 pub returns-then-below-rise : goal.returns-then-below-rise
 returns-then-below-rise c =
-    let w = (goal.at.returns-then-below-rise c).After-as_word-2 in
-    flat_good _ _ _ _ _ w.before.before.as-word.ensures w.as-word2.ensures _ _ c.if-below-rise.true w.before.flat-below.ensures c.ranges_rise-rise.ensures
+    flat_good _ _ _ _ _ c.as_word.ensures c.as_word-2.ensures _ _ c.if-below-rise.true c.flat_below-below.ensures c.ranges_rise-rise.ensures

@@ -8,7 +8,7 @@ use Rattle.lists.proofs.Apart.{unequal}
 use Rattle.tables.proofs.has_twice.Given as goal
 
 abbrev pub invariant-loop-i : goal.invariant-loop-i
-invariant-loop-i l = ((l.i ≤ length l.words) × ((length l.marks ≡ length l.stamp) × (length l.counts ≡ length l.initial.marks))) × (Met l.words l.marks l.initial.counts l.i × Counted l.words l.initial.marks l.counts l.i)
+invariant-loop-i l = ((l.i ≤ length l.words) × ((length l.marks ≡ length l.initial.marks) × (length l.counts ≡ length l.initial.counts))) × (Met l.words l.marks l.stamp l.i × Counted l.words l.initial.counts l.counts l.i)
 
 abbrev pub decreases-loop-i : goal.decreases-loop-i
 decreases-loop-i l = length l.words - l.i

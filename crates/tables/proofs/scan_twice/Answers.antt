@@ -42,6 +42,12 @@ offset_bounds-preds-a c = let g = good (goal.at.offset_bounds-preds-a c).In-loop
 pub slice_bounds-has_twice-count : goal.slice_bounds-has_twice-count
 slice_bounds-has_twice-count c = (good (goal.at.slice_bounds-has_twice-count c).In-loop-t).rises
 
+pub slice_bounds-has_twice-start : goal.slice_bounds-has_twice-start
+slice_bounds-has_twice-start c = (good (goal.at.slice_bounds-has_twice-start c).In-loop-t).rises
+
+pub slice_bounds-has_twice-end : goal.slice_bounds-has_twice-end
+slice_bounds-has_twice-end c = (good (goal.at.slice_bounds-has_twice-end c).In-loop-t).inside
+
 pub overflow_cast-t : goal.overflow_cast-t
 overflow_cast-t c = omega (arith, c.requires.0.sized.tasks)
 
@@ -52,10 +58,10 @@ pub has_twice-requires : goal.has_twice-requires
 has_twice-requires c = let s = c.requires.0 in let l = c.loop-t in ((l.invariant.0.1.0, l.invariant.0.1.1), (part_small s l.t (omega arith), (λ u. omega (arith, l.invariant.1.0 u), (part-short c.args.starts.now c.args.preds.now l.t 8192 s.sized.edges, λ u. omega (arith, l.invariant.1.1.1.few u, s.sized.tasks)))))
 
 pub shape_of-marks-then-has_twice : goal.shape_of-marks-then-has_twice
-shape_of-marks-then-has_twice c = omega (arith, c.has_twice.auto.1.0, c.loop-t.invariant.0.1.0, c.requires.1.0.0)
+shape_of-marks-then-has_twice c = omega (arith, c.has_twice.auto.marks, c.loop-t.invariant.0.1.0, c.requires.1.0.0)
 
 pub shape_of-counts-then-has_twice : goal.shape_of-counts-then-has_twice
-shape_of-counts-then-has_twice c = omega (arith, c.has_twice.auto.1.1.0, c.loop-t.invariant.0.1.1, c.requires.1.0.1)
+shape_of-counts-then-has_twice c = omega (arith, c.has_twice.auto.counts, c.loop-t.invariant.0.1.1, c.requires.1.0.1)
 
 pub returns-then-has_twice : goal.returns-then-has_twice
 returns-then-has_twice c = (twice_found c.requires.0 c.loop-t.t _ (omega arith) c.if-has_twice.true c.has_twice.ensures.0 c.loop-t.invariant.1.1.0, λ h. absurd (omega arith))
@@ -68,7 +74,7 @@ loop-t-smaller c = omega arith
 
 pub loop-t-preserved : goal.loop-t-preserved
 unfolding part
-loop-t-preserved c = let l = c.loop-t in let h = c.has_twice in let once = once-found c.requires.0 l.t _ c.if-has_twice.false h.ensures.0 in ((omega arith, (omega (arith, h.auto.1.0, l.invariant.0.1.0), omega (arith, h.auto.1.1.0, l.invariant.0.1.1))), (h.ensures.1.0, (below_more _ _ l.invariant.1.1.0 once, tallied-more _ l.invariant.1.1.1 once (h.ensures.1.1 c.if-has_twice.false))))
+loop-t-preserved c = let l = c.loop-t in let h = c.has_twice in let once = once-found c.requires.0 l.t _ c.if-has_twice.false h.ensures.0 in ((omega arith, (omega (arith, h.auto.marks, l.invariant.0.1.0), omega (arith, h.auto.counts, l.invariant.0.1.1))), (h.ensures.1.0, (below_more _ _ l.invariant.1.1.0 once, tallied-more _ l.invariant.1.1.1 once (h.ensures.1.1 c.if-has_twice.false))))
 
 pub shape_of-marks : goal.shape_of-marks
 shape_of-marks c = omega (arith, c.requires.1.0.0)

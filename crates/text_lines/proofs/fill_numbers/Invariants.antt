@@ -8,7 +8,7 @@ use Rattle.layout.proofs.TaskLaws.{found-numbers, found-not, fill_none, fill_mor
 use Rattle.text_lines.proofs.fill_numbers.Given as goal
 
 abbrev pub invariant-loop-k : goal.invariant-loop-k
-invariant-loop-k l = (l.k ≤ l.initial.words) × Filling l.text l.at l.e l.end l.p l.k l.words
+invariant-loop-k l = (l.k ≤ l.end) × Filling l.text l.at l.e l.initial.words l.p l.k l.words
 
 abbrev pub decreases-loop-k : goal.decreases-loop-k
-decreases-loop-k l = l.initial.words - l.k
+decreases-loop-k l = l.end - l.k

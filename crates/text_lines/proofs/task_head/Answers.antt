@@ -35,8 +35,7 @@ next_number-time-requires c = (number (goal.at.next_number-time-requires c).Else
 
 pub returns-then-time-t : goal.returns-then-time-t
 returns-then-time-t c =
-    let l = (goal.at.returns-then-time-t c).Else-number-t in
-    time-wrong {last = (start l).args.last} (number l) c.next_number-time.ensures c.if-time-t.true
+    time-wrong {last = (start (goal.at.returns-then-time-t c).Else-number-t).args.last} (number (goal.at.returns-then-time-t c).Else-number-t) c.next_number-time.ensures c.if-time-t.true
 
 pub next_number-count-requires : goal.next_number-count-requires
 next_number-count-requires c = (time (goal.at.next_number-count-requires c).Else-time-t).inside

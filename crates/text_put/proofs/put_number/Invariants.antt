@@ -7,7 +7,7 @@ use Rattle.text_put.proofs.Laws.{Partly, no-digits, inside, one-before, next-dig
 use Rattle.text_put.proofs.put_number.Given as goal
 
 abbrev pub invariant-loop-n : goal.invariant-loop-n
-invariant-loop-n l = (length l.out ≡ length l.at) × Partly l.number l.end l.at l.n l.place l.out
+invariant-loop-n l = (length l.out ≡ length l.initial.out) × Partly l.at l.number l.initial.out l.n l.place l.out
 
 abbrev pub decreases-loop-n : goal.decreases-loop-n
 decreases-loop-n l = l.n

@@ -9,7 +9,7 @@ use Rattle.text_write.proofs.put_tasks.Goals as goal
 use Rattle.text_write.proofs.put_tasks.Goals.{In-loop-t}
 
 -- where the predecessors of the next task stand
-good : (c : In-loop-t) → let s = c.before.before.before.before.before.before in Good (length s.args.weights.now) s.args.starts.now s.args.preds.now c.loop-t.t
+good : (c : In-loop-t) → Good (length c.args.weights.now) c.args.starts.now c.args.preds.now c.loop-t.t
 good c = c.requires.0.good _ (omega arith)
 
 pub loop-t-init : goal.loop-t-init
@@ -48,6 +48,14 @@ offset_bounds-preds-from c =
 
 pub slice_bounds-put_task-count : goal.slice_bounds-put_task-count
 slice_bounds-put_task-count c = omega (arith, (good (goal.at.slice_bounds-put_task-count c).In-loop-t).rises)
+
+pub slice_bounds-put_task-start : goal.slice_bounds-put_task-start
+slice_bounds-put_task-start c =
+    omega (arith, (good (goal.at.slice_bounds-put_task-start c).In-loop-t).rises, (good (goal.at.slice_bounds-put_task-start c).In-loop-t).inside)
+
+pub slice_bounds-put_task-end : goal.slice_bounds-put_task-end
+slice_bounds-put_task-end c =
+    omega (arith, (good (goal.at.slice_bounds-put_task-end c).In-loop-t).rises, (good (goal.at.slice_bounds-put_task-end c).In-loop-t).inside)
 
 pub put_task-end-requires : goal.put_task-end-requires
 unfolding part

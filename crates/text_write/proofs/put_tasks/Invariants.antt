@@ -9,7 +9,7 @@ use Rattle.text_write.proofs.Laws.{TasksPut, no-tasks, task-room, next-task, all
 use Rattle.text_write.proofs.put_tasks.Given as goal
 
 abbrev pub invariant-loop-t : goal.invariant-loop-t
-invariant-loop-t l = (l.t ≤ length l.starts) × TasksPut l.weights l.starts l.preds l.initial.out l.at l.t l.out l.end
+invariant-loop-t l = (l.t ≤ length l.weights) × TasksPut l.at l.weights l.starts l.preds l.initial.out l.t l.out l.end
 
 abbrev pub decreases-loop-t : goal.decreases-loop-t
-decreases-loop-t l = length l.starts - l.t
+decreases-loop-t l = length l.weights - l.t

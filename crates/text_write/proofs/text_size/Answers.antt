@@ -6,15 +6,14 @@ use Rattle.lists.specs.Sums.{sum_to}
 use Rattle.layout.specs.Plain.{line_size}
 use Rattle.layout.proofs.Sizes.{text-size, lines-most, preds-most}
 use Rattle.text_write.proofs.text_size.Goals as goal
-use Rattle.text_write.proofs.text_size.Goals.{After-shared_slice_known-1}
+use Rattle.text_write.proofs.text_size.Goals.{Start}
 
-lines : (c : After-shared_slice_known-1) → sum_to (length c.args.weights.now) (line_size c.args.weights.now c.args.starts.now) ≤ 1024 * 21
+lines : (c : Start) → sum_to (length c.args.weights.now) (line_size c.args.weights.now c.args.starts.now) ≤ 1024 * 21
 lines c =
-    let s = c.before in
     omega (
       arith,
-      s.requires.0.sized.tasks,
-      lines-most s.args.weights.now _ _ s.requires.0 9 (λ t h. omega (arith, c.type_inv.weights t)),
+      c.requires.0.sized.tasks,
+      lines-most c.args.weights.now _ _ c.requires.0 9 (λ t h. omega (arith, c.type_inv.weights t)),
     )
 
 pub lines_size-lines-requires : goal.lines_size-lines-requires
@@ -34,20 +33,18 @@ pub overflow_add-result : goal.overflow_add-result
 overflow_add-result c = omega arith
 
 pub overflow_add-result-2 : goal.overflow_add-result-2
-overflow_add-result-2 c = omega (arith, lines (goal.at.overflow_add-result-2 c).After-shared_slice_known-1)
+overflow_add-result-2 c = omega (arith, lines (goal.at.overflow_add-result-2 c).Start)
 
 pub preds_size-requires : goal.preds_size-requires
 preds_size-requires c = c.requires.0.sized.edges
 
 pub overflow_add-result-3 : goal.overflow_add-result-3
 overflow_add-result-3 c =
-    let s = (goal.at.overflow_add-result-3 c).After-shared_slice_known-1 in
-    omega (arith, lines s, preds-most s.before.args.weights.now _ _ s.before.requires.0, s.before.requires.0.sized.edges)
+    omega (arith, lines (goal.at.overflow_add-result-3 c).Start, preds-most c.args.weights.now _ _ c.requires.0, c.requires.0.sized.edges)
 
 pub returns : goal.returns
 returns c =
-    let s = (goal.at.returns c).Start in
     omega (
       arith,
-      text-size s.args.weights.now s.args.starts.now s.args.preds.now s.requires.0,
+      text-size c.args.weights.now c.args.starts.now c.args.preds.now c.requires.0,
     )

@@ -9,9 +9,9 @@ use Rattle.tries.proofs.take_turn.Given as goal
 
 abbrev pub invariant-loop-tried : goal.invariant-loop-tried
 invariant-loop-tried l =
-    Lasting l.worker l.initial.degrees l.initial.rings l.initial.ends l.initial.counters l.initial.buffers l.initial.executed l.initial.run l.degrees l.rings l.ends l.counters l.buffers l.executed l.run l.rows
-    × Trying (cell_mem l.weights l.pred_starts l.preds l.succ_starts l.succs l.worker l.initial.degrees l.initial.rings l.initial.ends l.initial.counters l.initial.buffers l.initial.executed l.initial.run)
-    (cell_mem l.weights l.pred_starts l.preds l.succ_starts l.succs l.degrees l.rings l.ends l.counters l.buffers l.executed l.run l.rows) l.initial.rows.0 l.tried
+    Lasting l.initial.degrees l.initial.rings l.initial.ends l.initial.counters l.initial.buffers l.initial.executed l.initial.run l.initial.rows l.degrees l.rings l.ends l.counters l.buffers l.executed l.run l.rows
+    × Trying (cell_mem l.weights l.pred_starts l.preds l.succ_starts l.succs l.initial.degrees l.initial.rings l.initial.ends l.initial.counters l.initial.buffers l.initial.executed l.initial.run l.initial.rows)
+    (cell_mem l.weights l.pred_starts l.preds l.succ_starts l.succs l.degrees l.rings l.ends l.counters l.buffers l.executed l.run l.rows) l.worker.0 l.tried
 
 abbrev pub decreases-loop-tried : goal.decreases-loop-tried
 decreases-loop-tried l =

@@ -9,8 +9,8 @@ use Rattle.turns.proofs.drive.Given as goal
 
 abbrev pub invariant-loop-left : goal.invariant-loop-left
 invariant-loop-left l =
-    Lasting l.steps l.initial.degrees l.initial.rings l.initial.ends l.initial.counters l.initial.buffers l.initial.executed l.initial.run l.degrees l.rings l.ends l.counters l.buffers l.executed l.run l.rows
-    × Driving (cell_mem l.weights l.pred_starts l.preds l.succ_starts l.succs l.steps l.initial.degrees l.initial.rings l.initial.ends l.initial.counters l.initial.buffers l.initial.executed l.initial.run)
+    Lasting l.initial.degrees l.initial.rings l.initial.ends l.initial.counters l.initial.buffers l.initial.executed l.initial.run l.initial.rows l.degrees l.rings l.ends l.counters l.buffers l.executed l.run l.rows
+    × Driving (cell_mem l.weights l.pred_starts l.preds l.succ_starts l.succs l.initial.degrees l.initial.rings l.initial.ends l.initial.counters l.initial.buffers l.initial.executed l.initial.run l.initial.rows)
     (cell_mem l.weights l.pred_starts l.preds l.succ_starts l.succs l.degrees l.rings l.ends l.counters l.buffers l.executed l.run l.rows) l.worker l.left
 
 abbrev pub decreases-loop-left : goal.decreases-loop-left

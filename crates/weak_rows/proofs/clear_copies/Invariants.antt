@@ -8,7 +8,7 @@ use native.Mathlib.Omega.{arith}
 use Rattle.weak_rows.proofs.clear_copies.Given as goal
 
 abbrev pub invariant-loop-i : goal.invariant-loop-i
-invariant-loop-i l = Filled copy_in (copy 0 0) l.cells l.rings l.i
+invariant-loop-i l = Filled copy_in (copy 0 0) l.initial.rings l.rings l.i
 
 abbrev pub decreases-loop-i : goal.decreases-loop-i
-decreases-loop-i l = length l.cells - l.i
+decreases-loop-i l = length l.initial.rings - l.i

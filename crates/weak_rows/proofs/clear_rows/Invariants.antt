@@ -6,7 +6,7 @@ use borrow.Author.Rules.{rules}
 use Rattle.weak_rows.proofs.clear_rows.Given as goal
 
 abbrev pub invariant-loop-i : goal.invariant-loop-i
-invariant-loop-i l = (l.i ≤ l.cells) × Cleared l.n l.rows l.i
+invariant-loop-i l = (l.i ≤ l.n) × Cleared l.initial.rows l.rows l.i
 
 abbrev pub decreases-loop-i : goal.decreases-loop-i
-decreases-loop-i l = l.cells - l.i
+decreases-loop-i l = l.n - l.i

@@ -4,4 +4,4 @@ use borrow.Author.Rules.{rules}
 use Rattle.weak_rows.proofs.store_copy.Goals as goal
 
 pub returns : goal.returns
-returns c = read-stored copy_in _ _ _ _ c.Cells-of.ensures
+returns c = read-stored copy_in _ _ _ _ c.cells_of.ensures

@@ -6,10 +6,9 @@ use Rattle.windows.proofs.enter.Goals as goal
 
 pub overflow_add-sums : goal.overflow_add-sums
 overflow_add-sums c =
-    let s = (goal.at.overflow_add-sums c).Start in
-    let a = s.args in
+    let a = c.args in
     let e = c.entry_at-entry.ensures in
-    omega (arith, entering a.weights.now a.executed.now a.sums.now a.x e s.requires.2)
+    omega (arith, entering a.weights.now a.executed.now a.sums.now a.x e c.requires.2)
 
 pub returns : goal.returns
 returns c =

@@ -5,9 +5,8 @@ use Rattle.windows.proofs.leave.Goals as goal
 
 pub overflow_sub-sums : goal.overflow_sub-sums
 overflow_sub-sums c =
-    let s = (goal.at.overflow_sub-sums c).Start in
-    let a = s.args in
-    leaving a.weights.now a.executed.now a.sums.now a.x c.entry_at-entry.ensures s.requires.2
+    let a = c.args in
+    leaving a.weights.now a.executed.now a.sums.now a.x c.entry_at-entry.ensures c.requires.2
 
 pub returns : goal.returns
 returns c =

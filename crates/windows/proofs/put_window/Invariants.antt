@@ -6,7 +6,7 @@ use Rattle.windows.proofs.Putting.{Putting, none-put, out-size, out-kept, next-p
 use Rattle.windows.proofs.put_window.Given as goal
 
 abbrev pub invariant-loop-i : goal.invariant-loop-i
-invariant-loop-i l = (l.i ≤ length l.initial.out) × Putting l.initial.out l.sums l.out l.low l.high l.i
+invariant-loop-i l = (l.i ≤ length l.sums) × Putting l.sums l.initial.out l.out l.low l.high l.i
 
 abbrev pub decreases-loop-i : goal.decreases-loop-i
-decreases-loop-i l = length l.initial.out - l.i
+decreases-loop-i l = length l.sums - l.i

@@ -6,7 +6,7 @@ use Rattle.loads.specs.Windows.{Spans}
 use Rattle.windows.proofs.Sliding.{sums-length}
 use Rattle.windows.proofs.Putting.{WindowsPut, fewer, first-room, first-put, first-windows, slide-asks, next-room, place-few, put-asks, next-window, all-windows}
 use Rattle.windows.proofs.put_windows.Goals as goal
-use Rattle.windows.proofs.put_windows.Goals.{In-loop-w}
+use Rattle.windows.proofs.put_windows.Goals.{At-loop-w, In-loop-w}
 
 -- In the loop: what was asked, where the next window is put, and that it has room.
 spans : (c : In-loop-w) → let a = c.args in
@@ -29,6 +29,14 @@ sum_first-requires c =
 
 pub slice_bounds-put_window-count : goal.slice_bounds-put_window-count
 slice_bounds-put_window-count c = omega arith
+
+pub slice_bounds-put_window-start : goal.slice_bounds-put_window-start
+slice_bounds-put_window-start c = omega arith
+
+pub slice_bounds-put_window-end : goal.slice_bounds-put_window-end
+slice_bounds-put_window-end c =
+    let a = c.args in
+    omega (arith, first-room (length a.sums.now) a.weights.now a.executed.now a.entries a.m c.requires.1 a.results.now c.requires.2)
 
 pub put_window-requires : goal.put_window-requires
 put_window-requires c =
@@ -54,6 +62,12 @@ offset_bounds-results-at c = omega (arith, few (goal.at.offset_bounds-results-at
 
 pub slice_bounds-put_window-count-in-loop-w : goal.slice_bounds-put_window-count-in-loop-w
 slice_bounds-put_window-count-in-loop-w c = omega arith
+
+pub slice_bounds-put_window-start-2 : goal.slice_bounds-put_window-start-2
+slice_bounds-put_window-start-2 c = omega arith
+
+pub slice_bounds-put_window-end-2 : goal.slice_bounds-put_window-end-2
+slice_bounds-put_window-end-2 c = omega (arith, room (goal.at.slice_bounds-put_window-end-2 c).In-loop-w)
 
 pub put_window-requires-in-loop-w : goal.put_window-requires-in-loop-w
 put_window-requires-in-loop-w c =

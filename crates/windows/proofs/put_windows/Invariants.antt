@@ -9,7 +9,7 @@ use Rattle.windows.proofs.Putting.{WindowsPut, fewer, first-room, first-put, fir
 use Rattle.windows.proofs.put_windows.Given as goal
 
 abbrev pub invariant-loop-w : goal.invariant-loop-w
-invariant-loop-w l = WindowsPut l.initial.results l.entries l.m l.p l.size l.results l.sums l.w l.at
+invariant-loop-w l = WindowsPut l.p l.weights l.executed l.entries l.m l.results l.sums l.w l.at
 
 abbrev pub decreases-loop-w : goal.decreases-loop-w
-decreases-loop-w l = l.p - l.w
+decreases-loop-w l = l.entries - l.w

@@ -8,7 +8,7 @@ use Rattle.windows.proofs.Sliding.{sums-length, first-asks, first-in, all_in}
 use Rattle.windows.proofs.sum_first.Given as goal
 
 abbrev pub invariant-loop-x : goal.invariant-loop-x
-invariant-loop-x l = (l.x ≤ l.initial.sums) × (l.sums ≡ window_sums (length l.weights) l.executed l.m l.x 0)
+invariant-loop-x l = (l.x ≤ l.m) × (l.sums ≡ window_sums (length l.initial.sums) l.weights l.executed l.x 0)
 
 abbrev pub decreases-loop-x : goal.decreases-loop-x
-decreases-loop-x l = l.initial.sums - l.x
+decreases-loop-x l = l.m - l.x
