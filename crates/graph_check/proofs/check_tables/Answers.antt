@@ -19,7 +19,7 @@ pub returns-then-twice-n : goal.returns-then-twice-n
 returns-then-twice-n c = early c.refused-then-twice-n.ensures (λ e. omega arith) (tables-twice _ _ c.first_bad-bad.ensures c.if-bad-n.false _ c.ends_fit.ensures c.if-not-ends_fit.false-raw _ c.first_twice-twice.ensures.0 c.if-twice-n.true)
 
 pub first_on_cycle-judged-requires : goal.first_on_cycle-judged-requires
-first_on_cycle-judged-requires c = (tables-sound _ _ c.first_bad-bad.ensures c.if-bad-n.false _ c.ends_fit.ensures c.if-not-ends_fit.false-raw c.requires.0, (omega (arith, c.first_twice-twice.auto.1.1.1.0), (c.requires.1, c.first_twice-twice.ensures.1 c.if-twice-n.false)))
+first_on_cycle-judged-requires c = (tables-sound _ _ c.first_bad-bad.ensures c.if-bad-n.false _ c.ends_fit.ensures c.if-not-ends_fit.false-raw c.requires.0, (omega (arith, c.first_twice-twice.auto.counts), (c.requires.1, c.first_twice-twice.ensures.1 c.if-twice-n.false)))
 
 pub returns-then-looped-n : goal.returns-then-looped-n
 returns-then-looped-n c = (tables-cycle _ _ c.first_bad-bad.ensures c.if-bad-n.false _ c.ends_fit.ensures c.if-not-ends_fit.false-raw _ c.first_twice-twice.ensures.0 c.if-twice-n.false _ c.first_on_cycle-judged.ensures.0 c.if-looped-n.true, record { handed = λ j. c.first_on_cycle-judged.ensures.1; kept = λ n. absurd (n refl) })

@@ -20,13 +20,13 @@ abbrev told : After-drive → In_default-1
 told c = c.before.before.before.before.before.before.before.before.before.before.before
 
 module _ (c : After-drive) where
-  run-words : ◌≡◌ {A = ℕ} (length c.drive.new.1.1.1.1.1.1.1.1.1.1.1.0) 2
+  run-words : ◌≡◌ {A = ℕ} (length c.drive.new.run) 2
   run-words = omega (arith, (ready (told c)).run, (told c).before.before.before.before.before.before.before.before.before.before.before.before.before.before.before.before.before.before.before.before.begin.auto, c.drive.auto)
 
-  room : length c.drive.new.1.1.1.1.1.1.1.1.1.1.0 ≡ 2 * length (entry (told c)).args.weights.now
+  room : length c.drive.new.executed ≡ 2 * length (entry (told c)).args.weights.now
   room = omega (arith, (ready (told c)).executed, (told c).before.before.before.before.before.before.before.before.before.before.before.before.before.before.before.before.before.before.before.before.begin.auto, c.drive.auto)
 
-  entries : get_or c.drive.new.1.1.1.1.1.1.1.1.1.1.1.0 0 0 ≡ length (entry (told c)).args.weights.now
+  entries : get_or c.drive.new.run 0 0 ≡ length (entry (told c)).args.weights.now
   entries = entries-all _ (told c).before.before.before.before.before.before.before.before.before.before.before.before.before.before.before.before.before.before.before.before.before.before.before.before.before.before.before.before.before.before.before.engine.ensures _ _ _ (told c).before.before.before.before.before.before.before.before.before.before.before.before.before.before.before.before.before.before.before.before.begin.ensures (told c).enum_told.given.1 _ c.drive.ensures
 
 pub put_refused-requires : goal.put_refused-requires

@@ -1,9 +1,9 @@
 use Prim.Native.Nat.{◌-◌, ◌≤◌}
-use mathlib.Core.Logic.{⊎_elim}
 use mathlib.Core.Path.{◌≡◌}
 use native.Mathlib.Omega.{arith}
 use Rattle.roots.proofs.Laws.{levels, levels-none, levels-hit, levels-miss, roots-counted}
 use Rattle.roots.proofs.count_roots.Goals as goal
+use Rattle.roots.proofs.count_roots.Goals.{then-starts-t, else-starts-t}
 
 pub loop-t-init : goal.loop-t-init
 loop-t-init c = (omega arith, (omega arith, levels-none _))
@@ -34,10 +34,10 @@ loop-t-smaller c = omega arith
 
 pub loop-t-preserved : goal.loop-t-preserved
 loop-t-preserved c =
-    ⊎_elim
-    (λ w. (omega arith, (omega arith, levels-hit _ _ _ _ c.loop-t.invariant.1.1 w.0.taken w.1)))
-    (λ w. (omega arith, (omega arith, levels-miss _ _ _ _ c.loop-t.invariant.1.1 w.0.left w.1)))
-    c.if-starts-t.branch
+    elim c.if-starts-t.branch [
+      then-starts-t w ↦ (omega arith, (omega arith, levels-hit _ _ _ _ c.loop-t.invariant.1.1 w.if-starts-t.true w.found-is))
+      | else-starts-t w ↦ (omega arith, (omega arith, levels-miss _ _ _ _ c.loop-t.invariant.1.1 w.if-starts-t.false w.found-is))
+    ]
 
 pub returns : goal.returns
 returns c = (omega arith, λ preds s. roots-counted _ s _ _ c.loop-t.invariant.1.1 (omega arith) (omega arith))

@@ -1,35 +1,27 @@
 use Prim.Native.Nat.{◌-◌, ◌≤◌}
 use borrow.Author.Rules.{rules}
-use mathlib.Core.Logic.{⊎_elim}
 use native.Mathlib.Omega.{arith}
 use lib.ListN.{get_or}
 use Rattle.layout.specs.Marks.{Digit}
 use Rattle.layout.specs.Scan.{line_at}
 use Rattle.layout.proofs.Numbers.{digit-byte, Ran, ran-start, ran-small, ran-more}
 use Rattle.layout.proofs.Numbers.{Stopped, stopped-byte, stopped-end, ran-missing, ran-joined, ran-found}
-use Rattle.scan.proofs.parts.Reads as parts-reads
-use Rattle.task.proofs.smaller.Reads as smaller-reads
 use Rattle.scan.proofs.digits_at.Goals as goal
-use Rattle.scan.proofs.digits_at.Goals.{Else-d, Left-loop-p}
+use Rattle.scan.proofs.digits_at.Goals.{Else-d, Left-loop-p, else-loop-p-test, then-loop-p-test+then-d}
 
 -- in the loop, after a digit
-abbrev At-digit : Type 0
-At-digit = Else-d (smaller-reads.Asked, smaller-reads.Learnt, parts-reads.Asked, parts-reads.Learnt) reads.Pre reads.Post invariant-loop decreases-loop
+small : (c : Else-d) → c.loop-p.v ≤ 99999999
+small c = ran-small _ _ _ _ c.loop-p.invariant.0 (omega arith)
 
-small : (c : At-digit) → c.before.before.before.loop.v ≤ 99999999
-small c = ran-small _ _ _ _ c.before.before.before.loop.invariant.0 (omega arith)
-
-byte : (c : At-digit) → Digit (get_or c.before.before.before.before.before.before.args.text.now c.before.before.before.loop.p 0)
-byte c = digit-byte _ c.if1.false
+byte : (c : Else-d) → Digit (get_or c.args.text.now c.loop-p.p 0)
+byte c = digit-byte _ c.if-d.false
 
 -- after the loop
-abbrev Past-digits : Type 0
-Past-digits = Left-loop-p (smaller-reads.Asked, smaller-reads.Learnt, parts-reads.Asked, parts-reads.Learnt) reads.Pre reads.Post invariant-loop decreases-loop
-
-stopped : (c : Past-digits) → Stopped c.before.loop.invariant.0.ds (line_at c.before.before.before.before.args.text.now c.before.loop.p)
-stopped c =
-    ⊎_elim (λ w. stopped-end _ _ _ _ c.before.loop.invariant.0 (omega arith))
-    (λ w. stopped-byte _ _ _ _ c.before.loop.invariant.0 (omega arith) w.2.taken) c.loop-test.branch
+stopped : (c : Left-loop-p) → Stopped c.loop-p.invariant.0.ds (line_at c.args.text.now c.loop-p.p)
+stopped c = elim c.loop-p-test.branch [
+  else-loop-p-test w ↦ stopped-end _ _ _ _ c.loop-p.invariant.0 (omega arith)
+  | then-loop-p-test+then-d w ↦ stopped-byte _ _ _ _ c.loop-p.invariant.0 (omega arith) w.if-d.true
+]
 
 pub loop-p-init : goal.loop-p-init
 loop-p-init c = (ran-start _ _ c.requires.0, omega arith)

@@ -19,7 +19,7 @@ fits : (c : After-sizes_of-sizes) → lent_fit (entry c).args.weights.now (entry
 fits c = not-false _ (judged c).before.before.before.before.before.if1.false
 
 holds : (c : After-sizes_of-sizes) → Holds c.sizes_of-sizes.result.weights c.sizes_of-sizes.result.starts c.sizes_of-sizes.result.preds
-    (judged c).judge.new.1.0 (judged c).judge.new.1.1.0 (judged c).judge.new.1.1.1.0
+    (judged c).judge.new.weights (judged c).judge.new.starts (judged c).judge.new.preds
     (entry c).args.weights.now (entry c).args.starts.now (entry c).args.preds.now
 holds c =
     copy-room (entry c).args.weights.now (entry c).args.starts.now (entry c).args.preds.now (fits c) (judged c).judge.ensures

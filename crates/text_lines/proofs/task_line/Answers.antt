@@ -54,7 +54,7 @@ filling : (c : Else-not-span)
     → Filling (start (head_passed c)).args.text.now (head_passed c).before.before.task-head.result.next (start (head_passed c)).args.e
     (start (head_passed c)).args.preds.now c.fill_numbers-span.result.next
     ((start (head_passed c)).args.e + (head_passed c).before.before.task-head.result.count)
-    c.fill_numbers-span.new.1.1.1.1.0
+    c.fill_numbers-span.new.words
 filling c = filled_is c.fill_numbers-span.ensures (not-false _ c.if-not-span.false)
 
 closed : (c : Else-not-end)

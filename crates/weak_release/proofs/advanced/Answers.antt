@@ -1,11 +1,11 @@
 use Rattle.weak_release.proofs.Written.{advance-last, advance-on}
 use mathlib.Core.Path.{refl}
-use mathlib.Core.Logic.{⊎_elim}
 use borrow.Author.Rules.{rules}
 use Rattle.weak_release.proofs.advanced.Goals as goal
+use Rattle.weak_release.proofs.advanced.Goals.{then-cursor-count, else-cursor-count}
 
 pub returns : goal.returns
-returns c = record { value = ⊎_elim
-      (λ w. advance-last _ _ _ _ w.0.taken w.1 w.2)
-      (λ w. advance-on _ _ _ _ w.0.left w.1 w.2)
-      c.if-cursor-count.branch; value_2 = refl }
+returns c = record { value = elim c.if-cursor-count.branch [
+        then-cursor-count w ↦ advance-last _ _ _ _ w.if-cursor-count.true w.cursor-is w.read-is
+        | else-cursor-count w ↦ advance-on _ _ _ _ w.if-cursor-count.false w.cursor-is w.read-is
+      ]; value_2 = refl }
