@@ -24,7 +24,7 @@ module _ (m m' : Mem) (cells cells' : List (List ℕ)) (rows : m.rows ≡ rows_o
   same-cells : m' ≡ m → (m' ≡ m) × (cells' ≡ cells)
   same-cells e = (e, rows_words cells' cells six' six (sym rows' ∙ ap (λ (x : Mem). x.rows) e ∙ rows))
 
-  -- "all lent memory keeps its words": the contracts here, which hand out the answer itself; of the exports `untouched` (`crates/hosts/proofs/untouched.antt`)
+  -- "all lent memory keeps its words": the contracts here, which hand out the answer itself; of the exports `untouched` (`crates/hosts/proofs/Untouched.antt`)
   pub refused-step-cells : (limits : Limits) (p k i : ℕ) (s : Step) (n d : ℕ) → result_of (Refused n d) m' ≡ step limits p k i s m
       → (m' ≡ m) × (cells' ≡ cells)
   refused-step-cells limits p k i s n d contract =

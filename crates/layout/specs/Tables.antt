@@ -31,7 +31,7 @@ Beyond [] = ⊥
 Beyond (first ∷ tasks) = (1022 < get_or first 0 0) ⊎ (8192 < sum_of (λ r. get_or r 2 0) tasks)
 
 -- the lines' rows are the first ones of some graph: lines that begin some text that keeps the layout and, where n is 65,535, lines whose rows
--- are right so far (`begins-fits`, `fits-begins` in proofs/begins.antt)
+-- are right so far (`begins-fits`, `fits-begins` in proofs/Begins.antt)
 pub record Fits (ls : List Line) : Type 0 where
   pub rows : List Numbers
   pub content : Content ls rows

@@ -1,4 +1,4 @@
--- Computed examples, of the family of pairs (`crates/memory/proofs/examples.antt`): where words stand, what the tests pass, and what a begin leaves.
+-- Computed examples, of the family of pairs (`crates/memory/proofs/Examples.antt`): where words stand, what the tests pass, and what a begin leaves.
 use Prim.Native.Nat.{ℕ}
 use mathlib.Core.Path.{◌≡◌, refl}
 use mathlib.Core.Bool.{true, false}

@@ -32,7 +32,7 @@ module _ {F : Family} where
       }
 
 -- What Release's table says where a target is sought, of the rings filled by worker i whose owners are offered: "owners taken j, j+1, … modulo P", the
--- candidates among them (`Chooses`, `crates/choice/proofs/form.antt`, asks that of every form).
+-- candidates among them (`Chooses`, `crates/choice/proofs/Form.antt`, asks that of every form).
 module _ {F : Family} (f : Form) (p k i : ℕ) (m : Mem F) where
   -- damaged ends, the rings before it, from the target's on, being full
   abbrev pub BadOffered : Type 0

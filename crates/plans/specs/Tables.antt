@@ -59,7 +59,7 @@ module _ {F : Family} where
   begin_rows limits p k m =
       -- 2: "N, E, P, K or (begin) a weight beyond its limit"
       row beyond_limit (only 0 ((BeyondPK limits p k ⊎ Beyond limits (tasks m) (edges m)) ⊎ Heavy m.weights))
-      -- 1: "a lent length isn't the stated one"; in figures, list by list: `lengths-stated` of each family (`proofs/lengths.antt`)
+      -- 1: "a lent length isn't the stated one"; in figures, list by list: `lengths-stated` of each family (`proofs/Lengths.antt`)
       ∷ row wrong_length (only 0 (¬ (Lengths p k m)))
       -- (3, 4 and 5 are the rows of the graph's own check, `table_rows`)
       -- 3: "start t ≤ start t+1 ≤ E fails, or a predecessor ≥ N", "smallest such task"
@@ -99,7 +99,7 @@ module _ {F : Family} where
   headed_rows limits p k i s m own =
       -- 2: "N, E, P, K .. beyond its limit"
       row beyond_limit (only 0 (BeyondPK limits p k ⊎ Beyond limits (tasks m) (edges m)))
-      -- 1: "a lent length isn't the stated one"; in figures, list by list: `lengths-stated` of each family (`proofs/lengths.antt`)
+      -- 1: "a lent length isn't the stated one"; in figures, list by list: `lengths-stated` of each family (`proofs/Lengths.antt`)
       ∷ row wrong_length (only 0 (¬ (Lengths p k m)))
       -- 7: "worker ≥ P", "that number"
       ∷ row no_such_worker (only i (p ≤ i))

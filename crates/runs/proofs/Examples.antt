@@ -1,7 +1,7 @@
 -- PROMISE: "Proved together as one table about the definitions: the table's examples 3 to 6, 9 to 11, both edges N 0 (0 steps, begun is finished) and
 -- two roots with P 2, K 2 (accepted), and the diamond above."; 6, 11 and the roots as document 02's No. 5 has them: "four roots are accepted and five
 -- refused; the example of 11 gains an edge 0→3". The rules' table has all of it but for "begun is finished", which is said of runs, and for the
--- diamond's input lines and printed lines: with these it stands in `crates/desk_rule/proofs/table.antt`.
+-- diamond's input lines and printed lines: with these it stands in `crates/desk_rule/proofs/Table.antt`.
 use Prim.Native.Nat.{ℕ}
 use mathlib.Core.Path.{◌≡◌, refl}
 use mathlib.Core.List.{[]}

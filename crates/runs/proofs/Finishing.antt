@@ -39,7 +39,7 @@ below_all limits r i s a =
 pub can-finish : (r : Run) (limits : Limits) → KeptBy limits (view_of r) → CanFinish limits r
 can-finish r limits = finishing.can-finish plain_calls Finished finished? all_steps (λ r. (demand-3.one r).next_by) below_all limits r
 
--- PROMISE: no run has more accepted steps than the family's figure for N and E (`steps`, `crates/memory/specs/family.antt`), which every finished run has
+-- PROMISE: no run has more accepted steps than the family's figure for N and E (`steps`, `crates/memory/specs/Family.antt`), which every finished run has
 pub most-steps : (r : Run) → accepted_steps (events_of r) ≤ plain_shape.steps (tasks r.lent) (edges r.lent)
 most-steps r =
     let end = can-finish r r.limits (begun-within r) in

@@ -1,4 +1,4 @@
--- What no run shows: forged views, each refused by the predicate of `specs/corollaries.antt` that it is against. Of `OtherNumbers`, `BeyondLimits`,
+-- What no run shows: forged views, each refused by the predicate of `specs/Corollaries.antt` that it is against. Of `OtherNumbers`, `BeyondLimits`,
 -- `AcceptedKept` and `FinishedSays` a view is against several parts at once: there each refutation goes by another part.
 use Prim.Native.Nat.{ℕ, zero, suc, ◌*◌, ◌≤◌, ◌<◌}
 use mathlib.Core.Path.{◌≡◌, refl, ap}

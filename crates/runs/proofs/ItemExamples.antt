@@ -1,4 +1,4 @@
--- The state of pairs (`crates/algorithm1/proofs/item_examples.antt`): where a worker's items stand, and that its counters carry the weight of those that
+-- The state of pairs (`crates/algorithm1/proofs/ItemExamples.antt`): where a worker's items stand, and that its counters carry the weight of those that
 -- wait and of the one in its hand, a pair weighing what its task does.
 use Prim.Native.Nat.{ℕ, zero, suc, ◌<◌}
 use mathlib.Core.Path.{◌≡◌, refl}

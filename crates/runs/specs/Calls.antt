@@ -1,4 +1,4 @@
--- A plain job's runs: lists of its calls (`crates/machine/specs/jobs.antt`) from an accepted begin on. Each call has limits of its own, as the engine's
+-- A plain job's runs: lists of its calls (`crates/machine/specs/Jobs.antt`) from an accepted begin on. Each call has limits of its own, as the engine's
 -- or the preview's.
 use Rattle.std.specs.Prelude.{ℕ, Bool, List, []}
 use Rattle.task.specs.Refusals.{Said, answer_says, step_says}
@@ -36,7 +36,7 @@ leaves = jobs.leaves plain_calls
 abbrev pub plain : Machine Mem Call
 plain = jobs.machine_of plain_calls
 
--- Lists of these calls, as of any machine's (`crates/machine/specs/machine.antt`).
+-- Lists of these calls, as of any machine's (`crates/machine/specs/Machine.antt`).
 
 -- a call and its answer
 abbrev pub Event : Type 0

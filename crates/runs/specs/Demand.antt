@@ -59,7 +59,7 @@ pub record OneRun (v : View Mem Call) : Type 0 where
   pub next_by : ¬ (Finished v) → (limits : Limits) → KeptBy limits v
       → (i : ℕ) × (s : Step) × (i < v.workers) × Acceptance (next_says limits v i s)
 
--- "Two runs are of one graph if N and the edges agree.": `OneGraph` (`crates/views/specs/graphs.antt`)
+-- "Two runs are of one graph if N and the edges agree.": `OneGraph` (`crates/views/specs/Graphs.antt`)
 -- "the records differ only in the order of tasks and the workers named: one task order becomes the other by exchanging neighbours that the graph
 -- doesn't order, one exchange for each pair that the two order differently, every list on the way being an order the graph allows"
 abbrev pub Exchanges : View Mem Call → View Mem Call → Type 0

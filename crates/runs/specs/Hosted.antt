@@ -1,5 +1,5 @@
 -- What a host sees of its calls: one after the other on the lent lists, each with its answer and with the words that it left. The contract of each
--- call says what it answers and leaves (`proofs/links.antt`); here such single facts are put together.
+-- call says what it answers and leaves (`proofs/Links.antt`); here such single facts are put together.
 use Rattle.std.specs.Prelude.{ℕ, ◌≡◌, List}
 use Rattle.task.specs.Refusals.{accepted, answer_says}
 use Rattle.task.specs.declared.Limits.{Limits}

@@ -44,7 +44,7 @@ module _ (m m' : Mem) (slots slots' cells cells' : List (List ℕ)) (l : Lent m 
   )
 
   -- "all lent memory keeps its words": the contracts here, which hand out the answer itself; of the exports `untouched`
-  -- (`crates/weak_hosts/proofs/untouched.antt`)
+  -- (`crates/weak_hosts/proofs/Untouched.antt`)
   pub refused-step-cells : (limits : Limits) (p k i : ℕ) (s : Step) (n d : ℕ) → result_of (Refused n d) m' ≡ step limits p k i s m
       → Same m m' slots slots' cells cells'
   refused-step-cells limits p k i s n d contract =

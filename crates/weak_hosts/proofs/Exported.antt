@@ -1,5 +1,5 @@
 -- PROMISE: the equation in the contract of each exported weak call is its link in what the host sees, the reply being read as what was said. So a host of
--- the exports sees a weak run (`hosted`, `hosted-fair`, `crates/weak_runs/proofs/hosted.antt`).
+-- the exports sees a weak run (`hosted`, `hosted-fair`, `crates/weak_runs/proofs/Hosted.antt`).
 use Prim.Native.Nat.{ℕ}
 use mathlib.Core.Path.{◌≡◌, refl}
 use Rattle.task.specs.declared.Limits.{Limits}

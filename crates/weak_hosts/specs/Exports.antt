@@ -1,4 +1,4 @@
--- The exported weak calls, one after the other (`crates/hosts/specs/made.antt`), with what the contract of each says.
+-- The exported weak calls, one after the other (`crates/hosts/specs/Made.antt`), with what the contract of each says.
 use Rattle.std.specs.Prelude.{◌≡◌}
 use Rattle.graph.specs.Lookup.{lent_of, judge_answer}
 use Rattle.weak_rules.specs.Memory.{Mem}

@@ -43,7 +43,7 @@ below_all limits r i s a =
 pub can-finish : (limits : Limits) (r : Run) → KeptBy limits (view_of r) → CanFinish limits r
 can-finish = finishing.can-finish weak_calls Finished finished? all_steps (λ r. (demand-3.one r).next_by) below_all
 
--- PROMISE: no run has more accepted steps than the family's figure for N and E (`steps`, `crates/memory/specs/family.antt`): with R roots a finished one
+-- PROMISE: no run has more accepted steps than the family's figure for N and E (`steps`, `crates/memory/specs/Family.antt`): with R roots a finished one
 -- has 4E + 3R, and R is at most N
 pub most-steps : (r : Run) → accepted_steps (events_of r) ≤ weak_shape.steps (tasks r.lent) (edges r.lent)
 most-steps r =

@@ -1,5 +1,5 @@
--- What no weak run shows: forged views, each refused by the predicate of `specs/corollaries.antt` that it is against, as those of plain runs are
--- (`crates/runs/proofs/guards.antt`).
+-- What no weak run shows: forged views, each refused by the predicate of `specs/Corollaries.antt` that it is against, as those of plain runs are
+-- (`crates/runs/proofs/Guards.antt`).
 use Prim.Native.Nat.{ℕ, zero, suc, ◌+◌, ◌*◌, ◌<◌}
 use mathlib.Core.Path.{◌≡◌, refl, sym, ap}
 use mathlib.Core.List.{List, [], ◌∷◌}

@@ -1,5 +1,5 @@
 -- What the lent words say of a weak run's events so far: the accepted word, the entries word and the record recount them, and the copy that a worker has
--- in hand is the one its last accepted Fetch answered. So it is in every family (`crates/views/proofs/recounts.antt`) that shows what begin and an
+-- in hand is the one its last accepted Fetch answered. So it is in every family (`crates/views/proofs/Recounts.antt`) that shows what begin and an
 -- accepted step leave.
 use Prim.Native.Nat.{ℕ, suc, ◌+◌, ◌*◌, ◌≤◌, ◌<◌}
 use mathlib.Core.Path.{◌≡◌, refl, sym, ap, ◌∙◌}

@@ -1,4 +1,4 @@
--- A weak job's runs: lists of its calls (`crates/machine/specs/jobs.antt`) from an accepted begin on. "A job may be begun weak as a whole, with calls of
+-- A weak job's runs: lists of its calls (`crates/machine/specs/Jobs.antt`) from an accepted begin on. "A job may be begun weak as a whole, with calls of
 -- its own." The lookup is the plain one, on the same tables.
 use Rattle.std.specs.Prelude.{ℕ, ◌+◌, List, length}
 use Rattle.task.specs.Refusals.{Said, answer_says}

@@ -1,6 +1,5 @@
 -- Every task on the way is below n; k counts the turns.
 use Prim.Native.Nat.{◌-◌, ◌<◌}
-use native.Mathlib.Omega.{arith}
 use Rattle.components.proofs.close.Given as goal
 
 abbrev pub invariant-loop-k : goal.invariant-loop-k

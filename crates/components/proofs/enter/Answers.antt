@@ -1,5 +1,4 @@
 use Rattle.components.proofs.Laws.{set_below}
-use borrow.Author.Rules.{rules}
 use Rattle.components.proofs.enter.Goals as goal
 
 pub returns : goal.returns

@@ -1,6 +1,5 @@
 use native.Mathlib.Omega.{arith}
 use Rattle.components.proofs.Laws.{set_below}
-use borrow.Author.Rules.{rules}
 use Rattle.components.proofs.leave.Goals as goal
 
 pub overflow_cast-u : goal.overflow_cast-u

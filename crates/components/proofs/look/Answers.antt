@@ -2,7 +2,6 @@ use native.Mathlib.Omega.{arith}
 use lib.ListN.{get_or}
 use Rattle.graph.specs.Graph.{graph_of}
 use Rattle.components.proofs.Laws.{Looks, looks}
-use borrow.Author.Rules.{rules}
 use Rattle.components.proofs.look.Goals as goal
 use Rattle.components.proofs.look.Goals.{Start}
 

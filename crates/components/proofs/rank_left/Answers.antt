@@ -1,6 +1,4 @@
-use Prim.Native.Nat.{◌-◌, ◌≤◌, ◌<◌}
 use native.Mathlib.Omega.{arith}
-use Rattle.components.specs.Places.{Below}
 use Rattle.components.proofs.Laws.{zeros-below}
 use Rattle.components.proofs.rank_left.Goals as goal
 

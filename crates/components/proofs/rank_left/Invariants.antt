@@ -1,8 +1,6 @@
 -- The tables start at 0, and every visit keeps them.
 use Prim.Native.Nat.{◌-◌, ◌≤◌, ◌<◌}
-use native.Mathlib.Omega.{arith}
 use Rattle.components.specs.Places.{Below}
-use Rattle.components.proofs.Laws.{zeros-below}
 use Rattle.components.proofs.rank_left.Given as goal
 
 abbrev pub invariant-loop-t : goal.invariant-loop-t

@@ -1,6 +1,4 @@
-use Prim.Native.Nat.{◌-◌, ◌≤◌, ◌<◌}
 use native.Mathlib.Omega.{arith}
-use Rattle.components.specs.Places.{Below}
 use Rattle.components.proofs.visit.Goals as goal
 
 pub returns-then-from-ge-MOST : goal.returns-then-from-ge-MOST

@@ -1,6 +1,5 @@
 -- Each turn keeps the search inside its tables.
 use Prim.Native.Nat.{◌-◌, ◌≤◌, ◌<◌}
-use native.Mathlib.Omega.{arith}
 use Rattle.components.specs.Places.{Below}
 use Rattle.components.proofs.visit.Given as goal
 

@@ -36,7 +36,7 @@ run_tables-requires c =
     (part-below _ _ _ f.0, (part-below _ _ _ f.1, c.requires))
 
 pub returns-in-Refused : goal.returns-in-Refused
-returns-in-Refused c = text-refused _ _ _ _ _ c.read-read.ensures _ _ c.in-Refused.is c.before.before.put_refused.ensures
+returns-in-Refused c = text-refused _ _ _ _ _ c.read-read.ensures _ _ c.in-Refused.is c.put_refused.ensures
 
 pub returns-in-Accepted : goal.returns-in-Accepted
 returns-in-Accepted c = text-run _ _ _ _ _ c.read-read.ensures _ _ c.in-Accepted.is c.run_tables.ensures

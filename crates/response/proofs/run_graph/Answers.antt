@@ -21,19 +21,19 @@ told c = c.before.before.before.before.before.before.before.before.before.before
 
 module _ (c : After-drive) where
   run-words : ◌≡◌ {A = ℕ} (length c.drive.new.run) 2
-  run-words = omega (arith, (ready (told c)).run, (told c).before.before.before.before.before.before.before.before.before.before.before.before.before.before.before.before.before.before.before.before.begin.auto, c.drive.auto)
+  run-words = omega (arith, (ready (told c)).run, (told c).begin-answer.auto, c.drive.auto)
 
   room : length c.drive.new.executed ≡ 2 * length (entry (told c)).args.weights.now
-  room = omega (arith, (ready (told c)).executed, (told c).before.before.before.before.before.before.before.before.before.before.before.before.before.before.before.before.before.before.before.before.begin.auto, c.drive.auto)
+  room = omega (arith, (ready (told c)).executed, (told c).begin-answer.auto, c.drive.auto)
 
   entries : get_or c.drive.new.run 0 0 ≡ length (entry (told c)).args.weights.now
-  entries = entries-all _ (told c).before.before.before.before.before.before.before.before.before.before.before.before.before.before.before.before.before.before.before.before.before.before.before.before.before.before.before.before.before.before.before.engine.ensures _ _ _ (told c).before.before.before.before.before.before.before.before.before.before.before.before.before.before.before.before.before.before.before.before.begin.ensures (told c).enum_told.given.1 _ c.drive.ensures
+  entries = entries-all _ (told c).engine.ensures _ _ _ (told c).begin-answer.ensures (told c).enum_told.given.1 _ c.drive.ensures
 
 pub put_refused-requires : goal.put_refused-requires
 put_refused-requires c = omega (arith, c.requires)
 
 pub returns-in-Refused : goal.returns-in-Refused
-returns-in-Refused c = refusal-put _ c.engine.ensures _ _ _ c.begin-answer.ensures _ _ c.in-Refused.is c.before.before.put_refused.ensures
+returns-in-Refused c = refusal-put _ c.engine.ensures _ _ _ c.begin-answer.ensures _ _ c.in-Refused.is c.put_refused.ensures
 
 pub drive-requires : goal.drive-requires
 drive-requires c =
@@ -93,5 +93,5 @@ shape_of-rows c = omega (arith, c.begin-answer.auto, c.drive.auto)
 pub returns : goal.returns
 returns c =
     let t = told (goal.at.returns c).In_default-1 in
-    lines-put _ t.before.before.before.before.before.before.before.before.before.before.before.before.before.before.before.before.before.before.before.before.before.before.before.before.before.before.before.before.before.before.before.engine.ensures _ _ _ t.before.before.before.before.before.before.before.before.before.before.before.before.before.before.before.before.before.before.before.before.begin.ensures t.enum_told.given.1 _ c.drive.ensures
+    lines-put _ t.engine.ensures _ _ _ t.begin-answer.ensures t.enum_told.given.1 _ c.drive.ensures
     c.put_pair-at.ensures.0 c.put_entries.ensures

@@ -1,7 +1,6 @@
 use Rattle.lists.proofs.Circles.{after-up, after-wrap}
 use mathlib.Core.Path.{sym}
 use native.Mathlib.Omega.{arith}
-use borrow.Author.Rules.{rules}
 use Rattle.ring.proofs.after_slot.Goals as goal
 
 pub returns-then-next-k : goal.returns-then-next-k

@@ -1,6 +1,5 @@
 use Rattle.ring.proofs.Laws.{slot-inside, append-in-made}
 use native.Mathlib.Omega.{arith}
-use borrow.Author.Rules.{rules}
 use Rattle.ring.proofs.append_in.Goals as goal
 
 pub overflow_mul-place : goal.overflow_mul-place

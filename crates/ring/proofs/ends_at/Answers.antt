@@ -1,6 +1,5 @@
 use Rattle.ring.specs.Ring.{ends_at}
 use mathlib.Core.Path.{refl}
-use borrow.Author.Rules.{rules}
 use Rattle.ring.proofs.ends_at.Goals as goal
 
 pub returns : goal.returns

@@ -1,6 +1,5 @@
 use Rattle.ring.specs.Ring.{slot_at}
 use mathlib.Core.Path.{refl}
-use borrow.Author.Rules.{rules}
 use Rattle.ring.proofs.head_of.Goals as goal
 
 pub returns : goal.returns

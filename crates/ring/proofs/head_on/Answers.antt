@@ -1,5 +1,4 @@
 use Rattle.ring.proofs.Laws.{head-made}
-use borrow.Author.Rules.{rules}
 use Rattle.ring.proofs.head_on.Goals as goal
 
 pub returns : goal.returns

@@ -1,6 +1,5 @@
 use Rattle.ring.proofs.Laws.{sound-head, sound-count, sound-tail}
 use native.Mathlib.Omega.{arith}
-use borrow.Author.Rules.{rules}
 use Rattle.ring.proofs.is_sound.Goals as goal
 
 pub returns-then-k-ends : goal.returns-then-k-ends

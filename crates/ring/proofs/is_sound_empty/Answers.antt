@@ -1,5 +1,4 @@
 use Rattle.ring.proofs.Laws.{sound-head, some-there, none-there, ends-meet}
-use borrow.Author.Rules.{rules}
 use Rattle.ring.proofs.is_sound_empty.Goals as goal
 
 pub returns-then-ends-ne0 : goal.returns-then-ends-ne0

@@ -1,7 +1,6 @@
 use Rattle.ring.specs.Ring.{store_ends}
 use Rattle.ring.proofs.Ends.{second-inside, third-inside}
 use mathlib.Core.Path.{refl}
-use borrow.Author.Rules.{rules}
 use Rattle.ring.proofs.store_ends.Goals as goal
 
 pub bounds-words-q-2 : goal.bounds-words-q-2

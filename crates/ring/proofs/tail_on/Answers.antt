@@ -1,5 +1,4 @@
 use Rattle.ring.proofs.Laws.{tail-made}
-use borrow.Author.Rules.{rules}
 use Rattle.ring.proofs.tail_on.Goals as goal
 
 pub returns : goal.returns

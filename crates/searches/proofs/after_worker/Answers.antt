@@ -1,7 +1,6 @@
 use Rattle.lists.proofs.Circles.{after-up, after-wrap}
 use mathlib.Core.Path.{sym}
 use native.Mathlib.Omega.{arith}
-use borrow.Author.Rules.{rules}
 use Rattle.searches.proofs.after_worker.Goals as goal
 
 pub returns-then-next-p : goal.returns-then-next-p

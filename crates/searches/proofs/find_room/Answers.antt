@@ -1,14 +1,9 @@
-use Rattle.searches.proofs.Laws.{ends_read, ends-test, onward, onward-all, look_none, look-unsound, look-stops, look-goes-on}
-use Rattle.lists.specs.Circles.{around}
+use Rattle.searches.proofs.Laws.{ends_read, ends-test, onward-all, look_none, look-unsound, look-stops, look-goes-on}
 use Rattle.lists.proofs.Circles.{after-lt}
-use Rattle.ring.specs.Ring.{sound, full, ends_at}
+use Rattle.ring.specs.Ring.{sound, full}
 use Rattle.choice.specs.Search as rules
-use Prim.Native.Nat.{ℕ, ◌+◌, ◌*◌, ◌<◌}
-use mathlib.Core.Path.{◌≡◌, ap}
-use mathlib.Core.Bool.{not}
-use mathlib.Core.List.{List}
+use mathlib.Core.Path.{ap}
 use native.Mathlib.Omega.{arith}
-use borrow.Author.Rules.{rules}
 use Rattle.searches.proofs.find_room.Goals as goal
 
 pub loop-owners-init : goal.loop-owners-init
@@ -24,12 +19,15 @@ pub ends_at-both-requires : goal.ends_at-both-requires
 ends_at-both-requires c = omega arith
 
 pub returns-then-not-is_sound : goal.returns-then-not-is_sound
-returns-then-not-is_sound c = record { result_value = look-unsound _ _ _ _ _ _
+returns-then-not-is_sound c = record {
+  result_value = look-unsound _ _ _ _ _ _
       c.loop-owners.invariant.1
       c.loop-owners.invariant.0
       (omega (arith, c.if-owners-eq0.false))
       (ends-test (sound _) _ _ _ _ _ _ c.is_sound.ensures c.ends_at-both.ensures
-      c.ring_number.ensures.0 c.if-not-is_sound.true-raw); reads = tt }
+      c.ring_number.ensures.0 c.if-not-is_sound.true-raw);
+  reads = tt;
+}
 
 pub overflow_sub-owners : goal.overflow_sub-owners
 overflow_sub-owners c = omega arith
@@ -55,11 +53,14 @@ loop-owners-preserved c = (
 )
 
 pub returns : goal.returns
-returns c = record { result_value = look-stops _ _ _ _ _ _
+returns c = record {
+  result_value = look-stops _ _ _ _ _ _
       c.loop-owners.invariant.1
       c.loop-owners.invariant.0
       (omega (arith, c.if-owners-eq0.false))
       (ends-test (sound _) _ _ _ _ _ _ c.is_sound.ensures c.ends_at-both.ensures
       c.ring_number.ensures.0 c.if-not-is_sound.false-raw)
       (ends-test (full _) _ _ _ _ _ _ c.is_full.ensures c.ends_at-both.ensures
-      c.ring_number.ensures.0 c.if-not-is_full.true-raw); reads = ends_read _ _ _ _ c.ends_at-both.ensures c.ring_number.ensures.0 }
+      c.ring_number.ensures.0 c.if-not-is_full.true-raw);
+  reads = ends_read _ _ _ _ c.ends_at-both.ensures c.ring_number.ensures.0;
+}

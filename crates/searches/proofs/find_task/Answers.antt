@@ -1,14 +1,9 @@
-use Rattle.searches.proofs.Laws.{ends_read, ends-test, sound_empty, not-empty, onward, onward-all, look_none, look-unsound, look-stops, look-goes-on}
-use Rattle.lists.specs.Circles.{around}
+use Rattle.searches.proofs.Laws.{ends_read, ends-test, sound_empty, not-empty, onward-all, look_none, look-unsound, look-stops, look-goes-on}
 use Rattle.lists.proofs.Circles.{after-lt}
-use Rattle.ring.specs.Ring.{sound, empty, ends_at}
+use Rattle.ring.specs.Ring.{sound}
 use Rattle.choice.specs.Search as rules
-use Prim.Native.Nat.{ℕ, ◌+◌, ◌*◌, ◌<◌}
-use mathlib.Core.Path.{◌≡◌, ap}
-use mathlib.Core.Bool.{not}
-use mathlib.Core.List.{List}
+use mathlib.Core.Path.{ap}
 use native.Mathlib.Omega.{arith}
-use borrow.Author.Rules.{rules}
 use Rattle.searches.proofs.find_task.Goals as goal
 
 pub loop-fillers-init : goal.loop-fillers-init
@@ -43,9 +38,12 @@ loop-fillers-preserved c =
     )
 
 pub returns-then-not-is_sound : goal.returns-then-not-is_sound
-returns-then-not-is_sound c = let here = c.loop-fillers in record { result_value = look-unsound _ _ _ _ _ _ here.invariant.1 here.invariant.0 (omega (arith, c.if-fillers-eq0.false))
-          (ends-test (sound _) _ _ _ _ _ _ c.is_sound.ensures
-          c.ends_at-both.ensures c.ring_number.ensures.0 c.if-not-is_sound.true-raw); reads = tt }
+returns-then-not-is_sound c = let here = c.loop-fillers in record {
+  result_value = look-unsound _ _ _ _ _ _ here.invariant.1 here.invariant.0 (omega (arith, c.if-fillers-eq0.false))
+      (ends-test (sound _) _ _ _ _ _ _ c.is_sound.ensures
+      c.ends_at-both.ensures c.ring_number.ensures.0 c.if-not-is_sound.true-raw);
+  reads = tt;
+}
 
 pub returns : goal.returns
 returns c =

@@ -1,15 +1,12 @@
 -- The whole scan equals the scan of the rings still left, from filler j.
-use Rattle.searches.proofs.Laws.{ends_read, ends-test, sound_empty, not-empty, onward, onward-all, look_none, look-unsound, look-stops, look-goes-on}
+use Rattle.searches.proofs.Laws.{onward}
 use Rattle.lists.specs.Circles.{around}
-use Rattle.lists.proofs.Circles.{after-lt}
 use Rattle.ring.specs.Ring.{sound, empty, ends_at}
 use Rattle.choice.specs.Search as rules
 use Prim.Native.Nat.{ℕ, ◌+◌, ◌*◌, ◌<◌}
-use mathlib.Core.Path.{◌≡◌, ap}
+use mathlib.Core.Path.{◌≡◌}
 use mathlib.Core.Bool.{not}
 use mathlib.Core.List.{List}
-use native.Mathlib.Omega.{arith}
-use borrow.Author.Rules.{rules}
 use Rattle.searches.proofs.find_task.Given as goal
 
 abbrev pub found : List ℕ → ℕ → ℕ → ℕ → List ℕ → rules.Found

@@ -2,7 +2,6 @@ use Rattle.lists.proofs.Places.{place-small}
 use Rattle.lists.proofs.Places.{place-lt}
 use mathlib.Core.Path.{refl}
 use native.Mathlib.Omega.{arith}
-use borrow.Author.Rules.{rules}
 use Rattle.searches.proofs.ring_number.Goals as goal
 
 pub overflow_mul-result : goal.overflow_mul-result

@@ -16,7 +16,7 @@ abbrev entry : After-sizes_of-sizes → Start
 entry c = (judged c).before.before.before.before.before.before.before.before.before.before
 
 fits : (c : After-sizes_of-sizes) → lent_fit (entry c).args.weights.now (entry c).args.starts.now (entry c).args.preds.now ≡ true
-fits c = not-false _ (judged c).before.before.before.before.before.if1.false
+fits c = not-false _ (judged c).if-not-fit.false-raw
 
 holds : (c : After-sizes_of-sizes) → Holds c.sizes_of-sizes.result.weights c.sizes_of-sizes.result.starts c.sizes_of-sizes.result.preds
     (judged c).judge.new.weights (judged c).judge.new.starts (judged c).judge.new.preds
@@ -48,5 +48,5 @@ copy-requires-3 c = (holds (goal.at.copy-requires-3 c).After-sizes_of-sizes).pre
 pub returns : goal.returns
 returns c =
     let a = (entry (goal.at.returns c).After-sizes_of-sizes).args in
-    read-laid a.text.now a.weights.now a.starts.now a.preds.now (fits (goal.at.returns c).After-sizes_of-sizes) (judged (goal.at.returns c).After-sizes_of-sizes).before.before.before.before.if2.false (judged (goal.at.returns c).After-sizes_of-sizes).judge.ensures
+    read-laid a.text.now a.weights.now a.starts.now a.preds.now (fits (goal.at.returns c).After-sizes_of-sizes) (judged (goal.at.returns c).After-sizes_of-sizes).if-text-gt65536.false (judged (goal.at.returns c).After-sizes_of-sizes).judge.ensures
     c.sizes_of-sizes.ensures _ _ _ c.copy.ensures c.copy-2.ensures c.copy-3.ensures

@@ -2,7 +2,6 @@
 use Prim.Native.Nat.{◌<◌}
 use native.Mathlib.Omega.{arith}
 use Rattle.strip.proofs.Queue.{lower-at, not-queued, room_for, lower_last, lower-more}
-use borrow.Author.Rules.{rules}
 use Rattle.strip.proofs.lower.Goals as goal
 use Rattle.strip.proofs.lower.Goals.{Start}
 

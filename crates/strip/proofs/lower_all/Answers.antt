@@ -1,8 +1,4 @@
-use borrow.Author.Rules.{rules}
 use native.Mathlib.Omega.{arith}
-use Prim.Native.Nat.{◌≤◌, ◌-◌}
-use lib.ListN.{length, take}
-use Rattle.strip.specs.Queue.{Lowered}
 use Rattle.strip.proofs.Queue.{lowered_none, lower-next, lowered-next, lowered-all}
 use Rattle.strip.proofs.lower_all.Goals as goal
 

@@ -1,10 +1,7 @@
 -- The loop keeps: the first i words are taken from the counts. The next word's task still has a successor left.
-use borrow.Author.Rules.{rules}
-use native.Mathlib.Omega.{arith}
 use Prim.Native.Nat.{◌≤◌, ◌-◌}
 use lib.ListN.{length, take}
 use Rattle.strip.specs.Queue.{Lowered}
-use Rattle.strip.proofs.Queue.{lowered_none, lower-next, lowered-next, lowered-all}
 use Rattle.strip.proofs.lower_all.Given as goal
 
 abbrev pub invariant-loop-i : goal.invariant-loop-i

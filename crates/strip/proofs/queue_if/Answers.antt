@@ -4,7 +4,6 @@ use mathlib.Core.Path.{refl}
 use native.Mathlib.Omega.{arith}
 use lib.Seq.{drop-set-lt}
 use Rattle.strip.proofs.Queue.{queue-one, queue-none}
-use borrow.Author.Rules.{rules}
 use Rattle.strip.proofs.queue_if.Goals as goal
 
 pub returns-then-left-t-eq0 : goal.returns-then-left-t-eq0

@@ -1,6 +1,4 @@
-use borrow.Author.Rules.{rules}
 use native.Mathlib.Omega.{arith}
-use Rattle.strip.specs.Queue.{Falling}
 use Rattle.strip.proofs.Queue.{falling-none, falling-more, falling-done}
 use Rattle.strip.proofs.queue_sinks.Goals as goal
 

@@ -1,8 +1,5 @@
 -- The loop keeps: of the tasks from t on, those without successors are queued, falling.
-use borrow.Author.Rules.{rules}
-use native.Mathlib.Omega.{arith}
 use Rattle.strip.specs.Queue.{Falling}
-use Rattle.strip.proofs.Queue.{falling-none, falling-more, falling-done}
 use Rattle.strip.proofs.queue_sinks.Given as goal
 
 abbrev pub invariant-loop-t : goal.invariant-loop-t

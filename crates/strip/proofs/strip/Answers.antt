@@ -1,10 +1,9 @@
 use native.Mathlib.Omega.{arith}
-use Prim.Native.Nat.{◌-◌, ◌≤◌}
-use mathlib.Core.Path.{◌≡◌, refl, ◌∙◌}
-use lib.ListN.{get_or, drop}
+use mathlib.Core.Path.{refl, ◌∙◌}
+use lib.ListN.{get_or}
 use Rattle.graph.specs.Graph.{Graph, graph_of, part}
 use Rattle.strip.proofs.Queue.{drop-later}
-use Rattle.strip.proofs.Turns.{Stripping, strip-starts, Ranges, next-ranges, next-counts, strip-next, strip-ends}
+use Rattle.strip.proofs.Turns.{strip-starts, Ranges, next-ranges, next-counts, strip-next, strip-ends}
 use Rattle.strip.proofs.strip.Goals as goal
 use Rattle.strip.proofs.strip.Goals.{In-loop-head, Start}
 

@@ -1,11 +1,9 @@
 -- The loop keeps `Stripping`, and the words behind the queue. Where the queue is used up, no task can prolong it.
-use native.Mathlib.Omega.{arith}
 use Prim.Native.Nat.{◌-◌, ◌≤◌}
-use mathlib.Core.Path.{◌≡◌, refl, ◌∙◌}
-use lib.ListN.{get_or, drop}
-use Rattle.graph.specs.Graph.{Graph, graph_of, part}
-use Rattle.strip.proofs.Queue.{drop-later}
-use Rattle.strip.proofs.Turns.{Stripping, strip-starts, Ranges, next-ranges, next-counts, strip-next, strip-ends}
+use mathlib.Core.Path.{◌≡◌}
+use lib.ListN.{drop}
+use Rattle.graph.specs.Graph.{graph_of}
+use Rattle.strip.proofs.Turns.{Stripping}
 use Rattle.strip.proofs.strip.Given as goal
 
 abbrev pub invariant-loop-head : goal.invariant-loop-head

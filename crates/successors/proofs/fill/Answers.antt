@@ -3,7 +3,6 @@ use Rattle.successors.proofs.Edges.{sums-fit, summed-begun, sound-starts, summed
 use Rattle.lists.proofs.Prefixes.{zeros}
 use Rattle.graph.proofs.Parts.{preds-small}
 use native.Mathlib.Omega.{arith}
-use borrow.Author.Rules.{rules}
 use Rattle.successors.proofs.fill.Goals as goal
 
 pub count_words-requires : goal.count_words-requires

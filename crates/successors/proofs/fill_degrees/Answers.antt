@@ -1,6 +1,5 @@
-use Prim.Native.Nat.{◌-◌}
 use native.Mathlib.Omega.{arith}
-use Rattle.successors.proofs.Prefixes.{Spacing, spacing-none, spacing-more, spacing-whole}
+use Rattle.successors.proofs.Prefixes.{spacing-none, spacing-more, spacing-whole}
 use Rattle.successors.proofs.fill_degrees.Goals as goal
 
 pub loop-t-init : goal.loop-t-init

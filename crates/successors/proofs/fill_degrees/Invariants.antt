@@ -1,7 +1,6 @@
 -- Each turn lays down one more degree; the starts rise, so no difference wraps.
 use Prim.Native.Nat.{◌-◌}
-use native.Mathlib.Omega.{arith}
-use Rattle.successors.proofs.Prefixes.{Spacing, spacing-none, spacing-more, spacing-whole}
+use Rattle.successors.proofs.Prefixes.{Spacing}
 use Rattle.successors.proofs.fill_degrees.Given as goal
 
 abbrev pub invariant-loop-t : goal.invariant-loop-t

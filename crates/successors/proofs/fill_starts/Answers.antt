@@ -1,7 +1,6 @@
 use lib.ListN.{length-set}
-use Prim.Native.Nat.{◌-◌}
 use native.Mathlib.Omega.{arith}
-use Rattle.successors.proofs.Prefixes.{Summing, summing-none, sum_fits, summing-more, summing-whole}
+use Rattle.successors.proofs.Prefixes.{summing-none, sum_fits, summing-more, summing-whole}
 use Rattle.successors.proofs.fill_starts.Goals as goal
 
 pub loop-u-init : goal.loop-u-init

@@ -1,8 +1,6 @@
 -- The running sum is the sum of the counts passed, which stand in the counts no more but in the places and the starts.
-use lib.ListN.{length-set}
 use Prim.Native.Nat.{◌-◌}
-use native.Mathlib.Omega.{arith}
-use Rattle.successors.proofs.Prefixes.{Summing, summing-none, sum_fits, summing-more, summing-whole}
+use Rattle.successors.proofs.Prefixes.{Summing}
 use Rattle.successors.proofs.fill_starts.Given as goal
 
 abbrev pub invariant-loop-u : goal.invariant-loop-u

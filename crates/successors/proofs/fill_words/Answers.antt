@@ -1,7 +1,7 @@
-use Prim.Native.Nat.{◌+◌, ◌-◌}
+use Prim.Native.Nat.{◌+◌}
 use native.Mathlib.Omega.{arith}
-use Rattle.graph.specs.Graph.{part, graph_of}
-use Rattle.successors.proofs.Edges.{Laying, laying-none, laying-room, laying-more, laying-whole}
+use Rattle.graph.specs.Graph.{part}
+use Rattle.successors.proofs.Edges.{laying-none, laying-room, laying-more, laying-whole}
 use Rattle.successors.proofs.fill_words.Goals as goal
 
 pub loop-t-init : goal.loop-t-init

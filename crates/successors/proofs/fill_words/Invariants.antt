@@ -1,8 +1,7 @@
 -- After the tasks below t each block begins with its task's successors below t.
-use Prim.Native.Nat.{◌+◌, ◌-◌}
-use native.Mathlib.Omega.{arith}
-use Rattle.graph.specs.Graph.{part, graph_of}
-use Rattle.successors.proofs.Edges.{Laying, laying-none, laying-room, laying-more, laying-whole}
+use Prim.Native.Nat.{◌-◌}
+use Rattle.graph.specs.Graph.{graph_of}
+use Rattle.successors.proofs.Edges.{Laying}
 use Rattle.successors.proofs.fill_words.Given as goal
 
 abbrev pub invariant-loop-t : goal.invariant-loop-t

@@ -1,6 +1,5 @@
 -- One store in each list, within them by what is asked.
 use mathlib.Core.Path.{refl}
-use borrow.Author.Rules.{rules}
 use Rattle.successors.proofs.place.Goals as goal
 
 pub returns : goal.returns

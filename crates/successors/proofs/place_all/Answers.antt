@@ -1,7 +1,5 @@
-use Prim.Native.Nat.{◌-◌}
 use native.Mathlib.Omega.{arith}
-use lib.ListN.{length}
-use Rattle.successors.proofs.Places.{Placing, placing-none, placing-here, placing-more, placing-whole}
+use Rattle.successors.proofs.Places.{placing-none, placing-here, placing-more, placing-whole}
 use Rattle.successors.proofs.place_all.Goals as goal
 
 pub loop-i-init : goal.loop-i-init

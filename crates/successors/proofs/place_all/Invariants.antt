@@ -1,8 +1,7 @@
 -- The words left have room, and placing them from here makes what placing all from the entry makes.
 use Prim.Native.Nat.{◌-◌}
-use native.Mathlib.Omega.{arith}
 use lib.ListN.{length}
-use Rattle.successors.proofs.Places.{Placing, placing-none, placing-here, placing-more, placing-whole}
+use Rattle.successors.proofs.Places.{Placing}
 use Rattle.successors.proofs.place_all.Given as goal
 
 abbrev pub invariant-loop-i : goal.invariant-loop-i

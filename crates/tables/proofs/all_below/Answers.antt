@@ -1,8 +1,5 @@
 use Rattle.tables.proofs.Laws.{word-beyond, words-below}
 use borrow.Author.Count.{below_more}
-use lib.ListN.{length, get_or}
-use Prim.Native.Nat.{ℕ, ◌≤◌, ◌<◌, ◌-◌}
-use borrow.Author.Rules.{rules}
 use native.Mathlib.Omega.{arith}
 use Rattle.tables.proofs.all_below.Goals as goal
 

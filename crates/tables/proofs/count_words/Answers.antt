@@ -1,8 +1,7 @@
-use Rattle.tables.proofs.Laws.{word_below, Counted, count_none, count_small, count_turn, count-whole}
+use Rattle.tables.proofs.Laws.{word_below, count_none, count_small, count_turn, count-whole}
 use lib.ListN.{length, get_or, length-set}
-use mathlib.Core.Path.{◌≡◌, refl}
-use Prim.Native.Nat.{◌≤◌, ◌<◌, ◌-◌}
-use borrow.Author.Rules.{rules}
+use mathlib.Core.Path.{refl}
+use Prim.Native.Nat.{◌<◌}
 use native.Mathlib.Omega.{arith}
 use Rattle.tables.proofs.count_words.Goals as goal
 use Rattle.tables.proofs.count_words.Goals.{In-loop-i}

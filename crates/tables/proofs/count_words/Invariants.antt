@@ -1,10 +1,8 @@
 -- After i words each count is how often its number stands among them; so it is at most i, and adding 1 fits.
-use Rattle.tables.proofs.Laws.{word_below, Counted, count_none, count_small, count_turn, count-whole}
-use lib.ListN.{length, get_or, length-set}
-use mathlib.Core.Path.{◌≡◌, refl}
-use Prim.Native.Nat.{◌≤◌, ◌<◌, ◌-◌}
-use borrow.Author.Rules.{rules}
-use native.Mathlib.Omega.{arith}
+use Rattle.tables.proofs.Laws.{Counted}
+use lib.ListN.{length}
+use mathlib.Core.Path.{◌≡◌}
+use Prim.Native.Nat.{◌≤◌, ◌-◌}
 use Rattle.tables.proofs.count_words.Given as goal
 
 abbrev pub invariant-loop-i : goal.invariant-loop-i

@@ -1,7 +1,6 @@
 -- Both comparisons together decide it.
 use Rattle.tables.proofs.Laws.{ends-made}
 use native.Mathlib.Omega.{arith}
-use borrow.Author.Rules.{rules}
 use Rattle.tables.proofs.ends_fit.Goals as goal
 
 pub overflow_cast-result : goal.overflow_cast-result

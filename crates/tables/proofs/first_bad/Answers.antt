@@ -1,6 +1,5 @@
 -- Only where the look at all of them says so is no part bad; else they are searched.
 use Rattle.tables.proofs.Laws.{flat_good}
-use borrow.Author.Rules.{rules}
 use Rattle.tables.proofs.first_bad.Goals as goal
 
 pub returns-then-below-rise : goal.returns-then-below-rise

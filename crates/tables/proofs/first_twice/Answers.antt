@@ -1,7 +1,6 @@
 -- Every mark starts as 0.
 use mathlib.Core.Path.{refl}
 use Rattle.lists.proofs.Prefixes.{zeros}
-use borrow.Author.Rules.{rules}
 use Rattle.tables.proofs.first_twice.Goals as goal
 
 pub scan_twice-requires : goal.scan_twice-requires

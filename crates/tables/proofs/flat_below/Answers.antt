@@ -1,6 +1,4 @@
-use Rattle.tables.proofs.Laws.{BelowTo, below_none, below_on, below-whole}
-use lib.ListN.{length}
-use Prim.Native.Nat.{◌≤◌, ◌-◌}
+use Rattle.tables.proofs.Laws.{below_none, below_on, below-whole}
 use native.Mathlib.Omega.{arith}
 use Rattle.tables.proofs.flat_below.Goals as goal
 

@@ -1,8 +1,7 @@
 -- Of the words before i, whether all are below the bound.
-use Rattle.tables.proofs.Laws.{BelowTo, below_none, below_on, below-whole}
+use Rattle.tables.proofs.Laws.{BelowTo}
 use lib.ListN.{length}
 use Prim.Native.Nat.{◌≤◌, ◌-◌}
-use native.Mathlib.Omega.{arith}
 use Rattle.tables.proofs.flat_below.Given as goal
 
 abbrev pub invariant-loop-i : goal.invariant-loop-i

@@ -1,7 +1,7 @@
-use Rattle.tables.proofs.Laws.{word_below, Counted, count_none, count_small, count_turn, count-whole, Met, met-none, met-low, met-twin, met-turn, met-whole}
-use lib.ListN.{length, get_or, length-set}
-use mathlib.Core.Path.{◌≡◌, refl}
-use Prim.Native.Nat.{◌≤◌, ◌<◌, ◌-◌}
+use Rattle.tables.proofs.Laws.{word_below, count_none, count_small, count_turn, count-whole, met-none, met-low, met-twin, met-turn, met-whole}
+use lib.ListN.{get_or, length-set}
+use mathlib.Core.Path.{refl}
+use Prim.Native.Nat.{◌<◌}
 use native.Mathlib.Omega.{arith}
 use Rattle.lists.proofs.Apart.{unequal}
 use Rattle.tables.proofs.has_twice.Goals as goal

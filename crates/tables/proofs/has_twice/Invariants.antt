@@ -1,10 +1,8 @@
 -- After i words none was met twice, the marks that carry the stamp are those of the words met, and these are counted.
-use Rattle.tables.proofs.Laws.{word_below, Counted, count_none, count_small, count_turn, count-whole, Met, met-none, met-low, met-twin, met-turn, met-whole}
-use lib.ListN.{length, get_or, length-set}
-use mathlib.Core.Path.{◌≡◌, refl}
-use Prim.Native.Nat.{◌≤◌, ◌<◌, ◌-◌}
-use native.Mathlib.Omega.{arith}
-use Rattle.lists.proofs.Apart.{unequal}
+use Rattle.tables.proofs.Laws.{Counted, Met}
+use lib.ListN.{length}
+use mathlib.Core.Path.{◌≡◌}
+use Prim.Native.Nat.{◌≤◌, ◌-◌}
 use Rattle.tables.proofs.has_twice.Given as goal
 
 abbrev pub invariant-loop-i : goal.invariant-loop-i

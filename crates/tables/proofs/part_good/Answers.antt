@@ -2,7 +2,6 @@
 use Rattle.tables.proofs.Laws.{part_falls, part-outside, part-words}
 use native.Mathlib.Omega.{arith}
 use Prim.Native.Nat.{◌+◌}
-use borrow.Author.Rules.{rules}
 use Rattle.tables.proofs.part_good.Goals as goal
 
 pub overflow_cast-a : goal.overflow_cast-a

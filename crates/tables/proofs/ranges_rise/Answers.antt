@@ -1,5 +1,4 @@
-use Rattle.tables.proofs.Laws.{RisesTo, rises-none, rises-on}
-use Prim.Native.Nat.{◌≤◌, ◌-◌}
+use Rattle.tables.proofs.Laws.{rises-none, rises-on}
 use native.Mathlib.Omega.{arith}
 use Rattle.tables.proofs.ranges_rise.Goals as goal
 

@@ -1,7 +1,6 @@
 -- Of the ranges before t, whether all rise.
-use Rattle.tables.proofs.Laws.{RisesTo, rises-none, rises-on}
+use Rattle.tables.proofs.Laws.{RisesTo}
 use Prim.Native.Nat.{◌≤◌, ◌-◌}
-use native.Mathlib.Omega.{arith}
 use Rattle.tables.proofs.ranges_rise.Given as goal
 
 abbrev pub invariant-loop-t : goal.invariant-loop-t

@@ -1,10 +1,7 @@
-use Rattle.tables.proofs.Laws.{part_small, part-short, twice_found, once-found, twice-none, Tallied, tallied-none, tallied-more, tallied-all}
-use Rattle.graph.specs.Graph.{graph_of, part}
-use Rattle.graph.specs.Conditions.{Good, Twice}
+use Rattle.tables.proofs.Laws.{part_small, part-short, twice_found, once-found, twice-none, tallied-none, tallied-more, tallied-all}
+use Rattle.graph.specs.Graph.{part}
+use Rattle.graph.specs.Conditions.{Good}
 use borrow.Author.Count.{below_more}
-use lib.ListN.{length, get_or}
-use mathlib.Core.Path.{◌≡◌}
-use Prim.Native.Nat.{ℕ, ◌≤◌, ◌<◌, ◌-◌}
 use native.Mathlib.Omega.{arith}
 use Rattle.tables.proofs.scan_twice.Goals as goal
 use Rattle.tables.proofs.scan_twice.Goals.{In-loop-t}

@@ -1,12 +1,10 @@
 -- The parts before t have no word twice, and their words are counted. Task t stamps t + 1, above every mark that an earlier task left.
-use Rattle.tables.proofs.Laws.{part_small, part-short, twice_found, once-found, twice-none, Tallied, tallied-none, tallied-more, tallied-all}
-use Rattle.graph.specs.Graph.{graph_of, part}
-use Rattle.graph.specs.Conditions.{Good, Twice}
-use borrow.Author.Count.{below_more}
+use Rattle.tables.proofs.Laws.{Tallied}
+use Rattle.graph.specs.Graph.{graph_of}
+use Rattle.graph.specs.Conditions.{Twice}
 use lib.ListN.{length, get_or}
 use mathlib.Core.Path.{◌≡◌}
 use Prim.Native.Nat.{ℕ, ◌≤◌, ◌<◌, ◌-◌}
-use native.Mathlib.Omega.{arith}
 use Rattle.tables.proofs.scan_twice.Given as goal
 
 abbrev pub invariant-loop-t : goal.invariant-loop-t

@@ -1,7 +1,5 @@
 use Rattle.tables.proofs.Laws.{bad-found, good-found, bad-none}
-use Rattle.graph.specs.Conditions.{Good}
 use borrow.Author.Count.{below_more}
-use Prim.Native.Nat.{ℕ, ◌≤◌, ◌<◌, ◌-◌}
 use native.Mathlib.Omega.{arith}
 use Rattle.tables.proofs.search_bad.Goals as goal
 

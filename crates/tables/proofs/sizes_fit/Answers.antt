@@ -1,6 +1,5 @@
 -- The limits that are compared are the capped ones.
 use Rattle.tables.proofs.Laws.{sizes-made}
-use borrow.Author.Rules.{rules}
 use Rattle.tables.proofs.sizes_fit.Goals as goal
 
 pub returns : goal.returns

@@ -1,5 +1,4 @@
 use Rattle.tables.proofs.Laws.{light-made}
-use borrow.Author.Rules.{rules}
 use Rattle.tables.proofs.weights_fit.Goals as goal
 
 pub returns : goal.returns

@@ -8,7 +8,7 @@ use Rattle.task.proofs.next_phase.Goals.{Joined-phase, in-0, in-1, in-2, in_defa
 
 row_is : (m : Joined-phase) → m.match-phase.row ≡ row_of m.args.phase
 row_is m = elim m.match-phase.branch [
-  in-0 w ↦ row-of _ _ 0 (omega arith) (omega arith) w.row-is
+  | in-0 w ↦ row-of _ _ 0 (omega arith) (omega arith) w.row-is
   | in-1 w ↦ row-of _ _ 1 (omega arith) (omega arith) w.row-is
   | in-2 w ↦ row-of _ _ 2 (omega arith) (omega arith) w.row-is
   | in_default w ↦ no_row _ _ (omega arith) w.row-is

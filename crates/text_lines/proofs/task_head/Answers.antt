@@ -46,4 +46,4 @@ returns-then-count-t c = count-wrong (time (goal.at.returns-then-count-t c).Else
 pub returns : goal.returns
 returns c =
     count-right _ (number (number_passed (time-passed (goal.at.returns c).Else-count-t))) c.next_number-time.ensures
-    (time-passed (goal.at.returns c).Else-count-t).if2.false c.next_number-count.ensures c.if-count-t.false
+    (time-passed (goal.at.returns c).Else-count-t).if-time-t.false c.next_number-count.ensures c.if-count-t.false

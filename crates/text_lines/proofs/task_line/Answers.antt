@@ -51,16 +51,16 @@ header : (c : Else-not-head)
 header c = head-is c.task_head-head.ensures (not-false _ c.if-not-head.false)
 
 filling : (c : Else-not-span)
-    → Filling (start (head_passed c)).args.text.now (head_passed c).before.before.task-head.result.next (start (head_passed c)).args.e
+    → Filling (start (head_passed c)).args.text.now (head_passed c).task_head-head.result.next (start (head_passed c)).args.e
     (start (head_passed c)).args.preds.now c.fill_numbers-span.result.next
-    ((start (head_passed c)).args.e + (head_passed c).before.before.task-head.result.count)
+    ((start (head_passed c)).args.e + (head_passed c).task_head-head.result.count)
     c.fill_numbers-span.new.words
 filling c = filled_is c.fill_numbers-span.ensures (not-false _ c.if-not-span.false)
 
 closed : (c : Else-not-end)
-    → (row_at (start (head_passed (preds-passed c))).args.text.now (preds-passed c).before.before.before.before.fill-numbers.result.next
+    → (row_at (start (head_passed (preds-passed c))).args.text.now (preds-passed c).fill_numbers-span.result.next
     ≡ some [])
-    × NextLine (start (head_passed (preds-passed c))).args.text.now (preds-passed c).before.before.before.before.fill-numbers.result.next
+    × NextLine (start (head_passed (preds-passed c))).args.text.now (preds-passed c).fill_numbers-span.result.next
     c.close-end.result.next
 closed c = closes-is c.close-end.ensures (not-false _ c.if-not-end.false)
 

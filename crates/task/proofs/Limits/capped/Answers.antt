@@ -1,6 +1,5 @@
 -- Each limit is the smaller of two.
 use Rattle.task.specs.Types.{capped}
-use borrow.Author.Rules.{rules}
 use Rattle.task.proofs.Limits.capped.Goals as goal
 
 pub returns : goal.returns
