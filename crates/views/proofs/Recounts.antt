@@ -1,7 +1,7 @@
 -- What the lent words say of a run's events so far, in every family: the accepted word, the entries word and the record recount them, and the item that
 -- a worker has in hand is the one its last accepted Fetch answered. A family shows what an accepted begin leaves (`Blank`) and an accepted step
 -- (`Stepped`).
-use Prim.Native.Nat.{ℕ, zero, suc, ◌+◌, ◌*◌, ◌≤◌, ◌<◌}
+use Prim.Native.Nat.{ℕ, zero, suc, ◌*◌, ◌≤◌, ◌<◌}
 use mathlib.Core.Path.{◌≡◌, refl, sym, ap, ◌∙◌}
 use mathlib.Core.Bool.{Bool, true, false, cond, ◌&&◌}
 use mathlib.Core.List.{List, [], ◌∷◌, ◌++◌, append-nil}

@@ -1,6 +1,5 @@
 use Rattle.admission.proofs.Phase.{row-refused, row-admitted}
 use mathlib.Core.Path.{refl}
-use borrow.Author.Rules.{rules}
 use Rattle.admission.proofs.admit.Goals as goal
 
 pub returns-in-Refused : goal.returns-in-Refused

@@ -1,5 +1,4 @@
 use mathlib.Core.Path.{refl}
-use borrow.Author.Rules.{rules}
 use Rattle.admission.proofs.answer_of.Goals as goal
 
 pub returns-in-Refused : goal.returns-in-Refused

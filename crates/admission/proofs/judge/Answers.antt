@@ -1,5 +1,4 @@
 use Rattle.admission.proofs.Laws.{within-engine, judged-beyond, judged-lengths, judged-worker, judged-fit, judged-knows, refused-known}
-use borrow.Author.Rules.{rules}
 use Rattle.lists.proofs.Told.{with_both}
 use Rattle.admission.proofs.judge.Goals as goal
 
@@ -19,16 +18,19 @@ pub returns-then-p-worker : goal.returns-then-p-worker
 returns-then-p-worker c = with_both (λ a b. record { judges = a; knows = b }) (refused-known _ _ _ _ _ _ _ (judged-worker _ _ _ _ _ _ c.numbers_fit.ensures c.sizes_fit.ensures c.if-not-numbers_fit-sizes_fit.false-raw _ c.lengths_fit.ensures c.if-not-lengths_fit.false-raw _ c.if-p-worker.true))
 
 pub returns : goal.returns
-returns c = record { judges = judged-fit _ _ _ _ _ _
+returns c = record {
+  judges = judged-fit _ _ _ _ _ _
       c.numbers_fit.ensures
       c.sizes_fit.ensures
       c.if-not-numbers_fit-sizes_fit.false-raw _
       c.lengths_fit.ensures
       c.if-not-lengths_fit.false-raw _
-      c.if-p-worker.false; knows = judged-knows _ _ _ _ _ _
+      c.if-p-worker.false;
+  knows = judged-knows _ _ _ _ _ _
       c.numbers_fit.ensures
       c.sizes_fit.ensures
       c.if-not-numbers_fit-sizes_fit.false-raw _
       c.lengths_fit.ensures
       c.if-not-lengths_fit.false-raw _
-      c.if-p-worker.false }
+      c.if-p-worker.false;
+}

@@ -1,5 +1,4 @@
 use Rattle.admission.proofs.Laws.{lengths-are}
-use borrow.Author.Rules.{rules}
 use Rattle.admission.proofs.lengths_fit.Goals as goal
 
 pub returns : goal.returns

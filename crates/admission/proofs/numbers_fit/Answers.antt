@@ -1,5 +1,4 @@
 use Rattle.admission.proofs.Laws.{numbers-are}
-use borrow.Author.Rules.{rules}
 use Rattle.admission.proofs.numbers_fit.Goals as goal
 
 pub returns : goal.returns

@@ -1,6 +1,5 @@
 use Rattle.admission.proofs.Laws.{few-squares, few_words, few-places, others-are}
 use native.Mathlib.Omega.{arith}
-use borrow.Author.Rules.{rules}
 use Rattle.admission.proofs.others_fit.Goals as goal
 
 pub overflow_mul-squares : goal.overflow_mul-squares

@@ -1,5 +1,4 @@
 use Rattle.admission.proofs.Phase.{phase-damaged, phase-wrong, phase-suits}
-use borrow.Author.Rules.{rules}
 use Rattle.admission.proofs.phase_after.Goals as goal
 
 pub returns-then-phase-gt2 : goal.returns-then-phase-gt2

@@ -17,7 +17,7 @@ pub lay_rings-requires : goal.lay_rings-requires
 lay_rings-requires c =
     layable _ _ _ _ _ _ _ _ _ _ _ _ _ _ _ _ _
     c.judge-answer.ensures
-    c.enum_told-1.given.1
+    c.in-Accepted.is
     _ _ _ _
     c.fill.ensures.1.1
     refl refl refl
@@ -26,7 +26,7 @@ pub returns : goal.returns
 returns c =
     begin-laid _ _ _ _ _ _ _ _ _ _ _ _ _ _ _ _ _
     c.judge-answer.ensures
-    c.enum_told-1.given.1
+    c.in-Accepted.is
     _ _ _ _ _ _ _ _ _
     c.fill.ensures.0
     c.fill.ensures.1.0

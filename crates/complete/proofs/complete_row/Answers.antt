@@ -1,7 +1,6 @@
 use Rattle.complete.proofs.Laws.{own-asks, plan-asks, counter-asks, record-asks, buffer-asks, sink-writable, inner-writable, row-refused, hand-and-write, rule-refuses, sink-made, inner_made}
 use native.Mathlib.Omega.{arith}
 use Rattle.admission.proofs.Rows.{admission-measured}
-use borrow.Author.Rules.{rules}
 use Rattle.complete.proofs.complete_row.Goals as goal
 
 pub returns-in-Refused : goal.returns-in-Refused
@@ -11,19 +10,19 @@ pub ring_number-own-requires : goal.ring_number-own-requires
 ring_number-own-requires c = omega (arith, own-asks _ _ _ _ (admission-measured _ _ _ _ _ _ c.args.judged c.requires.0 _ c.admit-admitted.ensures _ c.in-To.is))
 
 pub plan_complete-plan-requires : goal.plan_complete-plan-requires
-plan_complete-plan-requires c = plan-asks _ _ _ _ (admission-measured _ _ _ _ _ _ c.args.judged c.requires.0 _ c.admit-admitted.ensures _ c.admitted-in-To-1.given.1) _ c.requires.1.0 _ _ _ _ c.ring_number-own.ensures.1 c.requires.1.1.0 c.requires.1.1.1.0 c.requires.1.1.1.1.1.1
+plan_complete-plan-requires c = plan-asks _ _ _ _ (admission-measured _ _ _ _ _ _ c.args.judged c.requires.0 _ c.admit-admitted.ensures _ c.in-To.is) _ c.requires.1.0 _ _ _ _ c.ring_number-own.ensures.1 c.requires.1.1.0 c.requires.1.1.1.0 c.requires.1.1.1.1.1.1
 
 pub write_sink-requires : goal.write_sink-requires
-write_sink-requires c = (counter-asks _ _ _ _ (admission-measured _ _ _ _ _ _ c.args.judged c.requires.0 _ c.admit-admitted.ensures _ c.admitted-in-To-1.given.1) _ _ _ _ _ _ _ _ (sink-writable _ _ _ _ _ _ _ _ c.plan_complete-plan.ensures _ _ _ c.in-Sink.is) c.ring_number-own.ensures.1 c.requires.1.1.1.0, record-asks _ _ _ _ (admission-measured _ _ _ _ _ _ c.args.judged c.requires.0 _ c.admit-admitted.ensures _ c.admitted-in-To-1.given.1) _ _ _ _ _ _ _ _ (sink-writable _ _ _ _ _ _ _ _ c.plan_complete-plan.ensures _ _ _ c.in-Sink.is) c.requires.1.0 _ _ c.requires.1.1.1.1.1.0 c.requires.1.1.1.1.1.1)
+write_sink-requires c = (counter-asks _ _ _ _ (admission-measured _ _ _ _ _ _ c.args.judged c.requires.0 _ c.admit-admitted.ensures _ c.in-To.is) _ _ _ _ _ _ _ _ (sink-writable _ _ _ _ _ _ _ _ c.plan_complete-plan.ensures _ _ _ c.in-Sink.is) c.ring_number-own.ensures.1 c.requires.1.1.1.0, record-asks _ _ _ _ (admission-measured _ _ _ _ _ _ c.args.judged c.requires.0 _ c.admit-admitted.ensures _ c.in-To.is) _ _ _ _ _ _ _ _ (sink-writable _ _ _ _ _ _ _ _ c.plan_complete-plan.ensures _ _ _ c.in-Sink.is) c.requires.1.0 _ _ c.requires.1.1.1.1.1.0 c.requires.1.1.1.1.1.1)
 
 pub write_inner-requires : goal.write_inner-requires
-write_inner-requires c = (counter-asks _ _ _ _ (admission-measured _ _ _ _ _ _ c.args.judged c.requires.0 _ c.admit-admitted.ensures _ c.admitted-in-To-1.given.1) _ _ _ _ _ _ _ _ (inner-writable _ _ _ _ _ _ _ _ c.plan_complete-plan.ensures _ _ _ c.in-Inner.is).0 c.ring_number-own.ensures.1 c.requires.1.1.1.0, (record-asks _ _ _ _ (admission-measured _ _ _ _ _ _ c.args.judged c.requires.0 _ c.admit-admitted.ensures _ c.admitted-in-To-1.given.1) _ _ _ _ _ _ _ _ (inner-writable _ _ _ _ _ _ _ _ c.plan_complete-plan.ensures _ _ _ c.in-Inner.is).0 c.requires.1.0 _ _ c.requires.1.1.1.1.1.0 c.requires.1.1.1.1.1.1, buffer-asks _ _ _ _ (admission-measured _ _ _ _ _ _ c.args.judged c.requires.0 _ c.admit-admitted.ensures _ c.admitted-in-To-1.given.1) _ c.requires.1.0 _ _ c.requires.1.1.1.1.0 (inner-writable _ _ _ _ _ _ _ _ c.plan_complete-plan.ensures _ _ _ c.in-Inner.is).1))
+write_inner-requires c = (counter-asks _ _ _ _ (admission-measured _ _ _ _ _ _ c.args.judged c.requires.0 _ c.admit-admitted.ensures _ c.in-To.is) _ _ _ _ _ _ _ _ (inner-writable _ _ _ _ _ _ _ _ c.plan_complete-plan.ensures _ _ _ c.in-Inner.is).0 c.ring_number-own.ensures.1 c.requires.1.1.1.0, (record-asks _ _ _ _ (admission-measured _ _ _ _ _ _ c.args.judged c.requires.0 _ c.admit-admitted.ensures _ c.in-To.is) _ _ _ _ _ _ _ _ (inner-writable _ _ _ _ _ _ _ _ c.plan_complete-plan.ensures _ _ _ c.in-Inner.is).0 c.requires.1.0 _ _ c.requires.1.1.1.1.1.0 c.requires.1.1.1.1.1.1, buffer-asks _ _ _ _ (admission-measured _ _ _ _ _ _ c.args.judged c.requires.0 _ c.admit-admitted.ensures _ c.in-To.is) _ c.requires.1.0 _ _ c.requires.1.1.1.1.0 (inner-writable _ _ _ _ _ _ _ _ c.plan_complete-plan.ensures _ _ _ c.in-Inner.is).1))
 
 pub returns-in-Refused-plan : goal.returns-in-Refused-plan
-returns-in-Refused-plan c = record { completes = rule-refuses _ _ _ _ _ _ _ _ _ _ _ c.args.judged _ c.admit-admitted.ensures _ c.admitted-in-To-1.given.1 _ c.ring_number-own.ensures.0 _ c.plan_complete-plan.ensures _ _ c.in-Refused-plan.is; hand_and_write = tt }
+returns-in-Refused-plan c = record { completes = rule-refuses _ _ _ _ _ _ _ _ _ _ _ c.args.judged _ c.admit-admitted.ensures _ c.in-To.is _ c.ring_number-own.ensures.0 _ c.plan_complete-plan.ensures _ _ c.in-Refused-plan.is; hand_and_write = tt }
 
 pub returns-in-Sink : goal.returns-in-Sink
-returns-in-Sink c = record { completes = sink-made _ _ _ _ _ _ _ _ _ _ _ c.args.judged _ c.admit-admitted.ensures _ c.admitted-in-To-1.given.1 _ c.ring_number-own.ensures.0 _ c.plan_complete-plan.ensures _ _ _ (sink-writable _ _ _ _ _ _ _ _ c.plan_complete-plan.ensures _ _ _ c.in-Sink.is) _ c.write_sink.ensures.0 _ _ c.write_sink.ensures.1.0 _ c.in-Sink.is c.write_sink.ensures.1.1; hand_and_write = hand-and-write _ c.args.judged _ c.admit-admitted.ensures _ c.admitted-in-To-1.given.1 _ _ c.write_sink.ensures.1.1 }
+returns-in-Sink c = record { completes = sink-made _ _ _ _ _ _ _ _ _ _ _ c.args.judged _ c.admit-admitted.ensures _ c.in-To.is _ c.ring_number-own.ensures.0 _ c.plan_complete-plan.ensures _ _ _ (sink-writable _ _ _ _ _ _ _ _ c.plan_complete-plan.ensures _ _ _ c.in-Sink.is) _ c.write_sink.ensures.0 _ _ c.write_sink.ensures.1.0 _ c.in-Sink.is c.write_sink.ensures.1.1; hand_and_write = hand-and-write _ c.args.judged _ c.admit-admitted.ensures _ c.in-To.is _ _ c.write_sink.ensures.1.1 }
 
 pub returns-in-Inner : goal.returns-in-Inner
-returns-in-Inner c = record { completes = inner_made _ _ _ _ _ _ _ _ _ _ _ c.args.judged _ c.admit-admitted.ensures _ c.admitted-in-To-1.given.1 _ c.ring_number-own.ensures.0 _ c.plan_complete-plan.ensures _ _ _ (inner-writable _ _ _ _ _ _ _ _ c.plan_complete-plan.ensures _ _ _ c.in-Inner.is).0 _ c.write_inner.ensures.leaves.0 _ _ c.write_inner.ensures.leaves.1.0 _ c.in-Inner.is _ c.write_inner.ensures.buffers_after c.write_inner.ensures.leaves.1.1; hand_and_write = hand-and-write _ c.args.judged _ c.admit-admitted.ensures _ c.admitted-in-To-1.given.1 _ _ c.write_inner.ensures.leaves.1.1 }
+returns-in-Inner c = record { completes = inner_made _ _ _ _ _ _ _ _ _ _ _ c.args.judged _ c.admit-admitted.ensures _ c.in-To.is _ c.ring_number-own.ensures.0 _ c.plan_complete-plan.ensures _ _ _ (inner-writable _ _ _ _ _ _ _ _ c.plan_complete-plan.ensures _ _ _ c.in-Inner.is).0 _ c.write_inner.ensures.leaves.0 _ _ c.write_inner.ensures.leaves.1.0 _ c.in-Inner.is _ c.write_inner.ensures.buffers_after c.write_inner.ensures.leaves.1.1; hand_and_write = hand-and-write _ c.args.judged _ c.admit-admitted.ensures _ c.in-To.is _ _ c.write_inner.ensures.leaves.1.1 }

@@ -1,7 +1,6 @@
 use Rattle.complete.proofs.Laws.{plan-over, plan-full, plan-held, plan-heavy, plan-counter, plan-past, plan-first, plan-alone, plan-sink, plan-write, plan-places, plan-counted, plan-inner}
 use native.Mathlib.Omega.{arith}
 use Prim.Native.Nat.{◌+◌}
-use borrow.Author.Rules.{rules}
 use Rattle.complete.proofs.plan_complete.Goals as goal
 
 pub overflow_cast-entries : goal.overflow_cast-entries

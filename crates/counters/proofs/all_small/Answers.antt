@@ -1,7 +1,5 @@
-use Rattle.counters.proofs.Sums.{SmallTo, small-none, small-on}
-use Prim.Native.Nat.{◌≤◌, ◌-◌}
+use Rattle.counters.proofs.Sums.{small-none, small-on}
 use native.Mathlib.Omega.{arith}
-use lib.ListN.{length}
 use borrow.Author.Rules.{rules}
 use Rattle.counters.proofs.all_small.Goals as goal
 

@@ -1,8 +1,6 @@
-use Rattle.counters.proofs.Sums.{SmallTo, small-none, small-on}
+use Rattle.counters.proofs.Sums.{SmallTo}
 use Prim.Native.Nat.{◌≤◌, ◌-◌}
-use native.Mathlib.Omega.{arith}
 use lib.ListN.{length}
-use borrow.Author.Rules.{rules}
 use Rattle.counters.proofs.all_small.Given as goal
 
 abbrev pub invariant-loop-q : goal.invariant-loop-q

@@ -1,6 +1,5 @@
 use Rattle.counters.proofs.Sums.{small-fit, squared}
 use native.Mathlib.Omega.{arith}
-use borrow.Author.Rules.{rules}
 use Rattle.counters.proofs.choose.Goals as goal
 
 pub choose_wide-requires : goal.choose_wide-requires

@@ -1,5 +1,4 @@
-use Rattle.counters.proofs.Best.{Best, best-first, best-replaced, best-kept, best-whole}
-use Prim.Native.Nat.{◌≤◌, ◌-◌}
+use Rattle.counters.proofs.Best.{best-first, best-replaced, best-kept, best-whole}
 use native.Mathlib.Omega.{arith}
 use borrow.Author.Rules.{rules}
 use mir.Syntax.{w32}
@@ -30,7 +29,7 @@ loop-j-preserved c =
     let r = c.narrow_load-sum in
     let old = c.loop-j.invariant.0 in (
       elim c.if-sum-least.branch [
-        then-sum-least w ↦ rw (w.best-is, w.least-is) (best-replaced w32 _ _ _ _ _ old (omega arith) _ (search rules) r.ensures w.if-sum-least.true)
+        | then-sum-least w ↦ rw (w.best-is, w.least-is) (best-replaced w32 _ _ _ _ _ old (omega arith) _ (search rules) r.ensures w.if-sum-least.true)
         | else-sum-least w ↦ rw (w.best-is, w.least-is) (best-kept w32 _ _ _ _ _ old (omega arith) _ (search rules) r.ensures w.if-sum-least.false)
       ],
       omega arith,

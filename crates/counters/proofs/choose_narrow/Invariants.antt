@@ -1,9 +1,5 @@
-use Rattle.counters.proofs.Best.{Best, best-first, best-replaced, best-kept, best-whole}
-use mathlib.Core.Logic.{⊎_elim}
+use Rattle.counters.proofs.Best.{Best}
 use Prim.Native.Nat.{◌≤◌, ◌-◌}
-use native.Mathlib.Omega.{arith}
-use borrow.Author.Rules.{rules}
-use mir.Syntax.{w32}
 use Rattle.counters.proofs.choose_narrow.Given as goal
 
 abbrev pub invariant-loop-j : goal.invariant-loop-j

@@ -1,6 +1,5 @@
 use Rattle.counters.proofs.Sums.{squared}
 use native.Mathlib.Omega.{arith}
-use borrow.Author.Rules.{rules}
 use Rattle.counters.proofs.choose_small.Goals as goal
 
 pub choose_narrow-requires : goal.choose_narrow-requires

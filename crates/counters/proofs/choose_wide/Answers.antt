@@ -1,6 +1,5 @@
-use Rattle.counters.proofs.Best.{Best, best-first, best-replaced, best-kept, best-whole, FitTo, fit_none, damaged-here, fit_on, fit-whole}
+use Rattle.counters.proofs.Best.{best-first, best-replaced, best-kept, best-whole, fit_none, damaged-here, fit_on, fit-whole}
 use mir.Syntax.{w64}
-use Prim.Native.Nat.{◌≤◌, ◌-◌}
 use native.Mathlib.Omega.{arith}
 use borrow.Author.Rules.{rules}
 use Rattle.counters.proofs.choose_wide.Goals as goal
@@ -40,7 +39,7 @@ loop-j-preserved c =
     let r = c.load_of-load in
     let old = c.loop-j.invariant in (
       elim c.if-load-least.branch [
-        then-load-least w ↦ rw (w.best-is, w.least-is) (best-replaced w64 _ _ _ _ _ old.0 (omega arith) _ (search rules) r.ensures.0 w.if-load-least.true)
+        | then-load-least w ↦ rw (w.best-is, w.least-is) (best-replaced w64 _ _ _ _ _ old.0 (omega arith) _ (search rules) r.ensures.0 w.if-load-least.true)
         | else-load-least w ↦ rw (w.best-is, w.least-is) (best-kept w64 _ _ _ _ _ old.0 (omega arith) _ (search rules) r.ensures.0 w.if-load-least.false)
       ],
       (fit_on _ _ _ _ r.result.fits r.ensures old.1.0 c.if-not-load.false, omega arith),
@@ -49,5 +48,4 @@ loop-j-preserved c =
 pub returns : goal.returns
 returns c =
     let l = c.loop-j in
-    
     (fit-whole c.args.p _ l.j l.invariant.1.0 (omega arith) c.requires.0, best-whole w64 _ _ _ _ _ l.invariant.0 (omega arith))

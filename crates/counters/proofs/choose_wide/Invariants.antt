@@ -1,9 +1,5 @@
-use Rattle.counters.proofs.Best.{Best, best-first, best-replaced, best-kept, best-whole, FitTo, fit_none, damaged-here, fit_on, fit-whole}
-use mir.Syntax.{w64}
-use mathlib.Core.Logic.{⊎_elim}
+use Rattle.counters.proofs.Best.{Best, FitTo}
 use Prim.Native.Nat.{◌≤◌, ◌-◌}
-use native.Mathlib.Omega.{arith}
-use borrow.Author.Rules.{rules}
 use Rattle.counters.proofs.choose_wide.Given as goal
 
 abbrev pub invariant-loop-j : goal.invariant-loop-j

@@ -1,9 +1,8 @@
 use Rattle.lists.proofs.Places.{place-small}
-use Rattle.counters.proofs.Sums.{Summed, sum-none, sum-on, sum-whole, Ranged, ranged-none, ranged-on, ranged-whole}
+use Rattle.counters.proofs.Sums.{sum-none, sum-on, sum-whole, ranged-none, ranged-on, ranged-whole}
 use mathlib.Core.Path.{refl}
 use mir.Syntax.{w64}
 use Rattle.lists.proofs.Places.{place-lt}
-use Prim.Native.Nat.{◌≤◌, ◌-◌}
 use native.Mathlib.Omega.{arith}
 use borrow.Author.Rules.{rules}
 use Rattle.counters.proofs.load_of.Goals as goal

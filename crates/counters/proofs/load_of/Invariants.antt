@@ -1,11 +1,5 @@
-use Rattle.lists.proofs.Places.{place-small}
-use Rattle.counters.proofs.Sums.{Summed, sum-none, sum-on, sum-whole, Ranged, ranged-none, ranged-on, ranged-whole}
-use mathlib.Core.Path.{refl}
-use mir.Syntax.{w64}
-use Rattle.lists.proofs.Places.{place-lt}
+use Rattle.counters.proofs.Sums.{Summed, Ranged}
 use Prim.Native.Nat.{◌≤◌, ◌-◌}
-use native.Mathlib.Omega.{arith}
-use borrow.Author.Rules.{rules}
 use Rattle.counters.proofs.load_of.Given as goal
 
 abbrev pub invariant-loop-f : goal.invariant-loop-f

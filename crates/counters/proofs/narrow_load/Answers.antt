@@ -1,10 +1,8 @@
 use Rattle.lists.proofs.Places.{place-small, place-lt}
-use Rattle.counters.proofs.Sums.{Summed, sum-none, sum-whole, narrow-fits, narrow-on}
+use Rattle.counters.proofs.Sums.{sum-none, sum-whole, narrow-fits, narrow-on}
 use mathlib.Core.Path.{refl}
-use Prim.Native.Nat.{◌≤◌, ◌-◌}
 use native.Mathlib.Omega.{arith}
 use borrow.Author.Rules.{rules}
-use mir.Syntax.{w32}
 use Rattle.counters.proofs.narrow_load.Goals as goal
 
 pub overflow_mul-first : goal.overflow_mul-first

@@ -1,10 +1,5 @@
-use Rattle.lists.proofs.Places.{place-small, place-lt}
-use Rattle.counters.proofs.Sums.{Summed, sum-none, sum-whole, narrow-fits, narrow-on}
-use mathlib.Core.Path.{refl}
+use Rattle.counters.proofs.Sums.{Summed}
 use Prim.Native.Nat.{◌≤◌, ◌-◌}
-use native.Mathlib.Omega.{arith}
-use borrow.Author.Rules.{rules}
-use mir.Syntax.{w32}
 use Rattle.counters.proofs.narrow_load.Given as goal
 
 abbrev pub invariant-loop-f : goal.invariant-loop-f

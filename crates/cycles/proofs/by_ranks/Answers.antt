@@ -1,6 +1,5 @@
 -- None below the first level task is on a cycle; if it reaches itself, it is the smallest.
 use Rattle.cycles.proofs.First.{found_first}
-use borrow.Author.Rules.{rules}
 use Rattle.cycles.proofs.by_ranks.Goals as goal
 
 pub returns-then-on_cycle : goal.returns-then-on_cycle

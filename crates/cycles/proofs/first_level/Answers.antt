@@ -1,7 +1,4 @@
-use Prim.Native.Nat.{◌≤◌}
 use native.Mathlib.Omega.{arith}
-use Rattle.graph.specs.Graph.{graph_of}
-use Rattle.cycles.specs.Ranks.{Levels}
 use Rattle.cycles.proofs.Ranks.{levels-none, levels-at, levels-past, levels-tell}
 use Rattle.cycles.proofs.first_level.Goals as goal
 

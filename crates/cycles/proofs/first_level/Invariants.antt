@@ -1,9 +1,7 @@
 -- The loop keeps: of the tasks from t on, no rank rises into one that is left, and each falls into one below first.
 use Prim.Native.Nat.{◌≤◌}
-use native.Mathlib.Omega.{arith}
 use Rattle.graph.specs.Graph.{graph_of}
 use Rattle.cycles.specs.Ranks.{Levels}
-use Rattle.cycles.proofs.Ranks.{levels-none, levels-at, levels-past, levels-tell}
 use Rattle.cycles.proofs.first_level.Given as goal
 
 abbrev pub invariant-loop-t : goal.invariant-loop-t

@@ -1,7 +1,6 @@
 -- Where stripping leaves tasks, they go into the search.
 use native.Mathlib.Omega.{arith}
 use Rattle.cycles.proofs.First.{all-gone}
-use borrow.Author.Rules.{rules}
 use Rattle.cycles.proofs.first_on_cycle.Goals as goal
 
 pub returns-then-stripped-n : goal.returns-then-stripped-n

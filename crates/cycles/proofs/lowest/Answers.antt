@@ -1,9 +1,8 @@
-use Prim.Native.Nat.{◌-◌, ◌<◌}
+use Prim.Native.Nat.{◌<◌}
 use native.Mathlib.Omega.{arith}
 use native.Mathlib.Decide.{ℕ_discrete}
 use lib.ListN.{get_or}
 use Rattle.lists.proofs.Occurrences.{at-occ}
-use Rattle.cycles.specs.Ranks.{Lows}
 use Rattle.cycles.proofs.Ranks.{lows-none, lows-more, lows-all}
 use Rattle.cycles.proofs.lowest.Goals as goal
 use Rattle.cycles.proofs.lowest.Goals.{In-loop-i}

@@ -1,11 +1,7 @@
 -- The loop keeps: no rank of the words passed is lower.
 use Prim.Native.Nat.{◌-◌}
-use native.Mathlib.Omega.{arith}
-use native.Mathlib.Decide.{ℕ_discrete}
 use lib.ListN.{length, take}
-use Rattle.lists.proofs.Occurrences.{at-occ}
 use Rattle.cycles.specs.Ranks.{Lows}
-use Rattle.cycles.proofs.Ranks.{lows-none, lows-more, lows-all}
 use Rattle.cycles.proofs.lowest.Given as goal
 
 abbrev pub invariant-loop-i : goal.invariant-loop-i

@@ -2,7 +2,6 @@
 use native.Mathlib.Omega.{arith}
 use Rattle.graph.specs.Graph.{part}
 use Rattle.cycles.proofs.Ranks.{lowest-none, lowest-part}
-use borrow.Author.Rules.{rules}
 use Rattle.cycles.proofs.lowest_before.Goals as goal
 
 pub returns-then-left-t-eq0 : goal.returns-then-left-t-eq0

@@ -1,7 +1,6 @@
 -- A task without a mark finds room in the queue, since fewer than all tasks are queued.
 use native.Mathlib.Omega.{arith}
 use Rattle.cycles.proofs.Marks.{room, mark-new, mark-old}
-use borrow.Author.Rules.{rules}
 use Rattle.cycles.proofs.mark.Goals as goal
 
 pub bounds-queue-tail : goal.bounds-queue-tail

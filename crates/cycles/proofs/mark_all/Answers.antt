@@ -1,9 +1,6 @@
 use native.Mathlib.Decide.{ℕ_discrete}
 use Rattle.lists.proofs.Occurrences.{at-occ}
-use Prim.Native.Nat.{◌≤◌, ◌-◌}
 use native.Mathlib.Omega.{arith}
-use lib.ListN.{length, take}
-use Rattle.cycles.specs.Marks.{Grown}
 use Rattle.cycles.proofs.Marks.{grown-none, grown-more, grown-all}
 use Rattle.cycles.proofs.mark_all.Goals as goal
 

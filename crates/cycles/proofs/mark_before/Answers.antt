@@ -1,7 +1,4 @@
-use Prim.Native.Nat.{◌-◌}
 use native.Mathlib.Omega.{arith}
-use Rattle.graph.specs.Graph.{graph_of}
-use Rattle.cycles.specs.Marks.{Walked}
 use Rattle.cycles.proofs.Walks.{good-small, has-start, walk_begins, next-task, walk_more, walk_ends}
 use Rattle.cycles.proofs.mark_before.Goals as goal
 

@@ -1,9 +1,7 @@
 -- The loop keeps the walk back from t; at the queue's end all tasks that lead to t are marked.
 use Prim.Native.Nat.{◌-◌}
-use native.Mathlib.Omega.{arith}
 use Rattle.graph.specs.Graph.{graph_of}
 use Rattle.cycles.specs.Marks.{Walked}
-use Rattle.cycles.proofs.Walks.{good-small, has-start, walk_begins, next-task, walk_more, walk_ends}
 use Rattle.cycles.proofs.mark_before.Given as goal
 
 abbrev pub invariant-loop-head : goal.invariant-loop-head

@@ -1,6 +1,5 @@
 -- The part of the predecessors that is passed on is task t's own.
 use Rattle.graph.specs.Graph.{part}
-use borrow.Author.Rules.{rules}
 use Rattle.cycles.proofs.mark_preds.Goals as goal
 
 pub mark_all-requires : goal.mark_all-requires

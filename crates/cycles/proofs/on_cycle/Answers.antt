@@ -1,6 +1,5 @@
 -- In fresh tables the walk marks t exactly if t leads to itself.
 use Rattle.cycles.proofs.Walks.{fresh, mark-tells}
-use borrow.Author.Rules.{rules}
 use Rattle.cycles.proofs.on_cycle.Goals as goal
 
 pub mark_before-requires : goal.mark_before-requires

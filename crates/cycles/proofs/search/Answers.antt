@@ -1,8 +1,5 @@
-use Prim.Native.Nat.{◌-◌}
 use native.Mathlib.Omega.{arith}
 use borrow.Author.Count.{below_none, below_more}
-use Rattle.graph.specs.Graph.{graph_of}
-use Rattle.cycles.specs.Ranks.{NoneBelow}
 use Rattle.cycles.proofs.First.{stripped-off, asked-off, found_first, none_first}
 use Rattle.cycles.proofs.search.Goals as goal
 use Rattle.cycles.proofs.search.Goals.{then-left-t-ne0+else-on_cycle, else-left-t-ne0}
@@ -32,7 +29,7 @@ pub loop-t-preserved : goal.loop-t-preserved
 loop-t-preserved c =
     below_more _ _ c.loop-t.invariant
     (elim c.if-left-t-ne0.branch [
-      then-left-t-ne0+else-on_cycle w ↦ asked-off _ w.on_cycle.ensures w.if-on_cycle.false
+      | then-left-t-ne0+else-on_cycle w ↦ asked-off _ w.on_cycle.ensures w.if-on_cycle.false
       | else-left-t-ne0 w ↦ stripped-off _ c.args.left.now (c.requires.1.1 _ (omega arith)) w.if-left-t-ne0.false
     ])
 

@@ -1,11 +1,7 @@
 -- The loop: no task passed is on a cycle; one that is not left is on none.
 use Prim.Native.Nat.{◌-◌}
-use mathlib.Core.Logic.{⊎_elim}
-use native.Mathlib.Omega.{arith}
-use borrow.Author.Count.{below_none, below_more}
 use Rattle.graph.specs.Graph.{graph_of}
 use Rattle.cycles.specs.Ranks.{NoneBelow}
-use Rattle.cycles.proofs.First.{stripped-off, asked-off, found_first, none_first}
 use Rattle.cycles.proofs.search.Given as goal
 
 abbrev pub invariant-loop-t : goal.invariant-loop-t

@@ -1,6 +1,5 @@
 use Rattle.fetch.proofs.Laws.{fetch-refused, fetch-ready, fetch-taken}
 use Rattle.fetch.specs.Plan.{head_of}
-use borrow.Author.Rules.{rules}
 use Rattle.lists.proofs.Told.{with_both}
 use Rattle.fetch.proofs.fetch_admitted.Goals as goal
 

@@ -1,6 +1,5 @@
 use Rattle.fetch.proofs.Laws.{sized-readable, scanned-reachable, found-refused, found-ready, found-taken}
 use Rattle.fetch.specs.Plan.{head_of}
-use borrow.Author.Rules.{rules}
 use Rattle.lists.proofs.Told.{with_both}
 use Rattle.fetch.proofs.fetch_found.Goals as goal
 

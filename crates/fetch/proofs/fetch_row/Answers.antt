@@ -1,6 +1,5 @@
 use Rattle.fetch.proofs.Laws.{row-steps, row_sized, row-refused, row-fetches}
 use native.Mathlib.Omega.{arith}
-use borrow.Author.Rules.{rules}
 use Rattle.lists.proofs.Told.{with_both}
 use Rattle.fetch.proofs.fetch_row.Goals as goal
 
@@ -31,8 +30,11 @@ fetch_admitted-requires c =
     _ _ _ c.requires.1
 
 pub returns-in-Refused : goal.returns-in-Refused
-returns-in-Refused c = record { fetches = row-refused _ _ _ _ c.args.judged _ _ _ _ _
-      c.admit-admitted.ensures _ _ c.in-Refused.is; hand_and_pointer = tt }
+returns-in-Refused c = record {
+  fetches = row-refused _ _ _ _ c.args.judged _ _ _ _ _
+      c.admit-admitted.ensures _ _ c.in-Refused.is;
+  hand_and_pointer = tt;
+}
 
 pub returns-in-To : goal.returns-in-To
 returns-in-To c = with_both (λ a b. record { fetches = a; hand_and_pointer = b }) (row-fetches _ _ _ _

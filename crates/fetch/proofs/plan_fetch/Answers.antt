@@ -1,5 +1,4 @@
 use Rattle.fetch.proofs.Laws.{pointer-damaged, scan-reachable, scan-plans, sized-readable}
-use borrow.Author.Rules.{rules}
 use Rattle.fetch.proofs.plan_fetch.Goals as goal
 
 pub returns-then-p-pointer : goal.returns-then-p-pointer

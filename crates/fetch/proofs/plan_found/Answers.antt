@@ -1,5 +1,4 @@
 use Rattle.fetch.proofs.Laws.{found-unsound, found_none, found_inside, found-takes, head-ready}
-use borrow.Author.Rules.{rules}
 use Rattle.fetch.proofs.plan_found.Goals as goal
 
 pub ring_number-requires : goal.ring_number-requires

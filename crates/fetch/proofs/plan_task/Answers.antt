@@ -1,7 +1,6 @@
 use Rattle.fetch.proofs.Laws.{task-unknown, task-counted, task-fetchable}
 use mathlib.Core.Path.{refl}
 use native.Mathlib.Omega.{arith}
-use borrow.Author.Rules.{rules}
 use Rattle.fetch.proofs.plan_task.Goals as goal
 
 pub returns-then-tasks-task : goal.returns-then-tasks-task

@@ -1,6 +1,5 @@
 use Rattle.fetch.proofs.Laws.{ends-ready, stored_at}
 use mathlib.Core.Path.{refl}
-use borrow.Author.Rules.{rules}
 use Rattle.fetch.proofs.take_head.Goals as goal
 
 pub take_at-requires : goal.take_at-requires

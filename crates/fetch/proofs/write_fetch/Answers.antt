@@ -1,5 +1,4 @@
 use Rattle.fetch.proofs.Laws.{row-taken}
-use borrow.Author.Rules.{rules}
 use Rattle.fetch.proofs.write_fetch.Goals as goal
 
 pub returns : goal.returns

@@ -1,7 +1,6 @@
 -- 2 and 1, then the tables.
 use native.Mathlib.Omega.{arith}
 use Rattle.graph_check.proofs.Laws.{early, check-beyond, check-heavy, check-length, check-rest, check-sized}
-use borrow.Author.Rules.{rules}
 use Rattle.graph_check.proofs.check_graph.Goals as goal
 
 pub returns-then-not-within-sizes_fit : goal.returns-then-not-within-sizes_fit

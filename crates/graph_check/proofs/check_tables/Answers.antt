@@ -3,7 +3,6 @@ use mathlib.Core.Path.{refl}
 use native.Mathlib.Omega.{arith}
 use Rattle.lists.proofs.Prefixes.{zeros}
 use Rattle.graph_check.proofs.Laws.{early, tables-bad, tables-ends, tables-sound, tables-twice, tables-cycle, tables-accepted}
-use borrow.Author.Rules.{rules}
 use Rattle.graph_check.proofs.check_tables.Goals as goal
 
 pub returns-then-bad-n : goal.returns-then-bad-n

@@ -13,19 +13,19 @@ pub overflow_add-steps : goal.overflow_add-steps
 overflow_add-steps c = omega (arith, steps-fit _ _ _ _ c.args.judged _ _ _ _ c.admit-admitted.ensures c.requires _ c.in-To.is)
 
 pub plan_release-plan-requires : goal.plan_release-plan-requires
-plan_release-plan-requires c = lists-fit _ _ _ _ c.args.judged _ _ _ _ c.admit-admitted.ensures c.requires _ c.admitted-in-To-1.given.1
+plan_release-plan-requires c = lists-fit _ _ _ _ c.args.judged _ _ _ _ c.admit-admitted.ensures c.requires _ c.in-To.is
 
 pub lower-requires : goal.lower-requires
-lower-requires c = lower-ready _ _ _ _ c.args.judged _ _ _ _ c.admit-admitted.ensures c.requires _ c.admitted-in-To-1.given.1 _ c.plan_release-plan.ensures _ _ _ _ c.in-Lower.is
+lower-requires c = lower-ready _ _ _ _ c.args.judged _ _ _ _ c.admit-admitted.ensures c.requires _ c.in-To.is _ c.plan_release-plan.ensures _ _ _ _ c.in-Lower.is
 
 pub place-requires : goal.place-requires
-place-requires c = place-ready _ _ _ _ c.args.judged _ _ _ _ c.admit-admitted.ensures c.requires _ c.admitted-in-To-1.given.1 _ c.plan_release-plan.ensures _ _ _ _ _ _ _ _ c.in-Place.is
+place-requires c = place-ready _ _ _ _ c.args.judged _ _ _ _ c.admit-admitted.ensures c.requires _ c.in-To.is _ c.plan_release-plan.ensures _ _ _ _ _ _ _ _ c.in-Place.is
 
 pub returns-in-Refused-plan : goal.returns-in-Refused-plan
-returns-in-Refused-plan c = record { releases = whole-none _ _ _ _ c.args.judged _ _ _ _ c.admit-admitted.ensures c.requires _ c.admitted-in-To-1.given.1 _ c.plan_release-plan.ensures _ _ c.in-Refused-plan.is; read_and_cursor = tt }
+returns-in-Refused-plan c = record { releases = whole-none _ _ _ _ c.args.judged _ _ _ _ c.admit-admitted.ensures c.requires _ c.in-To.is _ c.plan_release-plan.ensures _ _ c.in-Refused-plan.is; read_and_cursor = tt }
 
 pub returns-in-Lower : goal.returns-in-Lower
-returns-in-Lower c = record { releases = whole-lower _ _ _ _ c.args.judged _ _ _ _ c.admit-admitted.ensures c.requires _ c.admitted-in-To-1.given.1 _ c.plan_release-plan.ensures _ _ _ _ c.in-Lower.is _ _ c.lower.result c.lower.ensures.lowered; read_and_cursor = row_keeps _ c.args.judged _ c.admit-admitted.ensures _ c.admitted-in-To-1.given.1 c.lower.result c.lower.ensures.read_and_cursor }
+returns-in-Lower c = record { releases = whole-lower _ _ _ _ c.args.judged _ _ _ _ c.admit-admitted.ensures c.requires _ c.in-To.is _ c.plan_release-plan.ensures _ _ _ _ c.in-Lower.is _ _ c.lower.result c.lower.ensures.lowered; read_and_cursor = row_keeps _ c.args.judged _ c.admit-admitted.ensures _ c.in-To.is c.lower.result c.lower.ensures.read_and_cursor }
 
 pub returns-in-Place : goal.returns-in-Place
-returns-in-Place c = record { releases = whole-place _ _ _ _ c.args.judged _ _ _ _ c.admit-admitted.ensures c.requires _ c.admitted-in-To-1.given.1 _ c.plan_release-plan.ensures _ _ _ _ _ _ _ _ c.in-Place.is _ c.place.result c.place.ensures.joined; read_and_cursor = row_keeps _ c.args.judged _ c.admit-admitted.ensures _ c.admitted-in-To-1.given.1 c.place.result c.place.ensures.read_and_cursor }
+returns-in-Place c = record { releases = whole-place _ _ _ _ c.args.judged _ _ _ _ c.admit-admitted.ensures c.requires _ c.in-To.is _ c.plan_release-plan.ensures _ _ _ _ _ _ _ _ c.in-Place.is _ c.place.result c.place.ensures.joined; read_and_cursor = row_keeps _ c.args.judged _ c.admit-admitted.ensures _ c.in-To.is c.place.result c.place.ensures.read_and_cursor }

@@ -1,6 +1,5 @@
 use Rattle.release_plan.proofs.Owners.{owner-damaged, target_below, owner-unsound, owner-none, owner-at}
 use native.Mathlib.Omega.{arith}
-use borrow.Author.Rules.{rules}
 use Rattle.lists.proofs.Told.{with_both}
 use Rattle.release_plan.proofs.find_owner.Goals as goal
 

@@ -1,6 +1,5 @@
 use Rattle.release_plan.proofs.Picks.{degree-none, degree-ready, degree-over, degree-full, degree-waits}
 use mir.Facts.{Fits-32_64}
-use borrow.Author.Rules.{rules}
 use Rattle.release_plan.proofs.pick_degree.Goals as goal
 
 pub returns-then-degree-eq0 : goal.returns-then-degree-eq0

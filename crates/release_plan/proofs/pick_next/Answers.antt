@@ -1,6 +1,5 @@
 use Rattle.release_plan.proofs.Reach.{reach-inside}
 use Rattle.release_plan.proofs.Picks.{pick-none, pick-degree}
-use borrow.Author.Rules.{rules}
 use Rattle.release_plan.proofs.pick_next.Goals as goal
 
 pub pick_degree-requires : goal.pick_degree-requires

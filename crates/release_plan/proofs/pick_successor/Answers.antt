@@ -1,7 +1,6 @@
 use Rattle.release_plan.proofs.Reach.{reach-write, reach-empty, reach-places, reach-task, reach-past, reach-first, reach-cursor, reach-word, reach-at}
 use native.Mathlib.Omega.{arith}
 use mir.Facts.{Fits-32_64}
-use borrow.Author.Rules.{rules}
 use Rattle.release_plan.proofs.pick_successor.Goals as goal
 
 pub returns-then-n-write : goal.returns-then-n-write

@@ -1,6 +1,5 @@
 use Rattle.release_plan.proofs.Plans.{place-heavy, place-full, place-made}
 use mir.Facts.{Fits-32_64}
-use borrow.Author.Rules.{rules}
 use Rattle.release_plan.proofs.plan_place.Goals as goal
 
 pub returns-then-weight-gt65535 : goal.returns-then-weight-gt65535

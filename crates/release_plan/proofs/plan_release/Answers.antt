@@ -1,5 +1,4 @@
 use Rattle.release_plan.proofs.Plans.{decide-none, decide-lower, ready-inside, decide-nowhere, decide-place}
-use borrow.Author.Rules.{rules}
 use Rattle.release_plan.proofs.plan_release.Goals as goal
 
 pub plan_place-requires : goal.plan_place-requires

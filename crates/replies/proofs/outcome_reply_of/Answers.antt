@@ -3,7 +3,6 @@ use Rattle.task.specs.Refusals.{outcome_says}
 use Rattle.task.specs.declared.StepOutcome.{StepOutcome}
 use Rattle.replies.specs.Replies.{said_of}
 use Rattle.replies.proofs.Laws.{in-case}
-use borrow.Author.Rules.{rules}
 use Rattle.replies.proofs.outcome_reply_of.Goals as goal
 
 pub returns-in-Moved : goal.returns-in-Moved

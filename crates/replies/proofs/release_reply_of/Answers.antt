@@ -3,7 +3,6 @@ use Rattle.task.specs.Refusals.{release_says}
 use Rattle.task.specs.declared.ReleaseOutcome.{ReleaseOutcome}
 use Rattle.replies.specs.Replies.{said_of}
 use Rattle.replies.proofs.Laws.{in-case}
-use borrow.Author.Rules.{rules}
 use Rattle.replies.proofs.release_reply_of.Goals as goal
 
 pub returns-in-DegreeLeft : goal.returns-in-DegreeLeft

@@ -2,7 +2,6 @@
 use mathlib.Core.Path.{refl}
 use Rattle.replies.specs.Replies.{reply_of}
 use Rattle.replies.proofs.Laws.{in-case}
-use borrow.Author.Rules.{rules}
 use Rattle.replies.proofs.reply_of.Goals as goal
 
 pub returns-in-Refused : goal.returns-in-Refused

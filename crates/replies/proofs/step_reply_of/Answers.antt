@@ -1,7 +1,6 @@
 -- The two cases.
 use Rattle.replies.specs.Replies.{step_reply_of}
 use Rattle.replies.proofs.Laws.{in-case}
-use borrow.Author.Rules.{rules}
 use Rattle.replies.proofs.step_reply_of.Goals as goal
 
 pub returns-in-Refused : goal.returns-in-Refused

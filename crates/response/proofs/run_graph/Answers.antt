@@ -27,7 +27,7 @@ module _ (c : After-drive) where
   room = omega (arith, (ready (told c)).executed, (told c).begin-answer.auto, c.drive.auto)
 
   entries : get_or c.drive.new.run 0 0 ≡ length (entry (told c)).args.weights.now
-  entries = entries-all _ (told c).engine.ensures _ _ _ (told c).begin-answer.ensures (told c).enum_told.given.1 _ c.drive.ensures
+  entries = entries-all _ (told c).engine.ensures _ _ _ (told c).begin-answer.ensures (told c).in_default.is _ c.drive.ensures
 
 pub put_refused-requires : goal.put_refused-requires
 put_refused-requires c = omega (arith, c.requires)
@@ -93,5 +93,5 @@ shape_of-rows c = omega (arith, c.begin-answer.auto, c.drive.auto)
 pub returns : goal.returns
 returns c =
     let t = told (goal.at.returns c).In_default-1 in
-    lines-put _ t.engine.ensures _ _ _ t.begin-answer.ensures t.enum_told.given.1 _ c.drive.ensures
+    lines-put _ t.engine.ensures _ _ _ t.begin-answer.ensures t.in_default.is _ c.drive.ensures
     c.put_pair-at.ensures.0 c.put_entries.ensures

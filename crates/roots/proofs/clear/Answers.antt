@@ -1,7 +1,5 @@
-use Prim.Native.Nat.{◌-◌}
 use native.Mathlib.Omega.{arith}
-use lib.ListN.{length}
-use Rattle.roots.proofs.Laws.{Filling, filling-none, filling-more, filling-whole}
+use Rattle.roots.proofs.Laws.{filling-none, filling-more, filling-whole}
 use Rattle.roots.proofs.clear.Goals as goal
 
 pub loop-i-init : goal.loop-i-init

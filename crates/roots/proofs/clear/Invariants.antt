@@ -1,8 +1,7 @@
 -- Each turn clears one more word.
 use Prim.Native.Nat.{◌-◌}
-use native.Mathlib.Omega.{arith}
 use lib.ListN.{length}
-use Rattle.roots.proofs.Laws.{Filling, filling-none, filling-more, filling-whole}
+use Rattle.roots.proofs.Laws.{Filling}
 use Rattle.roots.proofs.clear.Given as goal
 
 abbrev pub invariant-loop-i : goal.invariant-loop-i

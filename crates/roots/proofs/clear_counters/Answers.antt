@@ -1,8 +1,5 @@
-use Prim.Native.Nat.{◌-◌}
 use native.Mathlib.Omega.{arith}
-use lib.IntN.{pos}
-use lib.ListN.{length}
-use Rattle.roots.proofs.Laws.{Filling, filling-none, filling-more, filling-whole}
+use Rattle.roots.proofs.Laws.{filling-none, filling-more, filling-whole}
 use Rattle.roots.proofs.clear_counters.Goals as goal
 
 pub loop-q-init : goal.loop-q-init

@@ -1,9 +1,8 @@
 -- Each turn clears one more counter.
 use Prim.Native.Nat.{◌-◌}
-use native.Mathlib.Omega.{arith}
 use lib.IntN.{pos}
 use lib.ListN.{length}
-use Rattle.roots.proofs.Laws.{Filling, filling-none, filling-more, filling-whole}
+use Rattle.roots.proofs.Laws.{Filling}
 use Rattle.roots.proofs.clear_counters.Given as goal
 
 abbrev pub invariant-loop-q : goal.invariant-loop-q

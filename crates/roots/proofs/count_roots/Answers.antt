@@ -1,7 +1,5 @@
-use Prim.Native.Nat.{◌-◌, ◌≤◌}
-use mathlib.Core.Path.{◌≡◌}
 use native.Mathlib.Omega.{arith}
-use Rattle.roots.proofs.Laws.{levels, levels-none, levels-hit, levels-miss, roots-counted}
+use Rattle.roots.proofs.Laws.{levels-none, levels-hit, levels-miss, roots-counted}
 use Rattle.roots.proofs.count_roots.Goals as goal
 use Rattle.roots.proofs.count_roots.Goals.{then-starts-t, else-starts-t}
 
@@ -35,7 +33,7 @@ loop-t-smaller c = omega arith
 pub loop-t-preserved : goal.loop-t-preserved
 loop-t-preserved c =
     elim c.if-starts-t.branch [
-      then-starts-t w ↦ (omega arith, (omega arith, levels-hit _ _ _ _ c.loop-t.invariant.1.1 w.if-starts-t.true w.found-is))
+      | then-starts-t w ↦ (omega arith, (omega arith, levels-hit _ _ _ _ c.loop-t.invariant.1.1 w.if-starts-t.true w.found-is))
       | else-starts-t w ↦ (omega arith, (omega arith, levels-miss _ _ _ _ c.loop-t.invariant.1.1 w.if-starts-t.false w.found-is))
     ]
 

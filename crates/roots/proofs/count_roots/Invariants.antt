@@ -1,9 +1,7 @@
 -- The roots found so far are the levels passed.
 use Prim.Native.Nat.{◌-◌, ◌≤◌}
-use mathlib.Core.Logic.{⊎_elim}
 use mathlib.Core.Path.{◌≡◌}
-use native.Mathlib.Omega.{arith}
-use Rattle.roots.proofs.Laws.{levels, levels-none, levels-hit, levels-miss, roots-counted}
+use Rattle.roots.proofs.Laws.{levels}
 use Rattle.roots.proofs.count_roots.Given as goal
 
 abbrev pub invariant-loop-t : goal.invariant-loop-t

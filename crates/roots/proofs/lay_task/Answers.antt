@@ -1,7 +1,6 @@
 -- What is laid down before lets the task be read, appended and weighed.
 use Rattle.roots.proofs.Laying.{laid-skip, owner-ready, ring-ready, counter-ready, laid_root}
 use native.Mathlib.Omega.{arith}
-use borrow.Author.Rules.{rules}
 use Rattle.roots.proofs.lay_task.Goals as goal
 
 pub returns-then-degrees-t-ne0 : goal.returns-then-degrees-t-ne0

@@ -1,9 +1,5 @@
-use Prim.Native.Nat.{◌-◌}
-use lib.ListN.{length}
-use Rattle.roots.specs.Laying.{Laid}
 use Rattle.roots.proofs.Laying.{laid-whole}
 use native.Mathlib.Omega.{arith}
-use borrow.Author.Rules.{rules}
 use Rattle.roots.proofs.place_roots.Goals as goal
 
 pub loop-t-init : goal.loop-t-init

@@ -2,9 +2,6 @@
 use Prim.Native.Nat.{◌-◌}
 use lib.ListN.{length}
 use Rattle.roots.specs.Laying.{Laid}
-use Rattle.roots.proofs.Laying.{laid-whole}
-use native.Mathlib.Omega.{arith}
-use borrow.Author.Rules.{rules}
 use Rattle.roots.proofs.place_roots.Given as goal
 
 abbrev pub invariant-loop-t : goal.invariant-loop-t

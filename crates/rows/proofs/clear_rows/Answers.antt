@@ -1,10 +1,6 @@
 use Rattle.rows.proofs.Laws.{words-cleared-none, words-cleared-next, words-cleared}
-use Rattle.rows.specs.Rows.{rows_of, cleared_rows}
-use Prim.Native.Nat.{◌-◌, ◌≤◌}
-use mathlib.Core.Path.{◌≡◌, refl}
+use mathlib.Core.Path.{refl}
 use native.Mathlib.Omega.{arith}
-use borrow.Author.Rules.{rules}
-use lib.ListN.{length}
 use Rattle.rows.proofs.clear_rows.Goals as goal
 
 pub loop-i-init : goal.loop-i-init

@@ -1,10 +1,7 @@
 -- The rows before row i are cleared, and the others are as they were.
-use Rattle.rows.proofs.Laws.{words-cleared-none, words-cleared-next, words-cleared}
 use Rattle.rows.specs.Rows.{rows_of, cleared_rows}
 use Prim.Native.Nat.{◌-◌, ◌≤◌}
-use mathlib.Core.Path.{◌≡◌, refl}
-use native.Mathlib.Omega.{arith}
-use borrow.Author.Rules.{rules}
+use mathlib.Core.Path.{◌≡◌}
 use lib.ListN.{length}
 use Rattle.rows.proofs.clear_rows.Given as goal
 

@@ -1,7 +1,6 @@
 use Rattle.rows.proofs.Laws.{rows-changed}
 use Rattle.rules.specs.Memory.{with_hand}
 use native.Mathlib.Omega.{arith}
-use borrow.Author.Rules.{rules}
 use Rattle.rows.proofs.set_hand.Goals as goal
 
 pub returns : goal.returns

@@ -1,7 +1,6 @@
 use Rattle.rows.proofs.Laws.{rows-changed}
 use Rattle.rows.specs.Rows.{with_write}
 use native.Mathlib.Omega.{arith}
-use borrow.Author.Rules.{rules}
 use Rattle.rows.proofs.set_write.Goals as goal
 
 pub returns : goal.returns

@@ -1,5 +1,4 @@
 -- Blanks before the line's end change no field.
-use borrow.Author.Rules.{rules}
 use Rattle.layout.proofs.Numbers.{closing}
 use Rattle.scan.proofs.close.Goals as goal
 

@@ -1,10 +1,9 @@
-use Prim.Native.Nat.{◌-◌, ◌≤◌}
-use borrow.Author.Rules.{rules}
+use Prim.Native.Nat.{◌≤◌}
 use native.Mathlib.Omega.{arith}
 use lib.ListN.{get_or}
 use Rattle.layout.specs.Marks.{Digit}
 use Rattle.layout.specs.Scan.{line_at}
-use Rattle.layout.proofs.Numbers.{digit-byte, Ran, ran-start, ran-small, ran-more}
+use Rattle.layout.proofs.Numbers.{digit-byte, ran-start, ran-small, ran-more}
 use Rattle.layout.proofs.Numbers.{Stopped, stopped-byte, stopped-end, ran-missing, ran-joined, ran-found}
 use Rattle.scan.proofs.digits_at.Goals as goal
 use Rattle.scan.proofs.digits_at.Goals.{Else-d, Left-loop-p, else-loop-p-test, then-loop-p-test+then-d}
@@ -19,7 +18,7 @@ byte c = digit-byte _ c.if-d.false
 -- after the loop
 stopped : (c : Left-loop-p) → Stopped c.loop-p.invariant.0.ds (line_at c.args.text.now c.loop-p.p)
 stopped c = elim c.loop-p-test.branch [
-  else-loop-p-test w ↦ stopped-end _ _ _ _ c.loop-p.invariant.0 (omega arith)
+  | else-loop-p-test w ↦ stopped-end _ _ _ _ c.loop-p.invariant.0 (omega arith)
   | then-loop-p-test+then-d w ↦ stopped-byte _ _ _ _ c.loop-p.invariant.0 (omega arith) w.if-d.true
 ]
 

@@ -1,5 +1,4 @@
 -- One law for each end and for each byte that is none.
-use borrow.Author.Rules.{rules}
 use native.Mathlib.Omega.{arith}
 use Rattle.layout.proofs.Places.{ends-out, ends-lf, ends-crlf, open-early, cr-more, open-cr}
 use Rattle.scan.proofs.line_end.Goals as goal

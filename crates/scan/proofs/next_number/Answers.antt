@@ -1,5 +1,4 @@
 -- Blanks before a number change no field.
-use borrow.Author.Rules.{rules}
 use Rattle.layout.proofs.Places.{trimmed-marked}
 use Rattle.layout.proofs.Numbers.{finding}
 use Rattle.scan.proofs.next_number.Goals as goal

@@ -1,5 +1,4 @@
 -- The byte at the place is the line's first, unless the line ends there.
-use borrow.Author.Rules.{rules}
 use Rattle.layout.proofs.Places.{parted-end, parted-blank, parted-other}
 use Rattle.scan.proofs.parts.Goals as goal
 

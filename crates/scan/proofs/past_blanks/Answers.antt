@@ -1,7 +1,4 @@
-use Prim.Native.Nat.{◌-◌}
-use borrow.Author.Rules.{rules}
-use lib.ListN.{length}
-use Rattle.layout.proofs.Places.{Passed, passed_start, passed-blank, passed-mark, passed-end}
+use Rattle.layout.proofs.Places.{passed_start, passed-blank, passed-mark, passed-end}
 use Rattle.scan.proofs.past_blanks.Goals as goal
 
 pub loop-p-init : goal.loop-p-init

@@ -1,8 +1,7 @@
 -- Only blanks stand before the place.
 use Prim.Native.Nat.{◌-◌}
-use borrow.Author.Rules.{rules}
 use lib.ListN.{length}
-use Rattle.layout.proofs.Places.{Passed, passed_start, passed-blank, passed-mark, passed-end}
+use Rattle.layout.proofs.Places.{Passed}
 use Rattle.scan.proofs.past_blanks.Given as goal
 
 abbrev pub invariant-loop-p : goal.invariant-loop-p

@@ -1,7 +1,4 @@
-use Prim.Native.Nat.{◌-◌}
-use borrow.Author.Rules.{rules}
-use lib.ListN.{length}
-use Rattle.layout.proofs.Places.{Onward, onward-start, onward-more, onward-lf, onward-end}
+use Rattle.layout.proofs.Places.{onward-start, onward-more, onward-lf, onward-end}
 use Rattle.scan.proofs.past_line.Goals as goal
 
 pub loop-p-init : goal.loop-p-init

@@ -1,8 +1,7 @@
 -- The line still ends where it ended from the first place on.
 use Prim.Native.Nat.{◌-◌}
-use borrow.Author.Rules.{rules}
 use lib.ListN.{length}
-use Rattle.layout.proofs.Places.{Onward, onward-start, onward-more, onward-lf, onward-end}
+use Rattle.layout.proofs.Places.{Onward}
 use Rattle.scan.proofs.past_line.Given as goal
 
 abbrev pub invariant-loop-p : goal.invariant-loop-p

@@ -1,5 +1,4 @@
 -- The byte at the place is the line's first, unless the line ends there.
-use borrow.Author.Rules.{rules}
 use Rattle.layout.specs.Reader.{skippable}
 use Rattle.layout.proofs.Places.{open-inside, closed-test, open-test}
 use Rattle.scan.proofs.skippable.Goals as goal

@@ -2,7 +2,6 @@ use Rattle.memory.specs.Field as list
 use Rattle.start.proofs.Laws.{start-refused, start-damaged, start-accepted, phase-alone}
 use Rattle.admission.proofs.Rows.{admission-measured, few-steps}
 use native.Mathlib.Omega.{arith}
-use borrow.Author.Rules.{rules}
 use Rattle.start.proofs.start_row.Goals as goal
 
 pub returns-in-Refused : goal.returns-in-Refused

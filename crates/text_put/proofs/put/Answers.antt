@@ -1,7 +1,4 @@
-use Prim.Native.Nat.{◌+◌, ◌-◌, ◌≤◌}
 use native.Mathlib.Omega.{arith}
-use lib.ListN.{length, take}
-use Rattle.text_put.specs.Appending.{Appends}
 use Rattle.text_put.proofs.Laws.{no_bytes, next-byte, all-bytes}
 use Rattle.text_put.proofs.put.Goals as goal
 

@@ -1,9 +1,7 @@
 -- The first i bytes are put.
 use Prim.Native.Nat.{◌+◌, ◌-◌, ◌≤◌}
-use native.Mathlib.Omega.{arith}
 use lib.ListN.{length, take}
 use Rattle.text_put.specs.Appending.{Appends}
-use Rattle.text_put.proofs.Laws.{no_bytes, next-byte, all-bytes}
 use Rattle.text_put.proofs.put.Given as goal
 
 abbrev pub invariant-loop-i : goal.invariant-loop-i

@@ -1,5 +1,4 @@
 use native.Mathlib.Omega.{arith}
-use borrow.Author.Rules.{rules}
 use Rattle.text_put.proofs.Laws.{byte_put}
 use Rattle.text_put.proofs.put_byte.Goals as goal
 

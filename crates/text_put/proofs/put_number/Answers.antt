@@ -1,8 +1,8 @@
-use mathlib.Core.Path.{◌≡◌, refl}
+use mathlib.Core.Path.{refl}
 use native.Mathlib.Omega.{arith}
-use lib.ListN.{length, length-set}
+use lib.ListN.{length-set}
 use Rattle.layout.proofs.Digits.{tenth-less, spelled}
-use Rattle.text_put.proofs.Laws.{Partly, no-digits, inside, one-before, next-digit, all_digits}
+use Rattle.text_put.proofs.Laws.{no-digits, inside, one-before, next-digit, all_digits}
 use Rattle.text_put.proofs.put_number.Goals as goal
 
 pub width-requires : goal.width-requires

@@ -1,9 +1,7 @@
 -- The last digits are put, behind place `place`, and the digits of n are to come.
-use mathlib.Core.Path.{◌≡◌, refl}
-use native.Mathlib.Omega.{arith}
-use lib.ListN.{length, length-set}
-use Rattle.layout.proofs.Digits.{tenth-less, spelled}
-use Rattle.text_put.proofs.Laws.{Partly, no-digits, inside, one-before, next-digit, all_digits}
+use mathlib.Core.Path.{◌≡◌}
+use lib.ListN.{length}
+use Rattle.text_put.proofs.Laws.{Partly}
 use Rattle.text_put.proofs.put_number.Given as goal
 
 abbrev pub invariant-loop-n : goal.invariant-loop-n

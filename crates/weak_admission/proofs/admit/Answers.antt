@@ -1,6 +1,5 @@
 use Rattle.weak_admission.proofs.Laws.{row-refused, row-admitted}
 use mathlib.Core.Path.{refl}
-use borrow.Author.Rules.{rules}
 use Rattle.weak_admission.proofs.admit.Goals as goal
 
 pub returns-in-Refused : goal.returns-in-Refused

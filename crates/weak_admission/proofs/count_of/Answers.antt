@@ -1,6 +1,5 @@
 use Rattle.weak_admission.proofs.Rows.{roots-damaged, word-damaged, word_counts}
 use native.Mathlib.Omega.{arith}
-use borrow.Author.Rules.{rules}
 use Rattle.weak_admission.proofs.count_of.Goals as goal
 
 pub overflow_cast-roots : goal.overflow_cast-roots

@@ -1,5 +1,4 @@
 use Rattle.weak_admission.proofs.Laws.{lengths-are}
-use borrow.Author.Rules.{rules}
 use Rattle.weak_admission.proofs.lengths_fit.Goals as goal
 
 pub returns : goal.returns

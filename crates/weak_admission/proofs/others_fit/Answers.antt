@@ -1,7 +1,6 @@
 use Rattle.admission.proofs.Laws.{few-squares, few_words, few-places}
 use Rattle.weak_admission.proofs.Laws.{others-are}
 use native.Mathlib.Omega.{arith}
-use borrow.Author.Rules.{rules}
 use Rattle.weak_admission.proofs.others_fit.Goals as goal
 
 pub overflow_mul-squares : goal.overflow_mul-squares

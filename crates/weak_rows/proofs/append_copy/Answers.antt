@@ -1,6 +1,5 @@
 use Rattle.weak_rows.proofs.Copies.{slot-inside, appended}
 use native.Mathlib.Omega.{arith}
-use borrow.Author.Rules.{rules}
 use Rattle.weak_rows.proofs.append_copy.Goals as goal
 
 pub overflow_mul-place : goal.overflow_mul-place

@@ -1,8 +1,6 @@
-use Rattle.weak_rows.proofs.Cells.{Filled, filled_none, filled_next, filled-whole}
+use Rattle.weak_rows.proofs.Cells.{filled_none, filled_next, filled-whole}
 use Rattle.weak_rows.specs.Copies.{copy_in}
 use Rattle.weak_task.specs.Types.{copy}
-use lib.ListN.{length}
-use Prim.Native.Nat.{◌-◌}
 use mathlib.Core.Path.{refl}
 use native.Mathlib.Omega.{arith}
 use Rattle.weak_rows.proofs.clear_copies.Goals as goal

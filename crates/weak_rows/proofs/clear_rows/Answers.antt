@@ -1,8 +1,6 @@
-use Rattle.weak_rows.proofs.Laws.{Cleared, cleared-none, cleared-next, cleared-all}
-use Prim.Native.Nat.{◌-◌, ◌≤◌}
+use Rattle.weak_rows.proofs.Laws.{cleared-none, cleared-next, cleared-all}
 use mathlib.Core.Path.{refl}
 use native.Mathlib.Omega.{arith}
-use borrow.Author.Rules.{rules}
 use Rattle.weak_rows.proofs.clear_rows.Goals as goal
 
 pub loop-i-init : goal.loop-i-init

@@ -1,8 +1,5 @@
-use Rattle.weak_rows.proofs.Laws.{Cleared, cleared-none, cleared-next, cleared-all}
+use Rattle.weak_rows.proofs.Laws.{Cleared}
 use Prim.Native.Nat.{◌-◌, ◌≤◌}
-use mathlib.Core.Path.{refl}
-use native.Mathlib.Omega.{arith}
-use borrow.Author.Rules.{rules}
 use Rattle.weak_rows.proofs.clear_rows.Given as goal
 
 abbrev pub invariant-loop-i : goal.invariant-loop-i

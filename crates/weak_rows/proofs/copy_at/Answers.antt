@@ -1,7 +1,6 @@
 use Rattle.weak_rows.proofs.Cells.{read_at}
 use Rattle.weak_rows.specs.Copies.{copy_in}
 use native.Mathlib.Omega.{arith}
-use borrow.Author.Rules.{rules}
 use Rattle.weak_rows.proofs.copy_at.Goals as goal
 
 pub returns : goal.returns

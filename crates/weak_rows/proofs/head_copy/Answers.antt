@@ -1,5 +1,4 @@
 use Rattle.ring.specs.Ring.{slot_at}
-use borrow.Author.Rules.{rules}
 use Rattle.weak_rows.proofs.head_copy.Goals as goal
 
 pub returns : goal.returns

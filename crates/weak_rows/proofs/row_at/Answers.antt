@@ -1,6 +1,5 @@
 use Rattle.weak_rows.proofs.Laws.{rows_at}
 use native.Mathlib.Omega.{arith}
-use borrow.Author.Rules.{rules}
 use Rattle.weak_rows.proofs.row_at.Goals as goal
 
 pub returns : goal.returns

@@ -1,7 +1,6 @@
 use Rattle.weak_rows.proofs.Laws.{rows-changed}
 use Rattle.weak_rows.specs.Rows.{with_next}
 use native.Mathlib.Omega.{arith}
-use borrow.Author.Rules.{rules}
 use Rattle.weak_rows.proofs.set_next.Goals as goal
 
 pub returns : goal.returns

@@ -1,7 +1,6 @@
 use Rattle.weak_rows.proofs.Laws.{rows-changed}
 use Rattle.weak_task.specs.Rows.{with_pointer}
 use native.Mathlib.Omega.{arith}
-use borrow.Author.Rules.{rules}
 use Rattle.weak_rows.proofs.set_pointer.Goals as goal
 
 pub returns : goal.returns

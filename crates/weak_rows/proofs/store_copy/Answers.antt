@@ -1,6 +1,5 @@
 use Rattle.weak_rows.proofs.Cells.{read-stored}
 use Rattle.weak_rows.specs.Copies.{copy_in}
-use borrow.Author.Rules.{rules}
 use Rattle.weak_rows.proofs.store_copy.Goals as goal
 
 pub returns : goal.returns

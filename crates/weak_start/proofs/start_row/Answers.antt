@@ -7,16 +7,16 @@ pub returns-in-Refused : goal.returns-in-Refused
 returns-in-Refused c = record { starts = start-refused _ _ _ _ _ c.args.judged _ c.admit-admitted.ensures _ _ _ c.in-Refused.is; phase_alone = tt }
 
 pub count_of-counted-requires : goal.count_of-counted-requires
-count_of-counted-requires c = start-words _ _ _ _ _ c.args.judged c.requires.0 _ c.admit-admitted.ensures _ c.admitted-in-To-1.given.1 _ c.requires.1
+count_of-counted-requires c = start-words _ _ _ _ _ c.args.judged c.requires.0 _ c.admit-admitted.ensures _ c.in-To.is _ c.requires.1
 
 pub returns-in_default : goal.returns-in_default
-returns-in_default c = record { starts = start-damaged _ _ _ _ _ c.args.judged _ c.admit-admitted.ensures _ _ c.admitted-in-To-1.given.1 _ c.count_of-counted.ensures c.in_default.is; phase_alone = tt }
+returns-in_default c = record { starts = start-damaged _ _ _ _ _ c.args.judged _ c.admit-admitted.ensures _ _ c.in-To.is _ c.count_of-counted.ensures c.in_default.is; phase_alone = tt }
 
 pub overflow_add-run : goal.overflow_add-run
-overflow_add-run c = omega (arith, start-counts _ _ _ _ _ c.args.judged c.requires.0 _ c.admit-admitted.ensures _ c.admitted-in-To-1.given.1 _ _ c.count_of-counted.ensures _ c.in-At.is)
+overflow_add-run c = omega (arith, start-counts _ _ _ _ _ c.args.judged c.requires.0 _ c.admit-admitted.ensures _ c.in-To.is _ _ c.count_of-counted.ensures _ c.in-At.is)
 
 pub bounds-run-1 : goal.bounds-run-1
-bounds-run-1 c = omega (arith, start-words _ _ _ _ _ c.args.judged c.requires.0 _ c.admit-admitted.ensures _ c.admitted-in-To-1.given.1 _ c.requires.1)
+bounds-run-1 c = omega (arith, start-words _ _ _ _ _ c.args.judged c.requires.0 _ c.admit-admitted.ensures _ c.in-To.is _ c.requires.1)
 
 pub returns : goal.returns
-returns c = record { starts = start-accepted _ _ _ _ _ c.args.judged _ c.admit-admitted.ensures _ _ c.admitted-in-To-1.given.1 _ c.count_of-counted.ensures _ c.in-At.is; phase_alone = phase-alone _ c.args.judged _ c.admit-admitted.ensures _ c.admitted-in-To-1.given.1 }
+returns c = record { starts = start-accepted _ _ _ _ _ c.args.judged _ c.admit-admitted.ensures _ _ c.in-To.is _ c.count_of-counted.ensures _ c.in-At.is; phase_alone = phase-alone _ c.args.judged _ c.admit-admitted.ensures _ c.in-To.is }

@@ -1,6 +1,5 @@
 -- The place never falls, and each turn moves it on.
 use Prim.Native.Nat.{◌≤◌, ◌-◌}
-use borrow.Author.Rules.{rules}
 use lib.ListN.{length}
 use Rattle.cases.proofs.read.digits_at.Given as goal
 

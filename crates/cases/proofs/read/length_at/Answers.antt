@@ -1,6 +1,5 @@
 -- A word of the list fits 32 bits.
 use native.Mathlib.Omega.{arith}
-use borrow.Author.Rules.{rules}
 use Rattle.cases.proofs.read.length_at.Goals as goal
 
 pub overflow_cast-result : goal.overflow_cast-result

@@ -1,6 +1,5 @@
 -- The place stays between where it began and the text's end.
 use Prim.Native.Nat.{◌≤◌, ◌-◌}
-use borrow.Author.Rules.{rules}
 use lib.ListN.{length}
 use Rattle.cases.proofs.read.line_end.Given as goal
 

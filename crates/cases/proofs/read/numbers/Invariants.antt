@@ -1,8 +1,7 @@
 -- The count stays within the list, which keeps its length; each number ends behind its blank.
 use Prim.Native.Nat.{◌≤◌, ◌-◌}
 use mathlib.Core.Path.{◌≡◌}
-use borrow.Author.Rules.{rules}
-use lib.ListN.{length, length-set}
+use lib.ListN.{length}
 use Rattle.cases.proofs.read.numbers.Given as goal
 
 abbrev pub invariant-loop-at : goal.invariant-loop-at

@@ -1,6 +1,5 @@
 -- The index stays within the list.
 use Prim.Native.Nat.{◌≤◌, ◌-◌}
-use borrow.Author.Rules.{rules}
 use lib.ListN.{length}
 use Rattle.cases.proofs.show.hash_counters.Given as goal
 

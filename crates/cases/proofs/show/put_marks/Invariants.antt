@@ -1,8 +1,7 @@
 -- The index stays within the list, which keeps its length.
 use Prim.Native.Nat.{◌≤◌, ◌-◌}
 use mathlib.Core.Path.{◌≡◌}
-use borrow.Author.Rules.{rules}
-use lib.ListN.{length, length-set}
+use lib.ListN.{length}
 use Rattle.cases.proofs.show.put_marks.Given as goal
 
 abbrev pub invariant-loop-i : goal.invariant-loop-i

@@ -9,7 +9,6 @@ use mir.Syntax.{w32, w64}
 use mir.Val.{Fits, SFits, of_z, to_z}
 use mir.ValLaws.{to_z-of_z}
 use borrow.Author.Tests.{le-ltb}
-use borrow.Author.Rules.{rules}
 use Rattle.task.proofs.Counters.{wide, cast_fits}
 use Rattle.cases.proofs.show.raised.Goals as goal
 
