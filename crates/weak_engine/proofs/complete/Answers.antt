@@ -4,16 +4,16 @@ use borrow.Author.Rules.{rules}
 use Rattle.weak_engine.proofs.complete.Goals as goal
 
 pub returns-in-Refused : goal.returns-in-Refused
-returns-in-Refused c = let a = c.args in judged-made a.weights.now a.pred-starts.now a.preds.now a.succ-starts.now a.succs.now a.degrees.now a.fixed.now a.rings.now a.ends.now a.counters.now a.buffers.now a.executed.now a.run.now a.rows.now _ c.sizes_of-sizes.ensures a.limits a.p a.k a.worker.0 c.judge-judged.result c.judge-judged.ensures.judges Complete _ _ c.in-Refused.is
+returns-in-Refused c = let a = c.args in judged-made a.weights.now a.pred_starts.now a.preds.now a.succ_starts.now a.succs.now a.degrees.now a.fixed.now a.rings.now a.ends.now a.counters.now a.buffers.now a.executed.now a.run.now a.rows.now _ c.sizes_of-sizes.ensures a.limits a.p a.k a.worker.0 c.judge-judged.result c.judge-judged.ensures.judges Complete _ _ c.in-Refused.is
 
 pub row_at-row-requires : goal.row_at-row-requires
-row_at-row-requires c = let a = c.args in row-there a.p a.k a.worker.0 c.sizes_of-sizes.result c.judge-judged.result c.judge-judged.ensures.knows c.in_default.is _ (there a.weights.now a.pred-starts.now a.preds.now a.succ-starts.now a.succs.now a.degrees.now a.fixed.now a.rings.now a.ends.now a.counters.now a.buffers.now a.executed.now a.run.now a.rows.now _ c.sizes_of-sizes.ensures)
+row_at-row-requires c = let a = c.args in row-there a.p a.k a.worker.0 c.sizes_of-sizes.result c.judge-judged.result c.judge-judged.ensures.knows c.in_default.is _ (there a.weights.now a.pred_starts.now a.preds.now a.succ_starts.now a.succs.now a.degrees.now a.fixed.now a.rings.now a.ends.now a.counters.now a.buffers.now a.executed.now a.run.now a.rows.now _ c.sizes_of-sizes.ensures)
 
 pub complete_row-stepped-requires : goal.complete_row-stepped-requires
-complete_row-stepped-requires c = let a = c.args in (c.judge-judged.ensures.knows, complete-lent a.weights.now a.pred-starts.now a.preds.now a.succ-starts.now a.succs.now a.degrees.now a.fixed.now a.rings.now a.ends.now a.counters.now a.buffers.now a.executed.now a.run.now a.rows.now _ c.sizes_of-sizes.ensures)
+complete_row-stepped-requires c = let a = c.args in (c.judge-judged.ensures.knows, complete-lent a.weights.now a.pred_starts.now a.preds.now a.succ_starts.now a.succs.now a.degrees.now a.fixed.now a.rings.now a.ends.now a.counters.now a.buffers.now a.executed.now a.run.now a.rows.now _ c.sizes_of-sizes.ensures)
 
 pub store_completed-requires : goal.store_completed-requires
-store_completed-requires c = (let a = c.args in row-there a.p a.k a.worker.0 c.sizes_of-sizes.result c.judge-judged.result c.judge-judged.ensures.knows c.in_default.is _ (there a.weights.now a.pred-starts.now a.preds.now a.succ-starts.now a.succs.now a.degrees.now a.fixed.now a.rings.now a.ends.now a.counters.now a.buffers.now a.executed.now a.run.now a.rows.now _ c.sizes_of-sizes.ensures), (c.row_at-row.ensures, c.complete_row-stepped.ensures.hand_and_write))
+store_completed-requires c = (let a = c.args in row-there a.p a.k a.worker.0 c.sizes_of-sizes.result c.judge-judged.result c.judge-judged.ensures.knows c.in_default.is _ (there a.weights.now a.pred_starts.now a.preds.now a.succ_starts.now a.succs.now a.degrees.now a.fixed.now a.rings.now a.ends.now a.counters.now a.buffers.now a.executed.now a.run.now a.rows.now _ c.sizes_of-sizes.ensures), (c.row_at-row.ensures, c.complete_row-stepped.ensures.hand_and_write))
 
 pub returns : goal.returns
-returns c = let a = c.args in complete-made a.weights.now a.pred-starts.now a.preds.now a.succ-starts.now a.succs.now a.degrees.now a.fixed.now a.rings.now a.ends.now a.counters.now a.buffers.now a.executed.now a.run.now a.rows.now _ c.sizes_of-sizes.ensures a.limits a.p a.k a.worker.0 c.judge-judged.result c.judge-judged.ensures.judges _ _ c.complete_row-stepped.result _ c.row_at-row.ensures c.store_completed.ensures _ _ _ _ _ c.complete_row-stepped.ensures.completes
+returns c = let a = c.args in complete-made a.weights.now a.pred_starts.now a.preds.now a.succ_starts.now a.succs.now a.degrees.now a.fixed.now a.rings.now a.ends.now a.counters.now a.buffers.now a.executed.now a.run.now a.rows.now _ c.sizes_of-sizes.ensures a.limits a.p a.k a.worker.0 c.judge-judged.result c.judge-judged.ensures.judges _ _ c.complete_row-stepped.result _ c.row_at-row.ensures c.store_completed.ensures _ _ _ _ _ c.complete_row-stepped.ensures.completes

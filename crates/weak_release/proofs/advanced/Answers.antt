@@ -6,6 +6,6 @@ use Rattle.weak_release.proofs.advanced.Goals.{then-cursor-count, else-cursor-co
 
 pub returns : goal.returns
 returns c = record { value = elim c.if-cursor-count.branch [
-        then-cursor-count w ↦ advance-last _ _ _ _ w.if-cursor-count.true w.cursor-is w.read-is
-        | else-cursor-count w ↦ advance-on _ _ _ _ w.if-cursor-count.false w.cursor-is w.read-is
+        then-cursor-count w ↦ advance-last _ _ _ _ w.if-cursor-count.true w.read-is w.cursor-is
+        | else-cursor-count w ↦ advance-on _ _ _ _ w.if-cursor-count.false w.read-is w.cursor-is
       ]; value_2 = refl }
