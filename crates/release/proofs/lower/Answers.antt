@@ -1,5 +1,4 @@
 use Rattle.release.proofs.Parts.{lower-made}
-use borrow.Author.Rules.{rules}
 use Rattle.release.proofs.lower.Goals as goal
 
 pub returns : goal.returns

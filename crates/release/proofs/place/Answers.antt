@@ -1,5 +1,4 @@
 use Rattle.release.proofs.Parts.{ring-ready, ring-counter, place-made}
-use borrow.Author.Rules.{rules}
 use Rattle.release.proofs.place.Goals as goal
 
 pub raise-requires : goal.raise-requires

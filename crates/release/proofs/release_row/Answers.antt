@@ -1,6 +1,5 @@
 use Rattle.release.proofs.Whole.{steps-fit, lists-fit, row_keeps, whole-refused, whole-none, lower-ready, whole-lower, place-ready, whole-place}
 use native.Mathlib.Omega.{arith}
-use borrow.Author.Rules.{rules}
 use Rattle.release.proofs.release_row.Goals as goal
 
 pub returns-in-Refused : goal.returns-in-Refused

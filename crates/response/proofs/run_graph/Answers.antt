@@ -6,28 +6,21 @@ use borrow.Author.Rules.{rules}
 use lib.ListN.{length, get_or}
 use Rattle.response.proofs.Laws.{Ready, refusal-put, begun-ready, entries-all, lines-put}
 use Rattle.response.proofs.run_graph.Goals as goal
-use Rattle.response.proofs.run_graph.Goals.{After-begin-answer, After-drive, In_default-1, Start}
+use Rattle.response.proofs.run_graph.Goals.{After-drive}
 
--- once begin has accepted: the function's entry, and the lists that it was lent
-abbrev entry : In_default-1 → Start
-entry c = c.before.before.before.before.before.before.before.before.before.before.before.before.before.before.before.before.before.before.before.before.before.before.before.before.before.before.before.before.before.before.before.before.before.before.before.before.before.before.before.before.before.before.before.before
-
-ready : (c : In_default-1) → let a = (entry c).args in Ready a.weights.now a.preds.now a.executed.now a.run.now
+-- once the turns are taken: what begin laid down is ready for them, and the run is whole
+ready : (c : After-drive) → Ready c.args.weights.now c.args.preds.now c.args.executed.now c.args.run.now
 ready c = begun-ready _ c.engine.ensures _ _ _ c.begin-answer.ensures c.in_default.is
-
--- once the turns are taken
-abbrev told : After-drive → In_default-1
-told c = c.before.before.before.before.before.before.before.before.before.before.before
 
 module _ (c : After-drive) where
   run-words : ◌≡◌ {A = ℕ} (length c.drive.new.run) 2
-  run-words = omega (arith, (ready (told c)).run, (told c).begin-answer.auto, c.drive.auto)
+  run-words = omega (arith, (ready c).run, c.begin-answer.auto, c.drive.auto)
 
-  room : length c.drive.new.executed ≡ 2 * length (entry (told c)).args.weights.now
-  room = omega (arith, (ready (told c)).executed, (told c).begin-answer.auto, c.drive.auto)
+  room : length c.drive.new.executed ≡ 2 * length c.args.weights.now
+  room = omega (arith, (ready c).executed, c.begin-answer.auto, c.drive.auto)
 
-  entries : get_or c.drive.new.run 0 0 ≡ length (entry (told c)).args.weights.now
-  entries = entries-all _ (told c).engine.ensures _ _ _ (told c).begin-answer.ensures (told c).in_default.is _ c.drive.ensures
+  entries : get_or c.drive.new.run 0 0 ≡ length c.args.weights.now
+  entries = entries-all _ c.engine.ensures _ _ _ c.begin-answer.ensures c.in_default.is _ c.drive.ensures
 
 pub put_refused-requires : goal.put_refused-requires
 put_refused-requires c = omega (arith, c.requires)
@@ -37,11 +30,12 @@ returns-in-Refused c = refusal-put _ c.engine.ensures _ _ _ c.begin-answer.ensur
 
 pub drive-requires : goal.drive-requires
 drive-requires c =
-    let r = ready (goal.at.drive-requires c).After-begin-answer in
+    let a = c.args in
+    let r : Ready a.weights.now a.preds.now a.executed.now a.run.now = begun-ready _ c.engine.ensures _ _ _ c.begin-answer.ensures c.in_default.is in
     (r.tasks, (r.edges, omega (arith, r.run)))
 
 pub overflow_cast-weights : goal.overflow_cast-weights
-overflow_cast-weights c = omega (arith, (ready (told (goal.at.overflow_cast-weights c).After-drive)).tasks)
+overflow_cast-weights c = omega (arith, (ready (goal.at.overflow_cast-weights c).After-drive).tasks)
 
 pub bounds-run-1 : goal.bounds-run-1
 bounds-run-1 c = omega (arith, run-words (goal.at.bounds-run-1 c).After-drive)
@@ -50,7 +44,7 @@ pub put_pair-at-requires : goal.put_pair-at-requires
 put_pair-at-requires c = omega (arith, c.requires)
 
 pub bounds-run-0 : goal.bounds-run-0
-bounds-run-0 c = omega (arith, run-words (goal.at.bounds-run-0 c).In_default-1)
+bounds-run-0 c = omega (arith, run-words (goal.at.bounds-run-0 c).After-drive)
 
 pub overflow_cast-run : goal.overflow_cast-run
 overflow_cast-run c = omega (arith, c.type_inv.run 0)
@@ -58,7 +52,7 @@ overflow_cast-run c = omega (arith, c.type_inv.run 0)
 pub put_entries-requires : goal.put_entries-requires
 put_entries-requires c =
     let p = c.put_pair-at.ensures in
-    (omega (arith, (entry (told (goal.at.put_entries-requires c).In_default-1)).requires, (ready (told (goal.at.put_entries-requires c).In_default-1)).tasks, entries (goal.at.put_entries-requires c).In_default-1, p.0.size, p.1), omega (arith, entries (goal.at.put_entries-requires c).In_default-1, room (goal.at.put_entries-requires c).In_default-1))
+    (omega (arith, c.requires, (ready (goal.at.put_entries-requires c).After-drive).tasks, entries (goal.at.put_entries-requires c).After-drive, p.0.size, p.1), omega (arith, entries (goal.at.put_entries-requires c).After-drive, room (goal.at.put_entries-requires c).After-drive))
 
 pub shape_of-succ_starts : goal.shape_of-succ_starts
 shape_of-succ_starts c = omega (arith, c.begin-answer.auto, c.drive.auto)
@@ -92,6 +86,5 @@ shape_of-rows c = omega (arith, c.begin-answer.auto, c.drive.auto)
 
 pub returns : goal.returns
 returns c =
-    let t = told (goal.at.returns c).In_default-1 in
-    lines-put _ t.engine.ensures _ _ _ t.begin-answer.ensures t.in_default.is _ c.drive.ensures
+    lines-put _ c.engine.ensures _ _ _ c.begin-answer.ensures c.in_default.is _ c.drive.ensures
     c.put_pair-at.ensures.0 c.put_entries.ensures

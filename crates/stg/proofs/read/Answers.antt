@@ -6,23 +6,17 @@ use borrow.Author.Rules.{rules}
 use Rattle.layout.specs.Reader.{lent_fit}
 use Rattle.layout.proofs.TableLaws.{Holds, copy-room, read-unfit, read-over, read-laid}
 use Rattle.stg.proofs.read.Goals as goal
-use Rattle.stg.proofs.read.Goals.{After-judge-answer, After-sizes_of-sizes, Start}
+use Rattle.stg.proofs.read.Goals.{After-sizes_of-sizes}
 
--- once the sizes are known: the text judged, the function's entry, and room for the words
-abbrev judged : After-sizes_of-sizes → After-judge-answer
-judged c = c.before.before.before.before
-
-abbrev entry : After-sizes_of-sizes → Start
-entry c = (judged c).before.before.before.before.before.before.before.before.before.before
-
-fits : (c : After-sizes_of-sizes) → lent_fit (entry c).args.weights.now (entry c).args.starts.now (entry c).args.preds.now ≡ true
-fits c = not-false _ (judged c).if-not-fit.false-raw
+-- once the sizes are known there is room for the words
+fits : (c : After-sizes_of-sizes) → lent_fit c.args.weights.now c.args.starts.now c.args.preds.now ≡ true
+fits c = not-false _ c.if-not-fit.false-raw
 
 holds : (c : After-sizes_of-sizes) → Holds c.sizes_of-sizes.result.weights c.sizes_of-sizes.result.starts c.sizes_of-sizes.result.preds
-    (judged c).judge.new.weights (judged c).judge.new.starts (judged c).judge.new.preds
-    (entry c).args.weights.now (entry c).args.starts.now (entry c).args.preds.now
+    c.judge-answer.new.weights c.judge-answer.new.starts c.judge-answer.new.preds
+    c.args.weights.now c.args.starts.now c.args.preds.now
 holds c =
-    copy-room (entry c).args.weights.now (entry c).args.starts.now (entry c).args.preds.now (fits c) (judged c).judge.ensures
+    copy-room c.args.weights.now c.args.starts.now c.args.preds.now (fits c) c.judge-answer.ensures
     c.sizes_of-sizes.ensures
 
 pub returns-then-not-fit : goal.returns-then-not-fit
@@ -47,6 +41,6 @@ copy-requires-3 c = (holds (goal.at.copy-requires-3 c).After-sizes_of-sizes).pre
 
 pub returns : goal.returns
 returns c =
-    let a = (entry (goal.at.returns c).After-sizes_of-sizes).args in
-    read-laid a.text.now a.weights.now a.starts.now a.preds.now (fits (goal.at.returns c).After-sizes_of-sizes) (judged (goal.at.returns c).After-sizes_of-sizes).if-text-gt65536.false (judged (goal.at.returns c).After-sizes_of-sizes).judge.ensures
-    c.sizes_of-sizes.ensures _ _ _ c.copy.ensures c.copy-2.ensures c.copy-3.ensures
+    let a = c.args in
+    read-laid a.text.now a.weights.now a.starts.now a.preds.now (fits (goal.at.returns c).After-sizes_of-sizes) c.if-text-gt65536.false
+    c.judge-answer.ensures c.sizes_of-sizes.ensures _ _ _ c.copy.ensures c.copy-2.ensures c.copy-3.ensures

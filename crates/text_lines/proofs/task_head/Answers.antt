@@ -5,27 +5,15 @@ use Rattle.layout.specs.Scan.{NumbersAt}
 use Rattle.layout.proofs.TaskLaws.{number-wrong, number-right, time-wrong, time-right, count-wrong, count-right}
 use borrow.Author.Rules.{rules}
 use Rattle.text_lines.proofs.task_head.Goals as goal
-use Rattle.text_lines.proofs.task_head.Goals.{Else-count-t, Else-number-t, Else-time-t, Start}
-
-abbrev start : Else-number-t → Start
-start c = c.before.before.before.before
-
-abbrev number_passed : Else-time-t → Else-number-t
-number_passed c = c.before.before.before.before
-
-abbrev time-passed : Else-count-t → Else-time-t
-time-passed c = c.before.before.before.before
+use Rattle.text_lines.proofs.task_head.Goals.{Else-number-t, Else-time-t}
 
 -- the line starts with t
-number : (c : Else-number-t) → NumbersAt (start c).args.text.now (start c).args.at ((start c).args.t ∷ []) c.next_number-number.result.next
+number : (c : Else-number-t) → NumbersAt c.args.text.now c.args.at (c.args.t ∷ []) c.next_number-number.result.next
 number c = number-right c.next_number-number.ensures (omega arith) (omega arith)
 
 -- and a time follows
-time : (c : Else-time-t)
-    → NumbersAt (start (number_passed c)).args.text.now (start (number_passed c)).args.at
-    ((start (number_passed c)).args.t ∷ c.next_number-time.result.value ∷ [])
-    c.next_number-time.result.next
-time c = time-right (start (number_passed c)).args.last (number (number_passed c)) c.next_number-time.ensures c.if-time-t.false
+time : (c : Else-time-t) → NumbersAt c.args.text.now c.args.at (c.args.t ∷ c.next_number-time.result.value ∷ []) c.next_number-time.result.next
+time c = time-right c.args.last (number-right c.next_number-number.ensures (omega arith) (omega arith)) c.next_number-time.ensures c.if-time-t.false
 
 pub returns-then-number-t : goal.returns-then-number-t
 returns-then-number-t c = number-wrong c.next_number-number.ensures (omega arith)
@@ -35,7 +23,7 @@ next_number-time-requires c = (number (goal.at.next_number-time-requires c).Else
 
 pub returns-then-time-t : goal.returns-then-time-t
 returns-then-time-t c =
-    time-wrong {last = (start (goal.at.returns-then-time-t c).Else-number-t).args.last} (number (goal.at.returns-then-time-t c).Else-number-t) c.next_number-time.ensures c.if-time-t.true
+    time-wrong {last = c.args.last} (number (goal.at.returns-then-time-t c).Else-number-t) c.next_number-time.ensures c.if-time-t.true
 
 pub next_number-count-requires : goal.next_number-count-requires
 next_number-count-requires c = (time (goal.at.next_number-count-requires c).Else-time-t).inside
@@ -45,5 +33,5 @@ returns-then-count-t c = count-wrong (time (goal.at.returns-then-count-t c).Else
 
 pub returns : goal.returns
 returns c =
-    count-right _ (number (number_passed (time-passed (goal.at.returns c).Else-count-t))) c.next_number-time.ensures
-    (time-passed (goal.at.returns c).Else-count-t).if-time-t.false c.next_number-count.ensures c.if-count-t.false
+    count-right _ (number (goal.at.returns c).Else-number-t) c.next_number-time.ensures
+    c.if-time-t.false c.next_number-count.ensures c.if-count-t.false

@@ -13,7 +13,7 @@ use Rattle.text_lines.specs.declared.TaskLine.TheVariants as line
 use Rattle.text_lines.specs.TaskLines.{TaskFound, task-broken, task-over, task-read}
 use borrow.Author.Rules.{rules}
 use Rattle.text_lines.proofs.task_line.Goals as goal
-use Rattle.text_lines.proofs.task_line.Goals.{Else-not-end, Else-not-head, Else-not-span, Start}
+use Rattle.text_lines.proofs.task_line.Goals.{Else-not-end, Else-not-head, Else-not-span}
 
 -- a line whose head, predecessors and end are found
 module _ {text : List ℕ} {at t : ℕ} {last : Bool} {time count p e q : ℕ} {w s preds new : List ℕ} (h : Head text at t last time count p)
@@ -36,32 +36,18 @@ module _ {text : List ℕ} {at t : ℕ} {last : Bool} {time count p e q : ℕ} {
       })
 
 -- what is known of this line's head, predecessors and end, where each is found
-abbrev start : Else-not-head → Start
-start c = c.before.before.before.before.before.before.before
-
-abbrev head_passed : Else-not-span → Else-not-head
-head_passed c = c.before.before.before.before.before.before.before
-
-abbrev preds-passed : Else-not-end → Else-not-span
-preds-passed c = c.before.before.before
-
 header : (c : Else-not-head)
-    → Head (start c).args.text.now (start c).args.at (start c).args.t (start c).args.last
-    c.task_head-head.result.time c.task_head-head.result.count c.task_head-head.result.next
+    → Head c.args.text.now c.args.at c.args.t c.args.last c.task_head-head.result.time c.task_head-head.result.count c.task_head-head.result.next
 header c = head-is c.task_head-head.ensures (not-false _ c.if-not-head.false)
 
 filling : (c : Else-not-span)
-    → Filling (start (head_passed c)).args.text.now (head_passed c).task_head-head.result.next (start (head_passed c)).args.e
-    (start (head_passed c)).args.preds.now c.fill_numbers-span.result.next
-    ((start (head_passed c)).args.e + (head_passed c).task_head-head.result.count)
-    c.fill_numbers-span.new.words
+    → Filling c.args.text.now c.task_head-head.result.next c.args.e c.args.preds.now c.fill_numbers-span.result.next
+    (c.args.e + c.task_head-head.result.count) c.fill_numbers-span.new.words
 filling c = filled_is c.fill_numbers-span.ensures (not-false _ c.if-not-span.false)
 
 closed : (c : Else-not-end)
-    → (row_at (start (head_passed (preds-passed c))).args.text.now (preds-passed c).fill_numbers-span.result.next
-    ≡ some [])
-    × NextLine (start (head_passed (preds-passed c))).args.text.now (preds-passed c).fill_numbers-span.result.next
-    c.close-end.result.next
+    → (row_at c.args.text.now c.fill_numbers-span.result.next ≡ some [])
+    × NextLine c.args.text.now c.fill_numbers-span.result.next c.close-end.result.next
 closed c = closes-is c.close-end.ensures (not-false _ c.if-not-end.false)
 
 pub returns-then-not-head : goal.returns-then-not-head
@@ -70,7 +56,7 @@ returns-then-not-head c = task-broken refl (head-not c.task_head-head.ensures (n
 pub fill_numbers-span-requires : goal.fill_numbers-span-requires
 fill_numbers-span-requires c = (
   (header (goal.at.fill_numbers-span-requires c).Else-not-head).numbers.inside,
-  ((header (goal.at.fill_numbers-span-requires c).Else-not-head).few, (omega (arith, (start (goal.at.fill_numbers-span-requires c).Else-not-head).requires.1.1.0), (start (goal.at.fill_numbers-span-requires c).Else-not-head).requires.1.1.1.1.1)),
+  ((header (goal.at.fill_numbers-span-requires c).Else-not-head).few, (omega (arith, c.requires.1.1.0), c.requires.1.1.1.1.1)),
 )
 
 pub returns-then-not-span : goal.returns-then-not-span
@@ -85,25 +71,25 @@ close-end-requires c = (filling (goal.at.close-end-requires c).Else-not-span).nu
 pub returns-then-not-end : goal.returns-then-not-end
 returns-then-not-end c =
     task-broken refl
-    (line-open (header (head_passed (goal.at.returns-then-not-end c).Else-not-span)) (filling (goal.at.returns-then-not-end c).Else-not-span)
+    (line-open (header (goal.at.returns-then-not-end c).Else-not-head) (filling (goal.at.returns-then-not-end c).Else-not-span)
     (closes-not c.close-end.ensures (not-true _ c.if-not-end.true)))
 
 pub overflow_add-e : goal.overflow_add-e
 overflow_add-e c =
-    omega (arith, (header (head_passed (preds-passed (goal.at.overflow_add-e c).Else-not-end))).few, (start (head_passed (preds-passed (goal.at.overflow_add-e c).Else-not-end))).requires.1.1.0)
+    omega (arith, (header (goal.at.overflow_add-e c).Else-not-head).few, c.requires.1.1.0)
 
 pub returns-then-e-count-gt8192 : goal.returns-then-e-count-gt8192
 returns-then-e-count-gt8192 c =
-    over-made (header (head_passed (preds-passed (goal.at.returns-then-e-count-gt8192 c).Else-not-end))) (filling (preds-passed (goal.at.returns-then-e-count-gt8192 c).Else-not-end)) (closed (goal.at.returns-then-e-count-gt8192 c).Else-not-end).0
+    over-made (header (goal.at.returns-then-e-count-gt8192 c).Else-not-head) (filling (goal.at.returns-then-e-count-gt8192 c).Else-not-span) (closed (goal.at.returns-then-e-count-gt8192 c).Else-not-end).0
     (omega (arith, c.if-e-count-gt8192.true))
 
 pub bounds-weights-t : goal.bounds-weights-t
-bounds-weights-t c = omega (arith, (start (head_passed (preds-passed (goal.at.bounds-weights-t c).Else-not-end))).requires)
+bounds-weights-t c = omega (arith, c.requires)
 
 pub bounds-starts-t : goal.bounds-starts-t
-bounds-starts-t c = omega (arith, (start (head_passed (preds-passed (goal.at.bounds-starts-t c).Else-not-end))).requires)
+bounds-starts-t c = omega (arith, c.requires)
 
 pub returns : goal.returns
 returns c =
-    read_made (header (head_passed (preds-passed (goal.at.returns c).Else-not-end))) (filling (preds-passed (goal.at.returns c).Else-not-end)) (closed (goal.at.returns c).Else-not-end)
+    read_made (header (goal.at.returns c).Else-not-head) (filling (goal.at.returns c).Else-not-span) (closed (goal.at.returns c).Else-not-end)
     (omega (arith, c.if-e-count-gt8192.false))

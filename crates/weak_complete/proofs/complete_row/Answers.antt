@@ -1,5 +1,4 @@
 use Rattle.weak_complete.proofs.Laws.{plan-asks, copy-asks, sink-asks, inner-asks, row-refused, hand-and-write, rule-refuses, copy-made, sink-made, inner_made}
-use borrow.Author.Rules.{rules}
 use native.Mathlib.Omega.{arith}
 use Rattle.weak_admission.proofs.Rows.{admission-measured}
 use Rattle.weak_complete.proofs.complete_row.Goals as goal

@@ -1,7 +1,6 @@
 use Prim.Native.Nat.{◌+◌}
 use Rattle.weak_complete.proofs.Laws.{run_inside}
 use mathlib.Core.Path.{refl}
-use borrow.Author.Rules.{rules}
 use Rattle.weak_complete.proofs.join_record.Goals as goal
 
 pub bounds-run-0 : goal.bounds-run-0

@@ -1,7 +1,6 @@
 use native.Mathlib.Omega.{arith}
 use mir.Facts.{Fits-32_64}
 use Rattle.weak_complete.proofs.Laws.{plan-roots, plan-full, plan-over, plan-held, plan-none, plan-beyond, plan-last, plan-copy, held-within, opens}
-use borrow.Author.Rules.{rules}
 use Rattle.weak_complete.proofs.plan_complete.Goals as goal
 
 pub overflow_cast-roots : goal.overflow_cast-roots

@@ -1,6 +1,5 @@
 use Rattle.weak_complete.proofs.Laws.{copy-counted, copy-planned}
 use native.Mathlib.Omega.{arith}
-use borrow.Author.Rules.{rules}
 use Rattle.weak_complete.proofs.plan_copy.Goals as goal
 
 pub overflow_cast-accepted : goal.overflow_cast-accepted

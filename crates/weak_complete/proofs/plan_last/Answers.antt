@@ -1,7 +1,6 @@
 use native.Mathlib.Omega.{arith}
 use mir.Facts.{Fits-32_64}
 use Rattle.weak_complete.proofs.Laws.{last-heavy, last-counter, last-beyond, last-back, sink-counted, last-sink, last-full, last-places, inner-counted, last_inner}
-use borrow.Author.Rules.{rules}
 use Rattle.weak_complete.proofs.plan_last.Goals as goal
 
 pub returns-then-weight-gt65535 : goal.returns-then-weight-gt65535

@@ -1,5 +1,4 @@
 use Rattle.weak_complete.proofs.Laws.{second-inside, words-stored}
-use borrow.Author.Rules.{rules}
 use Rattle.weak_complete.proofs.put_copy.Goals as goal
 
 pub bounds-executed-n-2 : goal.bounds-executed-n-2

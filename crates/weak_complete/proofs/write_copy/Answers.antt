@@ -1,5 +1,4 @@
 use Rattle.weak_complete.proofs.Laws.{copy_written}
-use borrow.Author.Rules.{rules}
 use Rattle.weak_complete.proofs.write_copy.Goals as goal
 
 pub join_record-requires : goal.join_record-requires

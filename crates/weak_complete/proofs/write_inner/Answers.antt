@@ -1,6 +1,5 @@
 use native.Mathlib.Omega.{arith}
 use Rattle.weak_complete.proofs.Laws.{inner-written}
-use borrow.Author.Rules.{rules}
 use Rattle.weak_complete.proofs.write_inner.Goals as goal
 
 pub lower-requires : goal.lower-requires

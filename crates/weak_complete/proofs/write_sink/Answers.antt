@@ -1,5 +1,4 @@
 use Rattle.weak_complete.proofs.Laws.{sink-written}
-use borrow.Author.Rules.{rules}
 use Rattle.weak_complete.proofs.write_sink.Goals as goal
 
 pub lower-requires : goal.lower-requires
