@@ -5,4 +5,4 @@ use borrow.Author.Rules.{rules}
 use Rattle.desk_trials.proofs.respond.Goals as goal
 
 pub slice_bounds-say-end : goal.slice_bounds-say-end
-slice_bounds-say-end c = simp length-take (omega arith)
+slice_bounds-say-end g c = simp length-take (omega arith)
