@@ -1,7 +1,6 @@
 -- The list of words keeps its length, and each turn moves on behind a line's end.
 use Prim.Native.Nat.{◌-◌}
 use mathlib.Core.Path.{◌≡◌}
-use borrow.Author.Rules.{rules}
 use lib.ListN.{length}
 use Rattle.run_trials.proofs.run_lines.Given as goal
 

@@ -1,7 +1,5 @@
 -- The lists keep their lengths, and the calls left grow fewer.
 use mathlib.Core.Path.{◌≡◌}
-use native.Mathlib.Omega.{arith}
-use borrow.Author.Rules.{rules}
 use lib.ListN.{length}
 use Rattle.run_trials.proofs.run_script.Given as goal
 

@@ -1,6 +1,5 @@
 -- The index stays within the questions; each turn takes two of them.
 use Prim.Native.Nat.{◌≤◌, ◌-◌}
-use borrow.Author.Rules.{rules}
 use lib.ListN.{length}
 use Rattle.trials.proofs.ask_all.Given as goal
 

@@ -1,7 +1,6 @@
 -- A part of each array is as long as was asked.
 use native.Mathlib.Omega.{arith}
 use lib.ListN.{length-take, length-replicate}
-use borrow.Author.Rules.{rules}
 use Rattle.trials.proofs.lend.Goals as goal
 
 pub slice_bounds-link_lent-end : goal.slice_bounds-link_lent-end
