@@ -3,10 +3,13 @@
 
 use scripts::script::{Call, Command};
 use scripts::tell;
+use std::io;
+use std::io::Write;
 use task::{Limits, RowCell, WorkerId};
 
 // Makes a call; whether it is accepted.
-pub fn make(
+pub fn make<W: Write>(
+    out: &mut W,
     command: Command,
     call: Call,
     worker: WorkerId,
@@ -23,7 +26,7 @@ pub fn make(
     executed: &mut [u32],
     run: &mut [u32],
     rows: &mut [RowCell],
-) -> bool {
+) -> io::Result<bool> {
     let p = command.p as usize;
     let k = command.k as usize;
     match call {
@@ -46,10 +49,11 @@ pub fn make(
                 p,
                 k,
             );
-            tell::begun(answer)
+            tell::begun(out, answer)
         }
         Call::Lists => {
             tell::lists(
+                out,
                 weights,
                 pred_starts,
                 preds,
@@ -63,8 +67,8 @@ pub fn make(
                 executed,
                 run,
                 rows,
-            );
-            true
+            )?;
+            Ok(true)
         }
         Call::Step(which) => {
             let answer = engine_step::step(
@@ -87,7 +91,7 @@ pub fn make(
                 k,
                 worker,
             );
-            tell::answered(command, worker, which, answer)
+            tell::answered(out, command, worker, which, answer)
         }
     }
 }

@@ -1,5 +1,9 @@
-// Reading lines of decimal numbers.
+// Reading the input, and lines of decimal numbers.
 ghost use Rattle.std.specs.Prelude.{◌≡◌, ◌≤◌, ◌<◌, length};
+ghost use Rattle.std.specs.Io.{ReadsAtMost};
+
+use std::io;
+use std::io::Read;
 
 // The value that digits spell, and the place after them.
 #[derive(Clone, Copy)]
@@ -136,6 +140,21 @@ pub fn length_at(case: &[u32], place: usize) -> usize
     ensures { result ≤ 4294967295 }
 {
     case[place] as usize
+}
+
+// Reads until the room is full or the reader is at its end; how many bytes stand at the room's start then.
+pub fn full<R: Read>(from: &mut R, space: &mut [u8]) -> io::Result<usize>
+    ensures { ReadsAtMost result space.new }
+{
+    let mut done = 0;
+    while done < space.len() {
+        let count = from.read(&mut space[done..])?;
+        if count == 0 {
+            break;
+        }
+        done += count;
+    }
+    Ok(done)
 }
 
 // Room for the whole input.

@@ -1,31 +1,39 @@
 // Printing answers and lists, and the words that a lent list holds before a call.
-use libc::STDOUT_FILENO;
+ghost use Rattle.std.specs.Prelude.{OnOk, decimal};
+ghost use Rattle.std.specs.Io.KnownBytes.{Appends};
+
+use std::io;
+use std::io::Write;
 use task::{Answer, RowCell};
 
-pub fn say(bytes: &[u8]) {
-    io::write_all(STDOUT_FILENO, bytes);
+pub fn say<W: Write>(out: &mut W, bytes: &[u8]) -> io::Result<()>
+    ensures { OnOk result (Appends (W.contents out.old) (W.contents out.new) bytes.now) }
+{
+    out.write_all(bytes)
 }
 
-pub fn number(n: u64) {
-    io::print_decimal(STDOUT_FILENO, n);
+pub fn number<W: Write>(out: &mut W, n: u64) -> io::Result<()>
+    ensures { OnOk result (Appends (W.contents out.old) (W.contents out.new) (decimal n)) }
+{
+    write!(out, "{n}")
 }
 
 // A line that is no case.
-pub fn unreadable() {
-    say(b"unreadable\n");
+pub fn unreadable<W: Write>(out: &mut W) -> io::Result<()> {
+    say(out, b"unreadable\n")
 }
 
-pub fn pair(a: u32, b: u32) {
-    number(a as u64);
-    say(b" ");
-    number(b as u64);
+pub fn pair<W: Write>(out: &mut W, a: u32, b: u32) -> io::Result<()> {
+    number(out, a as u64)?;
+    say(out, b" ")?;
+    number(out, b as u64)
 }
 
 // The number and the detail; 0 and 0 where accepted.
-pub fn answer(answer: Answer) {
+pub fn answer<W: Write>(out: &mut W, answer: Answer) -> io::Result<()> {
     match answer {
-        Answer::Refused(number, detail) => pair(number, detail),
-        Answer::Accepted => pair(0, 0),
+        Answer::Refused(number, detail) => pair(out, number, detail),
+        Answer::Accepted => pair(out, 0, 0),
     }
 }
 
@@ -53,19 +61,20 @@ fn has_marks(list: &[u32]) -> bool {
     true
 }
 
-fn spaced(i: usize, word: u32) {
+fn spaced<W: Write>(out: &mut W, i: usize, word: u32) -> io::Result<()> {
     if 0 < i {
-        say(b" ");
+        say(out, b" ")?;
     }
-    number(word as u64);
+    number(out, word as u64)
 }
 
-pub fn words(list: &[u32]) {
+pub fn words<W: Write>(out: &mut W, list: &[u32]) -> io::Result<()> {
     let mut i = 0;
     while i < list.len() {
-        spaced(i, list[i]);
+        spaced(out, i, list[i])?;
         i += 1;
     }
+    Ok(())
 }
 
 // One step of the hash: a polynomial modulo a prime below 2^32.
@@ -117,28 +126,27 @@ pub fn hash_rows(rows: &[RowCell]) -> u64 {
 }
 
 // The words of a short list; the length and the hash of a long one.
-pub fn list(list: &[u32]) {
+pub fn list<W: Write>(out: &mut W, list: &[u32]) -> io::Result<()> {
     if list.len() == 0 {
-        say(b"-");
-    } else if list.len() <= 16 {
-        words(list);
-    } else {
-        number(list.len() as u64);
-        say(b" words ");
-        number(hash(list));
+        return say(out, b"-");
     }
+    if list.len() <= 16 {
+        return words(out, list);
+    }
+    number(out, list.len() as u64)?;
+    say(out, b" words ")?;
+    number(out, hash(list))
 }
 
 // A lent list after the call.
-pub fn left(after: &[u32]) {
+pub fn left<W: Write>(out: &mut W, after: &[u32]) -> io::Result<()> {
     if (0 < after.len()) & has_marks(after) {
-        say(b"kept");
-    } else {
-        list(after);
+        return say(out, b"kept");
     }
+    list(out, after)
 }
 
-pub fn lent(after: &[u32]) {
-    say(b" | ");
-    left(after);
+pub fn lent<W: Write>(out: &mut W, after: &[u32]) -> io::Result<()> {
+    say(out, b" | ")?;
+    left(out, after)
 }

@@ -8,30 +8,34 @@
 #![tactic(auto)]
 
 use cases::{lines, read, show};
+use std::io;
+use std::io::Write;
 
 // All that the desk program prints for a text.
-fn respond(text: &[u8]) {
-    let mut out = [0u8; 32768];
-    let end = response::respond(text, &mut out);
-    show::say(&out[..task::smaller(end, 32768)]);
+fn respond<W: Write>(out: &mut W, text: &[u8]) -> io::Result<()> {
+    let mut printed = [0u8; 32768];
+    let end = response::respond(text, &mut printed);
+    show::say(out, &printed[..task::smaller(end, 32768)])
 }
 
-fn run(input: &[u8]) {
+fn run<W: Write>(out: &mut W, input: &[u8]) -> io::Result<()> {
     let mut words = [0u32; 8];
     let mut at = 0;
     while at < input.len() {
-        let text = lines::text_at(input, at, 1, &mut words);
+        let text = lines::text_at(out, input, at, 1, &mut words)?;
         let from = text.from;
         let end = text.end;
         if text.good {
-            respond(&input[from..end]);
+            respond(out, &input[from..end])?;
         }
         at = text.next;
     }
+    Ok(())
 }
 
-fn main() {
+fn main(rt: HostRuntime) -> io::Result<()> {
+    let mut out = rt.stdout();
     let mut space = read::room();
-    let count = lines::input(&mut space);
-    run(&space[..count]);
+    let count = lines::input(&mut rt.stdin(), &mut out, &mut space)?;
+    run(&mut out, &space[..count])
 }

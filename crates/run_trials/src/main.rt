@@ -12,10 +12,13 @@ ghost use Rattle.std.specs.Prelude.{◌≤◌};
 
 use cases::{lines, read, show};
 use scripts::script;
+use std::io;
+use std::io::Write;
 use task::{ROW_WORDS, RowCell, WorkerId};
 
 // Makes the calls of a script.
-fn run_script(
+fn run_script<W: Write>(
+    out: &mut W,
     script: &[u32],
     weights: &[u32],
     pred_starts: &[u32],
@@ -30,13 +33,14 @@ fn run_script(
     executed: &mut [u32],
     run: &mut [u32],
     rows: &mut [RowCell],
-) {
+) -> io::Result<()> {
     let mut at = script::entered(script, 0);
     let mut left = script::left_at(script, 0, 4194304);
     while 0 < left {
         let command = script::command_at(script, at.place);
         let call = script::call_of(command, at.tried);
         let accepted = calls::make(
+            out,
             command,
             call,
             WorkerId::new(at.worker),
@@ -53,10 +57,11 @@ fn run_script(
             executed,
             run,
             rows,
-        );
+        )?;
         at = script::after(script, command, at, accepted);
         left = script::left_at(script, at.place, left - 1);
     }
+    Ok(())
 }
 
 // A length of a case, up to the room that there is.
@@ -81,7 +86,14 @@ fn fill_of(case: &[u32]) -> u32
 }
 
 // Lends lists of the lengths that the case names.
-fn lend(case: &[u32], weights: &[u32], pred_starts: &[u32], preds: &[u32], script: &[u32]) {
+fn lend<W: Write>(
+    out: &mut W,
+    case: &[u32],
+    weights: &[u32],
+    pred_starts: &[u32],
+    preds: &[u32],
+    script: &[u32],
+) -> io::Result<()> {
     let fill = fill_of(case);
     let signed = fill as i32;
     let row = [fill; ROW_WORDS];
@@ -96,6 +108,7 @@ fn lend(case: &[u32], weights: &[u32], pred_starts: &[u32], preds: &[u32], scrip
     let mut run = [fill; 8];
     let mut rows = [row; 20];
     run_script(
+        out,
         script,
         weights,
         pred_starts,
@@ -110,48 +123,55 @@ fn lend(case: &[u32], weights: &[u32], pred_starts: &[u32], preds: &[u32], scrip
         &mut executed[..capped(case, 11, 2056)],
         &mut run[..capped(case, 12, 8)],
         &mut rows[..capped(case, 13, 20)],
-    );
+    )
 }
 
-fn run_case(case: &[u32]) {
+fn run_case<W: Write>(out: &mut W, case: &[u32]) -> io::Result<()> {
     if case.len() < 14 {
-        show::unreadable();
-        return;
+        return show::unreadable(out);
     }
     let a = 14 + read::length_at(case, 1);
     let b = a + read::length_at(case, 2);
     let c = b + read::length_at(case, 3);
     if case.len() < c {
-        show::unreadable();
-        return;
+        return show::unreadable(out);
     }
     if (case.len() - c) % 6 != 0 {
-        show::unreadable();
-        return;
+        return show::unreadable(out);
     }
-    lend(case, &case[14..a], &case[a..b], &case[b..c], &case[c..]);
+    lend(
+        out,
+        case,
+        &case[14..a],
+        &case[a..b],
+        &case[b..c],
+        &case[c..],
+    )
 }
 
-fn run_line(line: &[u8], words: &mut [u32]) {
-    let numbers = lines::numbers_of(line, b'r', words);
+fn run_line<W: Write>(out: &mut W, line: &[u8], words: &mut [u32]) -> io::Result<()> {
+    let numbers = lines::numbers_of(out, line, b'r', words)?;
     let count = numbers.count;
     if numbers.good {
-        run_case(&words[..count]);
+        run_case(out, &words[..count])?;
     }
+    Ok(())
 }
 
-fn run_lines(text: &[u8]) {
+fn run_lines<W: Write>(out: &mut W, text: &[u8]) -> io::Result<()> {
     let mut words = [0u32; 24576];
     let mut at = 0;
     while at < text.len() {
         let end = read::line_end(text, at);
-        run_line(&text[at..end], &mut words);
+        run_line(out, &text[at..end], &mut words)?;
         at = end + 1;
     }
+    Ok(())
 }
 
-fn main() {
+fn main(rt: HostRuntime) -> io::Result<()> {
+    let mut out = rt.stdout();
     let mut space = read::room();
-    let count = lines::input(&mut space);
-    run_lines(&space[..count]);
+    let count = lines::input(&mut rt.stdin(), &mut out, &mut space)?;
+    run_lines(&mut out, &space[..count])
 }

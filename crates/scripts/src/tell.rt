@@ -2,17 +2,19 @@
 use crate::script;
 use crate::script::Command;
 use cases::show;
+use std::io;
+use std::io::Write;
 use task::{Answer, ReleaseOutcome, RowCell, Step, StepAnswer, StepOutcome, WorkerId};
 
 // Begin's number and detail; whether it is accepted.
-pub fn begun(answer: Answer) -> bool {
-    show::say(b"begin ");
-    show::answer(answer);
-    show::say(b"\n");
+pub fn begun<W: Write>(out: &mut W, answer: Answer) -> io::Result<bool> {
+    show::say(out, b"begin ")?;
+    show::answer(out, answer)?;
+    show::say(out, b"\n")?;
     if let Answer::Refused(_, _) = answer {
-        return false;
+        return Ok(false);
     }
-    true
+    Ok(true)
 }
 
 fn is_accepted(answer: StepAnswer) -> bool {
@@ -22,91 +24,103 @@ fn is_accepted(answer: StepAnswer) -> bool {
     true
 }
 
-fn letter(step: Step) {
+fn letter<W: Write>(out: &mut W, step: Step) -> io::Result<()> {
     match step {
-        Step::Fetch => show::say(b" f"),
-        Step::Start => show::say(b" s"),
-        Step::Complete => show::say(b" c"),
-        Step::Release => show::say(b" r"),
+        Step::Fetch => show::say(out, b" f"),
+        Step::Start => show::say(out, b" s"),
+        Step::Complete => show::say(out, b" c"),
+        Step::Release => show::say(out, b" r"),
     }
 }
 
-fn released(outcome: ReleaseOutcome) {
+fn released<W: Write>(out: &mut W, outcome: ReleaseOutcome) -> io::Result<()> {
     match outcome {
         ReleaseOutcome::DegreeLeft(degree) => {
-            show::say(b" left ");
-            show::number(degree as u64);
+            show::say(out, b" left ")?;
+            show::number(out, degree as u64)
         }
         ReleaseOutcome::Placed(task, owner) => {
-            show::say(b" ");
-            show::number(task.0 as u64);
-            show::say(b" to ");
-            show::number(owner.0 as u64);
+            show::say(out, b" ")?;
+            show::number(out, task.0 as u64)?;
+            show::say(out, b" to ")?;
+            show::number(out, owner.0 as u64)
         }
     }
 }
 
-fn outcome(outcome: StepOutcome) {
+fn outcome<W: Write>(out: &mut W, outcome: StepOutcome) -> io::Result<()> {
     match outcome {
-        StepOutcome::Moved => show::say(b""),
+        StepOutcome::Moved => Ok(()),
         StepOutcome::Fetched(task) => {
-            show::say(b" ");
-            show::number(task.0 as u64);
+            show::say(out, b" ")?;
+            show::number(out, task.0 as u64)
         }
-        StepOutcome::Released(release) => released(release),
+        StepOutcome::Released(release) => released(out, release),
+    }
+}
+
+// What a step answers, behind its letter.
+fn told<W: Write>(out: &mut W, answer: StepAnswer) -> io::Result<()> {
+    match answer {
+        StepAnswer::Refused(number, detail) => {
+            show::say(out, b" refused ")?;
+            show::pair(out, number, detail)
+        }
+        StepAnswer::Accepted(done) => outcome(out, done),
     }
 }
 
 // The worker, the step, and what it answers.
-fn stepped(worker: u32, step: Step, answer: StepAnswer) {
-    show::number(worker as u64);
-    letter(step);
-    match answer {
-        StepAnswer::Refused(number, detail) => {
-            show::say(b" refused ");
-            show::pair(number, detail);
-        }
-        StepAnswer::Accepted(done) => outcome(done),
-    }
-    show::say(b"\n");
+fn stepped<W: Write>(out: &mut W, worker: u32, step: Step, answer: StepAnswer) -> io::Result<()> {
+    show::number(out, worker as u64)?;
+    letter(out, step)?;
+    told(out, answer)?;
+    show::say(out, b"\n")
 }
 
 // Prints a step's answer where the command asks for it; whether it is accepted.
-pub fn answered(command: Command, worker: WorkerId, step: Step, answer: StepAnswer) -> bool {
+pub fn answered<W: Write>(
+    out: &mut W,
+    command: Command,
+    worker: WorkerId,
+    step: Step,
+    answer: StepAnswer,
+) -> io::Result<bool> {
     let accepted = is_accepted(answer);
     if script::prints(command, accepted) {
-        stepped(worker.0, step, answer);
+        stepped(out, worker.0, step, answer)?;
     }
-    accepted
+    Ok(accepted)
 }
 
-fn hashed(hash: u64) {
-    show::say(b" ");
-    show::number(hash);
+fn hashed<W: Write>(out: &mut W, hash: u64) -> io::Result<()> {
+    show::say(out, b" ")?;
+    show::number(out, hash)
 }
 
 // The words of a short record, the length and the hash of a long one.
-fn record(list: &[u32]) {
+fn record<W: Write>(out: &mut W, list: &[u32]) -> io::Result<()> {
     if list.len() <= 128 {
-        show::words(list);
+        show::words(out, list)?;
     } else {
-        show::list(list);
+        show::list(out, list)?;
     }
-    show::say(b"\n");
+    show::say(out, b"\n")
 }
 
 // N, the run words, and the record.
-fn first_lines(n: usize, run: &[u32], executed: &[u32]) {
-    show::number(n as u64);
-    show::say(b" ");
-    show::words(run);
-    show::say(b"\n");
-    record(executed);
-    show::say(b"hashes");
+fn first_lines<W: Write>(out: &mut W, n: usize, run: &[u32], executed: &[u32]) -> io::Result<()> {
+    show::number(out, n as u64)?;
+    show::say(out, b" ")?;
+    show::words(out, run)?;
+    show::say(out, b"\n")?;
+    record(out, executed)?;
+    show::say(out, b"hashes")
 }
 
 // N, the run words, the record, and the hash of each list.
-pub fn lists(
+pub fn lists<W: Write>(
+    out: &mut W,
     weights: &[u32],
     pred_starts: &[u32],
     preds: &[u32],
@@ -120,20 +134,20 @@ pub fn lists(
     executed: &[u32],
     run: &[u32],
     rows: &[RowCell],
-) {
-    first_lines(weights.len(), run, executed);
-    hashed(show::hash(weights));
-    hashed(show::hash(pred_starts));
-    hashed(show::hash(preds));
-    hashed(show::hash(succ_starts));
-    hashed(show::hash(succs));
-    hashed(show::hash(degrees));
-    hashed(show::hash(rings));
-    hashed(show::hash(ends));
-    hashed(show::hash_counters(counters));
-    hashed(show::hash(buffers));
-    hashed(show::hash(executed));
-    hashed(show::hash(run));
-    hashed(show::hash_rows(rows));
-    show::say(b"\n");
+) -> io::Result<()> {
+    first_lines(out, weights.len(), run, executed)?;
+    hashed(out, show::hash(weights))?;
+    hashed(out, show::hash(pred_starts))?;
+    hashed(out, show::hash(preds))?;
+    hashed(out, show::hash(succ_starts))?;
+    hashed(out, show::hash(succs))?;
+    hashed(out, show::hash(degrees))?;
+    hashed(out, show::hash(rings))?;
+    hashed(out, show::hash(ends))?;
+    hashed(out, show::hash_counters(counters))?;
+    hashed(out, show::hash(buffers))?;
+    hashed(out, show::hash(executed))?;
+    hashed(out, show::hash(run))?;
+    hashed(out, show::hash_rows(rows))?;
+    show::say(out, b"\n")
 }

@@ -12,6 +12,9 @@
 
 ghost use Rattle.std.specs.Prelude.{◌≤◌, ◌<◌, length};
 
+use cases::{lines, read, show};
+use std::io;
+use std::io::Write;
 use task::{Limits, Side, TaskId};
 
 fn side_of(word: u32) -> Side {
@@ -23,7 +26,8 @@ fn side_of(word: u32) -> Side {
 }
 
 // The judging call's answer, and what the lookup hands back.
-fn ask<'a>(
+fn ask<'a, W: Write>(
+    out: &mut W,
     weights: &[u32],
     pred_starts: &[u32],
     preds: &'a [u32],
@@ -31,33 +35,29 @@ fn ask<'a>(
     succs: &'a [u32],
     side: u32,
     task: u32,
-) {
+) -> io::Result<()> {
     let on = side_of(side);
     let named = TaskId::new(task);
-    cases::show::answer(lookup::judge(weights, pred_starts, preds, succ_starts, succs, on, named));
-    cases::show::say(b" : ");
-    cases::show::list(lookup::neighbours(
-        weights,
-        pred_starts,
-        preds,
-        succ_starts,
-        succs,
-        on,
-        named,
-    ));
+    let answer = lookup::judge(weights, pred_starts, preds, succ_starts, succs, on, named);
+    show::answer(out, answer)?;
+    show::say(out, b" : ")?;
+    let found = lookup::neighbours(weights, pred_starts, preds, succ_starts, succs, on, named);
+    show::list(out, found)
 }
 
-fn ask_all<'a>(
+fn ask_all<'a, W: Write>(
+    out: &mut W,
     weights: &[u32],
     pred_starts: &[u32],
     preds: &'a [u32],
     succ_starts: &[u32],
     succs: &'a [u32],
     asked: &[u32],
-) {
+) -> io::Result<()> {
     let mut i = 0;
     while i + 1 < asked.len() {
         ask(
+            out,
             weights,
             pred_starts,
             preds,
@@ -65,45 +65,44 @@ fn ask_all<'a>(
             succs,
             asked[i],
             asked[i + 1],
-        );
+        )?;
         i += 2;
         if i < asked.len() {
-            cases::show::say(b" | ");
+            show::say(out, b" | ")?;
         }
     }
-    cases::show::say(b"\n");
+    show::say(out, b"\n")
 }
 
-fn lookup_case(case: &[u32]) {
+fn lookup_case<W: Write>(out: &mut W, case: &[u32]) -> io::Result<()> {
     if case.len() < 5 {
-        cases::show::unreadable();
-        return;
+        return show::unreadable(out);
     }
-    let a = 5 + cases::read::length_at(case, 0);
-    let b = a + cases::read::length_at(case, 1);
-    let c = b + cases::read::length_at(case, 2);
-    let d = c + cases::read::length_at(case, 3);
-    let e = d + cases::read::length_at(case, 4);
+    let a = 5 + read::length_at(case, 0);
+    let b = a + read::length_at(case, 1);
+    let c = b + read::length_at(case, 2);
+    let d = c + read::length_at(case, 3);
+    let e = d + read::length_at(case, 4);
     if case.len() < e {
-        cases::show::unreadable();
-        return;
+        return show::unreadable(out);
     }
     if (case.len() - e) % 2 != 0 {
-        cases::show::unreadable();
-        return;
+        return show::unreadable(out);
     }
     ask_all(
+        out,
         &case[5..a],
         &case[a..b],
         &case[b..c],
         &case[c..d],
         &case[d..e],
         &case[e..],
-    );
+    )
 }
 
 // Links with the lent lists, and prints the answer and what they hold then.
-fn link_lent(
+fn link_lent<W: Write>(
+    out: &mut W,
     limits: Limits,
     weights: &[u32],
     starts: &[u32],
@@ -111,19 +110,20 @@ fn link_lent(
     succ_starts: &mut [u32],
     succs: &mut [u32],
     degrees: &mut [u32],
-) {
-    cases::show::put_marks(succ_starts);
-    cases::show::put_marks(succs);
-    cases::show::put_marks(degrees);
+) -> io::Result<()> {
+    show::put_marks(succ_starts);
+    show::put_marks(succs);
+    show::put_marks(degrees);
     let answer = link::link_graph(limits, weights, starts, preds, succ_starts, succs, degrees);
-    cases::show::answer(answer);
-    cases::show::lent(succ_starts);
-    cases::show::lent(succs);
-    cases::show::lent(degrees);
+    show::answer(out, answer)?;
+    show::lent(out, succ_starts)?;
+    show::lent(out, succs)?;
+    show::lent(out, degrees)
 }
 
 // Lends lists of the lengths named.
-fn lend(
+fn lend<W: Write>(
+    out: &mut W,
     limits: Limits,
     weights: &[u32],
     starts: &[u32],
@@ -131,13 +131,14 @@ fn lend(
     a: usize,
     b: usize,
     c: usize,
-)
+) -> io::Result<()>
     requires { (a ≤ 8200) × ((b ≤ 8200) × (c ≤ 8200)) }
 {
     let mut succ_starts = [0u32; 8200];
     let mut succs = [0u32; 8200];
     let mut degrees = [0u32; 8200];
     link_lent(
+        out,
         limits,
         weights,
         starts,
@@ -145,11 +146,12 @@ fn lend(
         &mut succ_starts[..a],
         &mut succs[..b],
         &mut degrees[..c],
-    );
+    )
 }
 
 // Checks and links a graph, with lent lists of the lengths named.
-fn run_graph(
+fn run_graph<W: Write>(
+    out: &mut W,
     limits: Limits,
     weights: &[u32],
     starts: &[u32],
@@ -157,19 +159,18 @@ fn run_graph(
     a: usize,
     b: usize,
     c: usize,
-) {
-    if 8200 < cases::read::larger(a, cases::read::larger(b, c)) {
-        cases::show::unreadable();
-        return;
+) -> io::Result<()> {
+    if 8200 < read::larger(a, read::larger(b, c)) {
+        return show::unreadable(out);
     }
-    cases::show::say(b"check ");
+    show::say(out, b"check ")?;
     let mut order = [0u32; 1024];
     let check = graph_check::check_graph(limits, true, true, weights, starts, preds, &mut order);
     let answer = check.answer;
-    cases::show::answer(answer);
-    cases::show::say(b" | link ");
-    lend(limits, weights, starts, preds, a, b, c);
-    cases::show::say(b"\n");
+    show::answer(out, answer)?;
+    show::say(out, b" | link ")?;
+    lend(out, limits, weights, starts, preds, a, b, c)?;
+    show::say(out, b"\n")
 }
 
 // The limits that a case names; the others are the engine's.
@@ -177,30 +178,29 @@ fn limits_of(case: &[u32]) -> Limits
     requires { 2 ≤ length case.now }
 {
     Limits {
-        tasks: cases::read::length_at(case, 0),
-        edges: cases::read::length_at(case, 1),
+        tasks: read::length_at(case, 0),
+        edges: read::length_at(case, 1),
         workers: 16,
         slots: 64,
     }
 }
 
-fn graph_case(case: &[u32]) {
+fn graph_case<W: Write>(out: &mut W, case: &[u32]) -> io::Result<()> {
     if case.len() < 8 {
-        cases::show::unreadable();
-        return;
+        return show::unreadable(out);
     }
-    let a = 8 + cases::read::length_at(case, 2);
-    let b = a + cases::read::length_at(case, 3);
-    let c = b + cases::read::length_at(case, 4);
+    let a = 8 + read::length_at(case, 2);
+    let b = a + read::length_at(case, 3);
+    let c = b + read::length_at(case, 4);
     if case.len() != c {
-        cases::show::unreadable();
-        return;
+        return show::unreadable(out);
     }
     let limits = limits_of(case);
-    let succ_starts = cases::read::length_at(case, 5);
-    let succs = cases::read::length_at(case, 6);
-    let degrees = cases::read::length_at(case, 7);
+    let succ_starts = read::length_at(case, 5);
+    let succs = read::length_at(case, 6);
+    let degrees = read::length_at(case, 7);
     run_graph(
+        out,
         limits,
         &case[8..a],
         &case[a..b],
@@ -208,53 +208,49 @@ fn graph_case(case: &[u32]) {
         succ_starts,
         succs,
         degrees,
-    );
+    )
 }
 
-fn note(line: &[u8]) {
-    cases::show::say(line);
-    cases::show::say(b"\n");
+fn note<W: Write>(out: &mut W, line: &[u8]) -> io::Result<()> {
+    show::say(out, line)?;
+    show::say(out, b"\n")
 }
 
-fn run_line(line: &[u8], words: &mut [u32]) {
+fn run_line<W: Write>(out: &mut W, line: &[u8], words: &mut [u32]) -> io::Result<()> {
     if line.len() == 0 {
-        cases::show::unreadable();
-        return;
+        return show::unreadable(out);
     }
     let kind = line[0];
     if kind == b'#' {
-        note(line);
-        return;
+        return note(out, line);
     }
-    let numbers = cases::read::numbers(line, words);
+    let numbers = read::numbers(line, words);
     let count = numbers.count;
     if !numbers.good {
-        cases::show::unreadable();
+        show::unreadable(out)
     } else if kind == b'g' {
-        graph_case(&words[..count]);
+        graph_case(out, &words[..count])
     } else if kind == b'n' {
-        lookup_case(&words[..count]);
+        lookup_case(out, &words[..count])
     } else {
-        cases::show::unreadable();
+        show::unreadable(out)
     }
 }
 
-fn run(text: &[u8]) {
+fn run<W: Write>(out: &mut W, text: &[u8]) -> io::Result<()> {
     let mut words = [0u32; 24576];
     let mut at = 0;
     while at < text.len() {
-        let end = cases::read::line_end(text, at);
-        run_line(&text[at..end], &mut words);
+        let end = read::line_end(text, at);
+        run_line(out, &text[at..end], &mut words)?;
         at = end + 1;
     }
+    Ok(())
 }
 
-fn main() {
-    let mut space = cases::read::room();
-    let count = io::read_full(libc::STDIN_FILENO, &mut space);
-    if count == 786432 {
-        cases::show::say(b"the input is too long\n");
-        return;
-    }
-    run(&space[..count]);
+fn main(rt: HostRuntime) -> io::Result<()> {
+    let mut out = rt.stdout();
+    let mut space = read::room();
+    let count = lines::input(&mut rt.stdin(), &mut out, &mut space)?;
+    run(&mut out, &space[..count])
 }

@@ -1,11 +1,10 @@
 -- The index stays within the questions; each turn takes two of them.
 use Prim.Native.Nat.{◌≤◌, ◌-◌}
-use borrow.Author.Rules.{rules}
 use lib.ListN.{length}
 use Rattle.trials.proofs.ask_all.Given as goal
 
 abbrev pub invariant-loop-i : goal.invariant-loop-i
-invariant-loop-i l = i ≤ length l.asked
+invariant-loop-i g l = l.i ≤ length l.asked
 
 abbrev pub decreases-loop-i : goal.decreases-loop-i
-decreases-loop-i l = length l.asked - i
+decreases-loop-i g l = length l.asked - l.i
