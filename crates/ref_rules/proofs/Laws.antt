@@ -32,7 +32,6 @@ module _ (w ps p' ss s d r e : List ℕ) (c : List ℤ) (b x n : List ℕ) (rows
       }
 
   pub measured : sizes ≡ sizes_of (mem_of w ps p' ss s d r e c b x n rows)
-  unfolding sizes_of
   measured = refl
 
 pub stored : (rows rows' : List Row) (i : ℕ) (row after : Row) (a : Stepped) → row ≡ get_or rows i idle → after ≡ row_after row a

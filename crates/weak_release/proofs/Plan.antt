@@ -28,7 +28,7 @@ use Rattle.choice.specs.Least.{load, least}
 use Rattle.choice.specs.Search.{Found, unsound, at, search}
 use Rattle.plans.specs.Forms.{own}
 use Rattle.plans.proofs.Searches.{Looked, search-looked}
-use Rattle.weak_rules.specs.Memory.{Mem, tasks, edges, ring_number, successor, fixed_in, made_copy}
+use Rattle.weak_rules.specs.Memory.{Mem, edges, ring_number, successor, fixed_in, made_copy}
 use Rattle.weak_rules.specs.Words.{counters_fit, weight_fits, fixed_fits}
 use Rattle.weak_rules.specs.Plans.{Plan, refuse, accept, refuse_if, checked, with_count}
 use Rattle.weak_rules.specs.Steps.{find_room, release_to, release_first, release_later, release_rule}

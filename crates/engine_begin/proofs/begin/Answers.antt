@@ -1,7 +1,6 @@
 use Rattle.call_laws.proofs.Laws.{begin-made}
 use Rattle.rows.specs.Rows.{rows_of}
 use Rattle.rows.proofs.Laws.{length-rows}
-use borrow.Author.Rules.{rules}
 use Rattle.engine_begin.proofs.begin.Goals as goal
 
 pub returns : goal.returns

@@ -3,7 +3,6 @@ use mathlib.Core.Path.{refl, subst}
 use Rattle.complete.specs.Complete.{HandAndWrite}
 use Rattle.rules.specs.Memory.{with_hand}
 use Rattle.rows.specs.Rows.{with_write}
-use borrow.Author.Rules.{rules}
 use Rattle.engine_cells.proofs.store_completed.Goals as goal
 
 pub returns-in-Refused : goal.returns-in-Refused

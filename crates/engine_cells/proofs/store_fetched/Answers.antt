@@ -2,7 +2,6 @@ use Rattle.engine_cells.proofs.Laws.{two-stored}
 use mathlib.Core.Path.{refl, subst}
 use Rattle.fetch.specs.Fetch.{HandAndPointer}
 use Rattle.rules.specs.Memory.{with_hand, with_pointer}
-use borrow.Author.Rules.{rules}
 use Rattle.engine_cells.proofs.store_fetched.Goals as goal
 
 pub returns-in-Refused : goal.returns-in-Refused

@@ -2,7 +2,6 @@ use Rattle.engine_cells.proofs.Laws.{one-stored}
 use mathlib.Core.Path.{refl, subst}
 use Rattle.start.specs.Start.{PhaseAlone}
 use Rattle.rows.specs.Rows.{with_phase}
-use borrow.Author.Rules.{rules}
 use Rattle.engine_cells.proofs.store_started.Goals as goal
 
 pub returns-in-Refused : goal.returns-in-Refused

@@ -80,7 +80,7 @@ pub returns-in_default : goal.returns-in_default
 returns-in_default c =
     
     not-read c.loop-t.invariant c.next_content-content.ensures c.if-content-text.false c.loop-t-test.true
-    c.task_line-read.ensures refl c.in_default.keys2 c.refused_line.ensures
+    c.task_line-read.ensures refl c.before.before.in_default.in_default-own.keys2 c.refused_line.ensures
 
 pub overflow_add-line : goal.overflow_add-line
 overflow_add-line c =

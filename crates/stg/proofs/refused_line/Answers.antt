@@ -27,7 +27,7 @@ not-over Over l (inr e) = absurd (omega arith)
 pub returns-in-Over : goal.returns-in-Over
 returns-in-Over c =
     let a = c.args in
-    c.over.ensures ∙ is-over a.read a.line c.in-Over.keys1
+    c.over.ensures ∙ is-over a.read a.line c.before.in-Over.in-Over-own.keys1
 
 pub returns-in_default : goal.returns-in_default
-returns-in_default c = c.broken.ensures ∙ not-over c.args.read c.args.line c.in_default.keys2
+returns-in_default c = c.broken.ensures ∙ not-over c.args.read c.args.line c.before.in_default.in_default-own.keys2

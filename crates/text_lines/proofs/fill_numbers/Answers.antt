@@ -1,8 +1,6 @@
-use Prim.Native.Nat.{◌-◌, ◌≤◌}
 use mathlib.Core.Path.{refl}
 use native.Mathlib.Omega.{arith}
-use borrow.Author.Rules.{rules}
-use Rattle.layout.specs.Scan.{Filling, too_few}
+use Rattle.layout.specs.Scan.{too_few}
 use Rattle.layout.proofs.TaskLaws.{found-numbers, found-not, fill_none, fill_more, fill-short, fill-whole}
 use Rattle.text_lines.proofs.fill_numbers.Goals as goal
 

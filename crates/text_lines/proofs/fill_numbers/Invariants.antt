@@ -1,10 +1,6 @@
 -- The numbers found so far stand in the words from e up to k, as far as there is room.
 use Prim.Native.Nat.{◌-◌, ◌≤◌}
-use mathlib.Core.Path.{refl}
-use native.Mathlib.Omega.{arith}
-use borrow.Author.Rules.{rules}
-use Rattle.layout.specs.Scan.{Filling, too_few}
-use Rattle.layout.proofs.TaskLaws.{found-numbers, found-not, fill_none, fill_more, fill-short, fill-whole}
+use Rattle.layout.specs.Scan.{Filling}
 use Rattle.text_lines.proofs.fill_numbers.Given as goal
 
 abbrev pub invariant-loop-k : goal.invariant-loop-k

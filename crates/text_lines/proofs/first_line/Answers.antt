@@ -2,7 +2,6 @@
 use native.Mathlib.Omega.{arith}
 use borrow.Author.Tests.{not-true, not-false}
 use Rattle.layout.proofs.TaskLaws.{found-numbers, found-not, closes-is, closes-not, first-none, first-open, first-whole}
-use borrow.Author.Rules.{rules}
 use Rattle.text_lines.proofs.first_line.Goals as goal
 
 pub returns-then-n-gt65535 : goal.returns-then-n-gt65535

@@ -1,9 +1,7 @@
-use Prim.Native.Nat.{◌-◌}
 use mathlib.Core.Path.{sym, ◌∙◌}
 use native.Mathlib.Omega.{arith}
-use lib.ListN.{length}
 use borrow.Author.Tests.{not-true, not-false}
-use Rattle.layout.proofs.TaskLaws.{Skimmed, skim-none, skim-content, skim-on, skim-more, skim-end}
+use Rattle.layout.proofs.TaskLaws.{skim-none, skim-content, skim-on, skim-more, skim-end}
 use Rattle.text_lines.proofs.next_content.Goals as goal
 
 pub loop-p-init : goal.loop-p-init

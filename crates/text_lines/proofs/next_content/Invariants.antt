@@ -1,10 +1,7 @@
 -- The lines passed are all skipped; the line at p is skipped where its trimmed rest idles.
 use Prim.Native.Nat.{◌-◌}
-use mathlib.Core.Path.{sym, ◌∙◌}
-use native.Mathlib.Omega.{arith}
 use lib.ListN.{length}
-use borrow.Author.Tests.{not-true, not-false}
-use Rattle.layout.proofs.TaskLaws.{Skimmed, skim-none, skim-content, skim-on, skim-more, skim-end}
+use Rattle.layout.proofs.TaskLaws.{Skimmed}
 use Rattle.text_lines.proofs.next_content.Given as goal
 
 abbrev pub invariant-loop-p : goal.invariant-loop-p

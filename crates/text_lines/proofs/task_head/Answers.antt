@@ -3,7 +3,6 @@ use mathlib.Core.List.{[], ◌∷◌}
 use native.Mathlib.Omega.{arith}
 use Rattle.layout.specs.Scan.{NumbersAt}
 use Rattle.layout.proofs.TaskLaws.{number-wrong, number-right, time-wrong, time-right, count-wrong, count-right}
-use borrow.Author.Rules.{rules}
 use Rattle.text_lines.proofs.task_head.Goals as goal
 use Rattle.text_lines.proofs.task_head.Goals.{Else-number-t, Else-time-t}
 

@@ -11,7 +11,6 @@ use Rattle.layout.specs.Scan.{row_at, NextLine, Filling, Head}
 use Rattle.layout.proofs.TaskLaws.{head-is, head-not, filled_is, closes-is, closes-not, line-short, line-open, line-task, line-next}
 use Rattle.text_lines.specs.declared.TaskLine.TheVariants as line
 use Rattle.text_lines.specs.TaskLines.{TaskFound, task-broken, task-over, task-read}
-use borrow.Author.Rules.{rules}
 use Rattle.text_lines.proofs.task_line.Goals as goal
 use Rattle.text_lines.proofs.task_line.Goals.{Else-not-end, Else-not-head, Else-not-span}
 

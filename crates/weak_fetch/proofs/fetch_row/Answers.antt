@@ -1,6 +1,5 @@
 use Rattle.weak_admission.proofs.Rows.{admission-measured}
 use Rattle.weak_fetch.proofs.Laws.{row_sized, row-takeable, hand-and-pointer, row-refused, rule-refuses, fetch-made}
-use borrow.Author.Rules.{rules}
 use Rattle.weak_fetch.proofs.fetch_row.Goals as goal
 
 pub returns-in-Refused : goal.returns-in-Refused

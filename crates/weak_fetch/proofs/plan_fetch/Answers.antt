@@ -1,6 +1,5 @@
 use Rattle.weak_fetch.proofs.Laws.{pointer-damaged, scan-unsound, scan-none, scan-asks, scan-takes}
 use Rattle.weak_rows.specs.Copies.{copies_of}
-use borrow.Author.Rules.{rules}
 use Rattle.weak_fetch.proofs.plan_fetch.Goals as goal
 
 pub returns-then-p-pointer : goal.returns-then-p-pointer

@@ -1,5 +1,4 @@
 use Rattle.weak_fetch.proofs.Laws.{head-ready, found-damaged, found-counted, found-takes}
-use borrow.Author.Rules.{rules}
 use Rattle.weak_fetch.proofs.plan_found.Goals as goal
 
 pub head_copy-copy-requires : goal.head_copy-copy-requires

@@ -1,6 +1,5 @@
 use mathlib.Core.Path.{refl}
 use Rattle.weak_fetch.proofs.Laws.{ends-ready, fetch-written}
-use borrow.Author.Rules.{rules}
 use Rattle.weak_fetch.proofs.write_fetch.Goals as goal
 
 pub take_at-requires : goal.take_at-requires

@@ -1,5 +1,4 @@
 use Rattle.weak_release.proofs.Plan.{pick-none, pick-inside, pick_at}
-use borrow.Author.Rules.{rules}
 use Rattle.weak_release.proofs.pick_copy.Goals as goal
 
 pub pick_fixed-requires : goal.pick_fixed-requires

@@ -1,6 +1,5 @@
 use Rattle.weak_release.proofs.Plan.{fixed-damaged, fixed-first, fixed_later}
 use mir.Facts.{Fits-32_64}
-use borrow.Author.Rules.{rules}
 use Rattle.weak_release.proofs.pick_fixed.Goals as goal
 
 pub overflow_cast-word-2 : goal.overflow_cast-word-2

@@ -1,5 +1,4 @@
 use Rattle.weak_release.proofs.Plan.{first-heavy, first-damaged, first-planned}
-use borrow.Author.Rules.{rules}
 use Rattle.weak_release.proofs.plan_first.Goals as goal
 
 pub returns-then-weight-gt65535 : goal.returns-then-weight-gt65535

@@ -1,5 +1,4 @@
 use Rattle.weak_release.proofs.Plan.{later-unsound, later-full, later-damaged, later-planned}
-use borrow.Author.Rules.{rules}
 use Rattle.weak_release.proofs.plan_later.Goals as goal
 
 pub returns-then-not-is_sound : goal.returns-then-not-is_sound

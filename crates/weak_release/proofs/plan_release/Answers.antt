@@ -1,5 +1,4 @@
 use Rattle.weak_release.proofs.Plan.{pick-asks, plan-none, first-none, first-asks, first-plans, later-asks, later-plans}
-use borrow.Author.Rules.{rules}
 use Rattle.weak_release.proofs.plan_release.Goals as goal
 
 pub pick_copy-picked-requires : goal.pick_copy-picked-requires

@@ -1,5 +1,4 @@
 use Rattle.weak_release.proofs.Whole.{row_keeps, whole-refused, whole-sized, later-placeable, first-placeable, whole-none, later-made, first_made}
-use borrow.Author.Rules.{rules}
 use Rattle.weak_release.proofs.release_row.Goals as goal
 
 pub returns-in-Refused : goal.returns-in-Refused

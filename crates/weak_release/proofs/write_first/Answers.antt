@@ -1,6 +1,5 @@
 use Rattle.weak_release.proofs.Written.{ring-counter, first-written}
 use mathlib.Core.Path.{refl}
-use borrow.Author.Rules.{rules}
 use Rattle.weak_release.proofs.write_first.Goals as goal
 
 pub raise-requires : goal.raise-requires

@@ -1,5 +1,4 @@
 use Rattle.weak_release.proofs.Written.{ring-ready, later-written}
-use borrow.Author.Rules.{rules}
 use Rattle.weak_release.proofs.write_later.Goals as goal
 
 pub append_copy-requires : goal.append_copy-requires

@@ -1,6 +1,5 @@
 use Rattle.weak_start.proofs.Laws.{start-refused, start-damaged, start-accepted, start-words, start-counts, phase-alone}
 use native.Mathlib.Omega.{arith}
-use borrow.Author.Rules.{rules}
 use Rattle.weak_start.proofs.start_row.Goals as goal
 
 pub returns-in-Refused : goal.returns-in-Refused
