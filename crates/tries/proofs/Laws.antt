@@ -41,6 +41,11 @@ next-try (suc (suc zero)) h = refl
 next-try (suc (suc (suc zero))) h = refl
 next-try (suc (suc (suc (suc n)))) h = absurd (omega (arith, h))
 
+-- an answer that is no refusal accepts
+pub not-refused : (a : StepAnswer) → ((r d : ℕ) → ¬ (a ≡ Refused r d)) → (o : StepOutcome) × (a ≡ Accepted o)
+not-refused (Accepted o) h = (o, refl)
+not-refused (Refused r d) h = absurd (h r d refl)
+
 pub trying-last : (start m : Mem) (i tried : ℕ) → Trying start m i tried → 4 ≤ tried → m ≡ turn engine 2 4 i tries start
 unfolding turn
 trying-last start m i tried t h = sym (ap (λ (ss : List Step). turn engine 2 4 i ss m) (drop_of_length-le tries h)) ∙ t.whole
@@ -54,7 +59,7 @@ module _ (start m : Mem) (i tried : ℕ) (t : Trying start m i tried) (b : tried
   -- what the next try says and leaves
   tried-first : (ss : List Step) → turn engine 2 4 i (s ∷ ss) m ≡ first_of a m' (turn engine 2 4 i ss m')
   unfolding turn
-  tried-first ss = rw (← l, ← h)
+  tried-first ss = let k : result_of a m' ≡ step engine 2 4 i s m = rw l at h in rw (← k)
 
   tries-next : first_of a m' (turn engine 2 4 i (drop (tried + 1) tries) m') ≡ turn engine 2 4 i tries start
   tries-next = sym (tried-first _) ∙ ap (λ (ss : List Step). turn engine 2 4 i ss m) next ∙ t.whole

@@ -2,7 +2,6 @@ use Rattle.call_laws.proofs.Laws.{judged-made, row-there, fetch-lent, fetch-made
 use Rattle.engine_cells.proofs.Laws.{there}
 use Rattle.rows.specs.Rows.{rows_of}
 use Rattle.task.specs.declared.Step.TheVariants.{Fetch}
-use borrow.Author.Rules.{rules}
 use Rattle.engine.proofs.fetch.Goals as goal
 
 pub returns-in-Refused : goal.returns-in-Refused

@@ -1,7 +1,6 @@
 use Rattle.call_laws.proofs.Laws.{judged-made, row-there, fetch-lent, start-lent, complete-lent, release-lent, fetch-made, start-made, complete-made, release-made}
 use Rattle.engine_cells.proofs.Laws.{there}
 use Rattle.rows.specs.Rows.{rows_of}
-use borrow.Author.Rules.{rules}
 use Rattle.engine_step.proofs.step.Goals as goal
 
 pub returns-in-Refused : goal.returns-in-Refused

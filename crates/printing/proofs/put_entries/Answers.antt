@@ -1,6 +1,5 @@
-use Prim.Native.Nat.{◌+◌, ◌-◌, ◌*◌, ◌≤◌}
 use native.Mathlib.Omega.{arith}
-use Rattle.printing.proofs.Laws.{EntriesPut, no-entries, next-entry, all-entries}
+use Rattle.printing.proofs.Laws.{no-entries, next-entry, all-entries}
 use Rattle.printing.proofs.put_entries.Goals as goal
 
 pub loop-x-init : goal.loop-x-init

@@ -1,7 +1,6 @@
 -- The lines of the first x entries are put, each of at most 22 bytes.
 use Prim.Native.Nat.{◌+◌, ◌-◌, ◌*◌, ◌≤◌}
-use native.Mathlib.Omega.{arith}
-use Rattle.printing.proofs.Laws.{EntriesPut, no-entries, next-entry, all-entries}
+use Rattle.printing.proofs.Laws.{EntriesPut}
 use Rattle.printing.proofs.put_entries.Given as goal
 
 abbrev pub invariant-loop-x : goal.invariant-loop-x

@@ -1,5 +1,4 @@
 use native.Mathlib.Omega.{arith}
-use borrow.Author.Rules.{rules}
 use Rattle.printing.proofs.Laws.{ten-digits, pair_put}
 use Rattle.printing.proofs.put_pair.Goals as goal
 

@@ -1,6 +1,5 @@
 use Rattle.desk_rule.specs.Output.{refused_line}
 use Rattle.text_put.proofs.Laws.{appends-then}
-use borrow.Author.Rules.{rules}
 use Rattle.printing.proofs.put_refused.Goals as goal
 
 pub returns : goal.returns

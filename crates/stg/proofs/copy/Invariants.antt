@@ -1,10 +1,8 @@
 -- The first i words are copied, and those behind them are the old ones.
 use Prim.Native.Nat.{◌≤◌, ◌-◌}
-use mathlib.Core.Path.{◌≡◌, ap, ◌∙◌, refl}
+use mathlib.Core.Path.{◌≡◌}
 use mathlib.Core.List.{◌++◌}
-use native.Mathlib.Omega.{arith}
-use lib.ListN.{length, take, drop}
-use Rattle.lists.proofs.Prefixes.{copy_more, length-copy}
+use lib.ListN.{take, drop}
 use Rattle.stg.proofs.copy.Given as goal
 
 abbrev pub invariant-loop-i : goal.invariant-loop-i

@@ -8,7 +8,6 @@ use Rattle.layout.specs.Reader.{verdict}
 use Rattle.layout.specs.Scan.{NextContent, FirstFound, due_from, line-broken, limit-passed}
 use Rattle.layout.proofs.TableLaws.{place_of, number_small, no-first, bad-first, over_first, after_first, line-counted}
 use Rattle.stg.specs.Reading.{Room, Reading}
-use borrow.Author.Rules.{rules}
 use Rattle.stg.proofs.judge.Goals as goal
 
 -- the lines of the tasks follow the first one
@@ -59,7 +58,6 @@ read_tasks-requires c =
 
 pub returns : goal.returns
 returns c =
-    
     rw
     (whole c.next_content-content.ensures c.if-content-text.false c.first_line-first.ensures
     c.if-first-eq0.false c.if-first-gt1024.false)

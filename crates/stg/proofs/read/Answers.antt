@@ -2,7 +2,6 @@
 use mathlib.Core.Path.{◌≡◌}
 use mathlib.Core.Bool.{true}
 use borrow.Author.Tests.{not-true, not-false}
-use borrow.Author.Rules.{rules}
 use Rattle.layout.specs.Reader.{lent_fit}
 use Rattle.layout.proofs.TableLaws.{Holds, copy-room, read-unfit, read-over, read-laid}
 use Rattle.stg.proofs.read.Goals as goal

@@ -1,35 +1,29 @@
-use Prim.Native.Nat.{ℕ, ◌+◌, ◌-◌, ◌<◌}
-use mathlib.Core.Path.{◌≡◌, refl, ap}
-use mathlib.Core.Logic.{◌⊎◌, ⊎_elim}
+use Prim.Native.Nat.{ℕ, ◌+◌, ◌<◌}
+use mathlib.Core.Path.{◌≡◌, refl}
 use mathlib.Core.Bool.{Bool}
-use mathlib.Core.List.{List, []}
+use mathlib.Core.List.{List}
 use native.Mathlib.Omega.{arith}
-use borrow.Author.Rules.{rules}
-use denote.Enum.Declared.{tag_of}
-use lib.ListN.{length, drop}
+use lib.ListN.{length}
 use lib.Dec.{eqb}
 use Rattle.lists.proofs.Apart.{unequal}
 use Rattle.task.specs.declared.ReadAnswer.{ReadAnswer}
 use Rattle.layout.specs.Reader.{Verdict}
-use Rattle.layout.specs.Scan.{NextContent, due_from, Outcome, line-broken, limit-passed}
+use Rattle.layout.specs.Scan.{NextContent, Outcome, line-broken, limit-passed}
 use Rattle.layout.proofs.TableLaws.{place_of, number_small, SoFar, so-far-none, early, late, all_done, no-task, too_many, one-done}
 use Rattle.text_lines.specs.declared.TaskLine.{TaskLine}
 use Rattle.text_lines.specs.declared.TaskLine.TheVariants.{Read}
 use Rattle.stg.specs.Reading.{refused_line}
 use Rattle.text_lines.specs.TaskLines.{TaskFound, task-broken, task-over, task-read}
-use Rattle.text_lines.specs.contracts.TaskLine.{the_type}
 use Rattle.stg.proofs.read_tasks.Goals as goal
 
 module _ {v : Verdict} {text : List ℕ} {n : ℕ} {w s p w' s' p' : List ℕ} {at line t e place number : ℕ} {last : Bool} {r : TaskLine}
     (f : SoFar v text n w s p at line t e) (k : NextContent text at line place number) (there : ¬ (place ≡ length text)) (due : t < n) where
   -- a line that gave no task
-  not-read : {q : ReadAnswer} → TaskFound text place t last e r w s p w' s' p' → last ≡ eqb (t + 1) n → (tag_of the_type r ≡ 0) ⊎ (tag_of the_type r ≡ 1)
+  not-read : {q : ReadAnswer} → TaskFound text place t last e r w s p w' s' p' → last ≡ eqb (t + 1) n → ((next edges : ℕ) → ¬ (r ≡ Read next edges))
       → q ≡ refused_line r number → Outcome v q w' s' p'
   not-read (task-broken h x) i g q = line-broken number (no-task f k there due (rw i at x)) (rw h at q)
   not-read (task-over h x y m) i g q = limit-passed (too_many f k there due x (rw i at y) m) (rw h at q)
-  not-read (task-read x next edges h y m) i g q =
-      let two : tag_of the_type r ≡ 2 = ap (tag_of the_type) h in
-      absurd (⊎_elim (λ z. omega (arith, z, two)) (λ z. omega (arith, z, two)) g)
+  not-read (task-read x next edges h y m) i g q = absurd (g next edges h)
 
   -- a line that gave a task
   read-on : {next edges : ℕ} → TaskFound text place t last e r w s p w' s' p' → last ≡ eqb (t + 1) n → r ≡ Read next edges
@@ -78,9 +72,8 @@ refused_line-requires c =
 
 pub returns-in_default : goal.returns-in_default
 returns-in_default c =
-    
     not-read c.loop-t.invariant c.next_content-content.ensures c.if-content-text.false c.loop-t-test.true
-    c.task_line-read.ensures refl c.before.before.in_default.in_default-own.keys2 c.refused_line.ensures
+    c.task_line-read.ensures refl c.in_default.not-Read c.refused_line.ensures
 
 pub overflow_add-line : goal.overflow_add-line
 overflow_add-line c =
@@ -95,7 +88,6 @@ loop-t-smaller c = omega arith
 
 pub loop-t-preserved : goal.loop-t-preserved
 loop-t-preserved c =
-    
     read-on c.loop-t.invariant c.next_content-content.ensures c.if-content-text.false c.loop-t-test.true
     c.task_line-read.ensures refl c.in-Read.is
 

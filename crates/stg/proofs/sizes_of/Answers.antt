@@ -1,6 +1,5 @@
 -- The two cases.
 use Rattle.layout.proofs.TableLaws.{sizes-refused, sizes-accepted}
-use borrow.Author.Rules.{rules}
 use Rattle.stg.proofs.sizes_of.Goals as goal
 
 pub returns-in-Refused : goal.returns-in-Refused

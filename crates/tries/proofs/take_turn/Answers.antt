@@ -3,7 +3,7 @@ use mathlib.Core.Path.{refl}
 use native.Mathlib.Omega.{arith}
 use borrow.Author.Rules.{rules}
 use Rattle.engine_cells.specs.Cells.{cell_mem}
-use Rattle.tries.proofs.Laws.{Lasting, Trying, trying-last, trying-over, trying-on}
+use Rattle.tries.proofs.Laws.{Lasting, Trying, not-refused, trying-last, trying-over, trying-on}
 use Rattle.tries.proofs.take_turn.Goals as goal
 
 pub loop-tried-init : goal.loop-tried-init
@@ -34,7 +34,9 @@ pub shape_of-rows-in_default : goal.shape_of-rows-in_default
 shape_of-rows-in_default c = omega arith
 
 pub returns-in_default : goal.returns-in_default
-returns-in_default c = trying-over _ _ _ _ c.loop-tried.invariant.1 (omega arith) _ c.engine.ensures _ c.try_at.ensures _ _ c.step-answer.ensures _ c.in_default.is
+returns-in_default c =
+    let k = not-refused c.step-answer.result c.in_default.not-Refused in
+    trying-over _ _ _ _ c.loop-tried.invariant.1 (omega arith) _ c.engine.ensures _ c.try_at.ensures _ _ c.step-answer.ensures k.0 k.1
 
 pub overflow_add-tried : goal.overflow_add-tried
 overflow_add-tried c = omega arith

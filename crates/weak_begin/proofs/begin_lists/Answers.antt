@@ -1,7 +1,6 @@
 -- A refused begin leaves the lists; an accepted one lets them be filled, laid down and cleared.
 use mathlib.Core.Path.{refl}
 use Rattle.weak_begin.proofs.Laws.{begin-refused, fillable, layable, countable, begin-laid}
-use borrow.Author.Rules.{rules}
 use Rattle.weak_begin.proofs.begin_lists.Goals as goal
 
 pub returns-in_default : goal.returns-in_default

@@ -3,7 +3,6 @@ use native.Mathlib.Omega.{arith}
 use Rattle.weak_admission.proofs.Laws.{within-engine}
 use Rattle.begin_check.proofs.Laws.{product-fits}
 use Rattle.weak_begin_check.proofs.Laws.{judge-beyond, judge-refused, starts_fit, few-tasks, judge-roots, judge-accepted}
-use borrow.Author.Rules.{rules}
 use Rattle.weak_begin_check.proofs.judge.Goals as goal
 
 pub returns-then-not-numbers_fit-sizes_fit : goal.returns-then-not-numbers_fit-sizes_fit

@@ -3,7 +3,6 @@ use mathlib.Core.Path.{refl, subst}
 use Rattle.weak_complete.specs.Complete.{HandAndWrite}
 use Rattle.weak_task.specs.Rows.{with_hand}
 use Rattle.weak_rows.specs.Rows.{with_write}
-use borrow.Author.Rules.{rules}
 use Rattle.weak_engine_cells.proofs.store_completed.Goals as goal
 
 pub returns-in-Refused : goal.returns-in-Refused

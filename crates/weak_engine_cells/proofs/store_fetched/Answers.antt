@@ -2,7 +2,6 @@ use Rattle.weak_engine_cells.proofs.Laws.{two-stored}
 use mathlib.Core.Path.{refl, subst}
 use Rattle.weak_fetch.specs.Fetch.{HandAndPointer}
 use Rattle.weak_task.specs.Rows.{with_hand, with_pointer}
-use borrow.Author.Rules.{rules}
 use Rattle.weak_engine_cells.proofs.store_fetched.Goals as goal
 
 pub returns-in-Refused : goal.returns-in-Refused

@@ -3,7 +3,6 @@ use mathlib.Core.Path.{refl, subst}
 use native.Mathlib.Omega.{arith}
 use Rattle.weak_release.specs.Release.{ReadAndCursor}
 use Rattle.weak_rows.specs.Rows.{with_next}
-use borrow.Author.Rules.{rules}
 use Rattle.weak_engine_cells.proofs.store_released.Goals as goal
 
 pub returns-then-after-row : goal.returns-then-after-row

@@ -2,7 +2,6 @@ use Rattle.weak_engine_cells.proofs.Laws.{one-stored}
 use mathlib.Core.Path.{refl, subst}
 use Rattle.weak_start.specs.Start.{PhaseAlone}
 use Rattle.weak_rows.specs.Rows.{with_phase}
-use borrow.Author.Rules.{rules}
 use Rattle.weak_engine_cells.proofs.store_started.Goals as goal
 
 pub returns-in-Refused : goal.returns-in-Refused

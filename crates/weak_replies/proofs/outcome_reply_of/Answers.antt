@@ -3,7 +3,6 @@ use Rattle.weak_task.specs.declared.WeakOutcome.{WeakOutcome}
 use Rattle.weak_task.specs.declared.WeakAnswer.TheVariants.{Accepted}
 use Rattle.replies.proofs.Laws.{in-case}
 use Rattle.weak_replies.specs.Replies.{weak_reply_of}
-use borrow.Author.Rules.{rules}
 use Rattle.weak_replies.proofs.outcome_reply_of.Goals as goal
 
 pub returns-in-Moved : goal.returns-in-Moved

@@ -1,7 +1,6 @@
 -- The two cases.
 use Rattle.weak_replies.specs.Replies.{weak_reply_of}
 use Rattle.replies.proofs.Laws.{in-case}
-use borrow.Author.Rules.{rules}
 use Rattle.weak_replies.proofs.weak_reply_of.Goals as goal
 
 pub returns-in-Refused : goal.returns-in-Refused

@@ -1,6 +1,5 @@
 -- Cleared lists are laid down up to task 0.
 use Rattle.weak_roots.proofs.Laying.{laid_none}
-use borrow.Author.Rules.{rules}
 use Rattle.weak_roots.proofs.lay_roots.Goals as goal
 
 pub place_roots-requires : goal.place_roots-requires

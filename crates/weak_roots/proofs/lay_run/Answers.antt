@@ -1,6 +1,5 @@
 -- R is what the roots are counted to.
 use Rattle.weak_roots.proofs.Degrees.{run-laid}
-use borrow.Author.Rules.{rules}
 use Rattle.weak_roots.proofs.lay_run.Goals as goal
 
 pub returns : goal.returns

@@ -2,7 +2,6 @@
 use native.Mathlib.Omega.{arith}
 use Rattle.roots.proofs.Laying.{owner-ready, ring-ready, counter-ready}
 use Rattle.weak_roots.proofs.Laying.{laid-skip, laid_root}
-use borrow.Author.Rules.{rules}
 use Rattle.weak_roots.proofs.lay_task.Goals as goal
 
 pub returns-then-degrees-t-ne0 : goal.returns-then-degrees-t-ne0

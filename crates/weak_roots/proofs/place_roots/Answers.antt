@@ -1,9 +1,4 @@
-use Prim.Native.Nat.{◌-◌}
-use lib.ListN.{length}
 use native.Mathlib.Omega.{arith}
-use borrow.Author.Rules.{rules}
-use Rattle.weak_rows.specs.Copies.{copies_of}
-use Rattle.weak_roots.specs.Laying.{Laid}
 use Rattle.weak_roots.proofs.Laying.{rings-kept, laid-whole}
 use Rattle.weak_roots.proofs.place_roots.Goals as goal
 

@@ -1,11 +1,8 @@
 -- The invariant is what lets the next task be laid down.
 use Prim.Native.Nat.{◌-◌}
 use lib.ListN.{length}
-use native.Mathlib.Omega.{arith}
-use borrow.Author.Rules.{rules}
 use Rattle.weak_rows.specs.Copies.{copies_of}
 use Rattle.weak_roots.specs.Laying.{Laid}
-use Rattle.weak_roots.proofs.Laying.{rings-kept, laid-whole}
 use Rattle.weak_roots.proofs.place_roots.Given as goal
 
 abbrev pub invariant-loop-t : goal.invariant-loop-t

@@ -1,8 +1,5 @@
-use Prim.Native.Nat.{◌-◌}
 use native.Mathlib.Omega.{arith}
-use lib.ListN.{length}
-use borrow.Author.Rules.{rules}
-use Rattle.weak_roots.proofs.Degrees.{Raising, raising-none, raising-more, raising-whole}
+use Rattle.weak_roots.proofs.Degrees.{raising-none, raising-more, raising-whole}
 use Rattle.weak_roots.proofs.raise_roots.Goals as goal
 
 pub loop-t-init : goal.loop-t-init

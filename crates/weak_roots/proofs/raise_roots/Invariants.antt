@@ -1,9 +1,7 @@
 -- Each turn raises one more degree.
 use Prim.Native.Nat.{◌-◌}
-use native.Mathlib.Omega.{arith}
 use lib.ListN.{length}
-use borrow.Author.Rules.{rules}
-use Rattle.weak_roots.proofs.Degrees.{Raising, raising-none, raising-more, raising-whole}
+use Rattle.weak_roots.proofs.Degrees.{Raising}
 use Rattle.weak_roots.proofs.raise_roots.Given as goal
 
 abbrev pub invariant-loop-t : goal.invariant-loop-t

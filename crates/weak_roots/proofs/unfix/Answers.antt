@@ -1,8 +1,5 @@
-use Prim.Native.Nat.{◌-◌}
 use native.Mathlib.Omega.{arith}
-use lib.ListN.{length}
-use Rattle.weak_task.specs.Types.{unfixed}
-use Rattle.roots.proofs.Laws.{Filling, filling-none, filling-more, filling-whole}
+use Rattle.roots.proofs.Laws.{filling-none, filling-more, filling-whole}
 use Rattle.weak_roots.proofs.unfix.Goals as goal
 
 pub loop-t-init : goal.loop-t-init

@@ -1,9 +1,8 @@
 -- Each turn frees one more task.
 use Prim.Native.Nat.{◌-◌}
-use native.Mathlib.Omega.{arith}
 use lib.ListN.{length}
 use Rattle.weak_task.specs.Types.{unfixed}
-use Rattle.roots.proofs.Laws.{Filling, filling-none, filling-more, filling-whole}
+use Rattle.roots.proofs.Laws.{Filling}
 use Rattle.weak_roots.proofs.unfix.Given as goal
 
 abbrev pub invariant-loop-t : goal.invariant-loop-t
