@@ -1,7 +1,6 @@
 -- A refused graph leaves the lists; an accepted one lets them be filled.
 use Rattle.graph.specs.Successors.{lent_fit}
 use Rattle.link.proofs.Laws.{link-refused, link-fillable, link-filled}
-use borrow.Author.Rules.{rules}
 use Rattle.link.proofs.link_graph.Goals as goal
 
 pub returns-in_default : goal.returns-in_default

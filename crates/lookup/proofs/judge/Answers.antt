@@ -1,7 +1,6 @@
 -- The tests in the order 2, 1, 3, each a case of the definition.
 use Rattle.graph.specs.Lookup.{lent_of, lengths_fit}
 use Rattle.lookup.proofs.Laws.{judge-beyond, judge-lengths, judge-task, judge-accepted, starts_fit}
-use borrow.Author.Rules.{rules}
 use Rattle.lookup.proofs.judge.Goals as goal
 
 pub returns-then-not-sizes_fit : goal.returns-then-not-sizes_fit

@@ -2,7 +2,6 @@
 use Rattle.task.specs.declared.Side.TheVariants.{Predecessors, Successors}
 use Rattle.graph.specs.Lookup.{lent_of}
 use Rattle.lookup.proofs.Laws.{side-is}
-use borrow.Author.Rules.{rules}
 use Rattle.lookup.proofs.side_fits.Goals as goal
 
 pub returns-in-Predecessors : goal.returns-in-Predecessors

@@ -1,9 +1,6 @@
-use Prim.Native.Nat.{◌-◌}
 use mathlib.Core.Path.{refl}
 use native.Mathlib.Omega.{arith}
-use borrow.Author.Rules.{rules}
-use Rattle.engine_cells.specs.Cells.{cell_mem}
-use Rattle.tries.proofs.Laws.{Lasting, Trying, not-refused, trying-last, trying-over, trying-on}
+use Rattle.tries.proofs.Laws.{not-refused, trying-last, trying-over, trying-on}
 use Rattle.tries.proofs.take_turn.Goals as goal
 
 pub loop-tried-init : goal.loop-tried-init

@@ -1,10 +1,7 @@
 -- What is left of the tries ends the turn.
 use Prim.Native.Nat.{◌-◌}
-use mathlib.Core.Path.{refl}
-use native.Mathlib.Omega.{arith}
-use borrow.Author.Rules.{rules}
 use Rattle.engine_cells.specs.Cells.{cell_mem}
-use Rattle.tries.proofs.Laws.{Lasting, Trying, trying-last, trying-over, trying-on}
+use Rattle.tries.proofs.Laws.{Lasting, Trying}
 use Rattle.tries.proofs.take_turn.Given as goal
 
 abbrev pub invariant-loop-tried : goal.invariant-loop-tried

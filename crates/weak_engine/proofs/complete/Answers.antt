@@ -1,6 +1,5 @@
 use Rattle.weak_engine_cells.proofs.Laws.{there, judged-made, row-there, complete-lent, complete-made}
 use Rattle.task.specs.declared.Step.TheVariants.{Complete}
-use borrow.Author.Rules.{rules}
 use Rattle.weak_engine.proofs.complete.Goals as goal
 
 pub returns-in-Refused : goal.returns-in-Refused

@@ -1,6 +1,5 @@
 use Rattle.weak_engine_cells.proofs.Laws.{there, judged-made, row-there, fetch-lent, fetch-made}
 use Rattle.task.specs.declared.Step.TheVariants.{Fetch}
-use borrow.Author.Rules.{rules}
 use Rattle.weak_engine.proofs.fetch.Goals as goal
 
 pub returns-in-Refused : goal.returns-in-Refused

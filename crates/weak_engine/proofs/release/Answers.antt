@@ -1,6 +1,5 @@
 use Rattle.weak_engine_cells.proofs.Laws.{there, judged-made, row-there, release-lent, release-made}
 use Rattle.task.specs.declared.Step.TheVariants.{Release}
-use borrow.Author.Rules.{rules}
 use Rattle.weak_engine.proofs.release.Goals as goal
 
 pub returns-in-Refused : goal.returns-in-Refused
