@@ -15,4 +15,4 @@ returns c =
     a.limits a.p a.k a.worker.0 c.judge-judged.result c.judge-judged.ensures.judges
     _ _ c.start_row-stepped.result _ c.row_at-row.ensures
     (c.answer_of.ensures, stored _ _ _ _ _ _ c.row_at-row.ensures c.row_after.ensures c.store_row.ensures)
-    _ c.start_row-stepped.ensures
+    _ c.start_row-stepped.ensures.starts
