@@ -1,9 +1,6 @@
 use mathlib.Core.Path.{refl}
 use native.Mathlib.Omega.{arith}
-use borrow.Author.Rules.{rules}
-use Rattle.engine_cells.specs.Cells.{cell_mem}
-use Rattle.tries.proofs.Laws.{Lasting}
-use Rattle.turns.proofs.Laws.{Driving, driving-none, driving-over, driving-last, driving-turn}
+use Rattle.turns.proofs.Laws.{driving-none, driving-over, driving-last, driving-turn}
 use Rattle.turns.proofs.drive.Goals as goal
 
 pub overflow_mul-steps : goal.overflow_mul-steps

@@ -1,10 +1,7 @@
 -- What is left of the turns ends the desk's run.
-use mathlib.Core.Path.{refl}
-use native.Mathlib.Omega.{arith}
-use borrow.Author.Rules.{rules}
 use Rattle.engine_cells.specs.Cells.{cell_mem}
 use Rattle.tries.proofs.Laws.{Lasting}
-use Rattle.turns.proofs.Laws.{Driving, driving-none, driving-over, driving-last, driving-turn}
+use Rattle.turns.proofs.Laws.{Driving}
 use Rattle.turns.proofs.drive.Given as goal
 
 abbrev pub invariant-loop-left : goal.invariant-loop-left

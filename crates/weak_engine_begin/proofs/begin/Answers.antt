@@ -1,5 +1,4 @@
 use Rattle.weak_engine_begin.proofs.Laws.{begin-made}
-use borrow.Author.Rules.{rules}
 use Rattle.weak_engine_begin.proofs.begin.Goals as goal
 
 pub returns : goal.returns

@@ -6,7 +6,7 @@ use Rattle.loads.specs.Windows.{Spans}
 use Rattle.windows.proofs.Sliding.{sums-length}
 use Rattle.windows.proofs.Putting.{WindowsPut, fewer, first-room, first-put, first-windows, slide-asks, next-room, place-few, put-asks, next-window, all-windows}
 use Rattle.windows.proofs.put_windows.Goals as goal
-use Rattle.windows.proofs.put_windows.Goals.{At-loop-w, In-loop-w}
+use Rattle.windows.proofs.put_windows.Goals.{In-loop-w}
 
 -- In the loop: what was asked, where the next window is put, and that it has room.
 spans : (c : In-loop-w) → let a = c.args in
@@ -63,28 +63,28 @@ offset_bounds-results-at c = omega (arith, few (goal.at.offset_bounds-results-at
 pub slice_bounds-put_window-count-in-loop-w : goal.slice_bounds-put_window-count-in-loop-w
 slice_bounds-put_window-count-in-loop-w c = omega arith
 
-pub slice_bounds-put_window-start-2 : goal.slice_bounds-put_window-start-2
-slice_bounds-put_window-start-2 c = omega arith
+pub slice_bounds-put_window-start-in-loop-w : goal.slice_bounds-put_window-start-in-loop-w
+slice_bounds-put_window-start-in-loop-w c = omega arith
 
-pub slice_bounds-put_window-end-2 : goal.slice_bounds-put_window-end-2
-slice_bounds-put_window-end-2 c = omega (arith, room (goal.at.slice_bounds-put_window-end-2 c).In-loop-w)
+pub slice_bounds-put_window-end-in-loop-w : goal.slice_bounds-put_window-end-in-loop-w
+slice_bounds-put_window-end-in-loop-w c = omega (arith, room (goal.at.slice_bounds-put_window-end-in-loop-w c).In-loop-w)
 
 pub put_window-requires-in-loop-w : goal.put_window-requires-in-loop-w
 put_window-requires-in-loop-w c =
-    put-asks _ _ _ _ _ (spans (goal.at.put_window-requires-in-loop-w c).At-loop-w) _ _ _ _ c.loop-w.invariant (omega arith) _ c.slide.ensures
+    put-asks _ _ _ _ _ (spans (goal.at.put_window-requires-in-loop-w c).In-loop-w) _ _ _ _ c.loop-w.invariant (omega arith) _ c.slide.ensures
 
 pub overflow_add-w-in-loop-w : goal.overflow_add-w-in-loop-w
-overflow_add-w-in-loop-w c = omega (arith, (spans (goal.at.overflow_add-w-in-loop-w c).At-loop-w).few_entries)
+overflow_add-w-in-loop-w c = omega (arith, (spans (goal.at.overflow_add-w-in-loop-w c).In-loop-w).few_entries)
 
 pub overflow_add-at-in-loop-w : goal.overflow_add-at-in-loop-w
-overflow_add-at-in-loop-w c = omega (arith, (spans (goal.at.overflow_add-at-in-loop-w c).At-loop-w).few_workers, few (goal.at.overflow_add-at-in-loop-w c).At-loop-w)
+overflow_add-at-in-loop-w c = omega (arith, (spans (goal.at.overflow_add-at-in-loop-w c).In-loop-w).few_workers, few (goal.at.overflow_add-at-in-loop-w c).In-loop-w)
 
 pub loop-w-smaller : goal.loop-w-smaller
 loop-w-smaller c = omega arith
 
 pub loop-w-preserved : goal.loop-w-preserved
 loop-w-preserved c =
-    next-window _ _ _ _ _ (spans (goal.at.loop-w-preserved c).At-loop-w) _ _ _ _ c.loop-w.invariant (omega arith) _ c.slide.ensures _
+    next-window _ _ _ _ _ (spans (goal.at.loop-w-preserved c).In-loop-w) _ _ _ _ c.loop-w.invariant (omega arith) _ c.slide.ensures _
     c.put_window-in-loop-w.ensures
 
 pub shape_of-results : goal.shape_of-results
