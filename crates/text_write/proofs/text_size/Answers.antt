@@ -1,20 +1,7 @@
 -- The sum fits its type: a time has at most ten digits.
-use Prim.Native.Nat.{◌*◌, ◌≤◌}
 use native.Mathlib.Omega.{arith}
-use lib.ListN.{length}
-use Rattle.lists.specs.Sums.{sum_to}
-use Rattle.layout.specs.Plain.{line_size}
 use Rattle.layout.proofs.Sizes.{text-size, lines-most, preds-most}
 use Rattle.text_write.proofs.text_size.Goals as goal
-use Rattle.text_write.proofs.text_size.Goals.{Start}
-
-lines : (c : Start) → sum_to (length c.args.weights.now) (line_size c.args.weights.now c.args.starts.now) ≤ 1024 * 21
-lines c =
-    omega (
-      arith,
-      c.requires.0.sized.tasks,
-      lines-most c.args.weights.now _ _ c.requires.0 9 (λ t h. omega (arith, c.type_inv.weights t)),
-    )
 
 pub lines_size-lines-requires : goal.lines_size-lines-requires
 lines_size-lines-requires c =
@@ -33,14 +20,14 @@ pub overflow_add-result : goal.overflow_add-result
 overflow_add-result c = omega arith
 
 pub overflow_add-result-2 : goal.overflow_add-result-2
-overflow_add-result-2 c = omega (arith, lines (goal.at.overflow_add-result-2 c).Start)
+overflow_add-result-2 c = omega (arith, c.requires.0.sized.tasks, lines-most c.args.weights.now _ _ c.requires.0 9 (λ t h. omega (arith, c.type_inv.weights t)))
 
 pub preds_size-requires : goal.preds_size-requires
 preds_size-requires c = c.requires.0.sized.edges
 
 pub overflow_add-result-3 : goal.overflow_add-result-3
 overflow_add-result-3 c =
-    omega (arith, lines (goal.at.overflow_add-result-3 c).Start, preds-most c.args.weights.now _ _ c.requires.0, c.requires.0.sized.edges)
+    omega (arith, c.requires.0.sized.tasks, lines-most c.args.weights.now _ _ c.requires.0 9 (λ t h. omega (arith, c.type_inv.weights t)), preds-most c.args.weights.now _ _ c.requires.0, c.requires.0.sized.edges)
 
 pub returns : goal.returns
 returns c =
