@@ -1,6 +1,5 @@
 -- The reply to the check's answer.
 use Rattle.graph_export.proofs.Laws.{check-reply}
-use borrow.Author.Rules.{rules}
 use Rattle.graph_export.proofs.yolluvek_check_graph.Goals as goal
 
 pub returns : goal.returns

@@ -1,6 +1,5 @@
 -- The reply to the judging call's answer.
 use Rattle.graph_export.proofs.Laws.{judge-reply}
-use borrow.Author.Rules.{rules}
 use Rattle.graph_export.proofs.yolluvek_judge_lookup.Goals as goal
 
 pub returns : goal.returns

@@ -1,6 +1,5 @@
 -- The reply to the call's answer; the lists are the call's.
 use Rattle.graph_export.proofs.Laws.{link-reply}
-use borrow.Author.Rules.{rules}
 use Rattle.graph_export.proofs.yolluvek_link_graph.Goals as goal
 
 pub returns : goal.returns

@@ -1,6 +1,5 @@
 -- The place and the count of an accepted lookup's part.
 use Rattle.graph_export.proofs.Laws.{part-refused, part-range, part-accepted}
-use borrow.Author.Rules.{rules}
 use Rattle.graph_export.proofs.yolluvek_lookup.Goals as goal
 
 pub returns-in_default : goal.returns-in_default

@@ -2,7 +2,6 @@
 use Prim.Native.Nat.{◌≤◌}
 use mathlib.Core.Path.{sym}
 use native.Mathlib.Omega.{arith}
-use borrow.Author.Rules.{rules}
 use lib.Seq.{length-take-le}
 use Rattle.response.proofs.Laws.{part-below, text-refused, text-sizes, text-run}
 use Rattle.response.proofs.respond.Goals as goal

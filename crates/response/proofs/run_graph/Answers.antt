@@ -2,7 +2,6 @@
 use Prim.Native.Nat.{ℕ, ◌*◌}
 use mathlib.Core.Path.{◌≡◌}
 use native.Mathlib.Omega.{arith}
-use borrow.Author.Rules.{rules}
 use lib.ListN.{length, get_or}
 use Rattle.response.proofs.Laws.{Ready, refusal-put, begun-ready, entries-all, lines-put}
 use Rattle.response.proofs.run_graph.Goals as goal

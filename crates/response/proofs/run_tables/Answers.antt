@@ -1,7 +1,6 @@
 -- The lists lent are first parts of lists of zeros.
 use native.Mathlib.Omega.{arith}
 use Rattle.response.proofs.Laws.{length_part, tables-put}
-use borrow.Author.Rules.{rules}
 use Rattle.response.proofs.run_tables.Goals as goal
 
 pub slice_bounds-run_graph-end : goal.slice_bounds-run_graph-end

@@ -1,6 +1,5 @@
 -- The two cases.
 use Rattle.stg_export.proofs.Laws.{reply-refused, reply-accepted}
-use borrow.Author.Rules.{rules}
 use Rattle.stg_export.proofs.reply_of.Goals as goal
 
 pub returns-in-Refused : goal.returns-in-Refused

@@ -1,6 +1,5 @@
 -- The reply to the reader's answer; the lists are the reader's.
 use Rattle.stg_export.proofs.Laws.{read-reply}
-use borrow.Author.Rules.{rules}
 use Rattle.stg_export.proofs.yolluvek_read_text.Goals as goal
 
 pub returns : goal.returns

@@ -1,6 +1,5 @@
 -- The reply to the writer's answer; the buffer is the writer's.
 use Rattle.stg_export.proofs.Laws.{write-reply}
-use borrow.Author.Rules.{rules}
 use Rattle.stg_export.proofs.yolluvek_write_text.Goals as goal
 
 pub returns : goal.returns

@@ -1,6 +1,5 @@
 use native.Mathlib.Omega.{arith}
 use Rattle.text_write.proofs.Laws.{few-tasks, dummies-tested}
-use borrow.Author.Rules.{rules}
 use Rattle.text_write.proofs.dummies_fit.Goals as goal
 
 pub returns-then-n-lt2 : goal.returns-then-n-lt2

@@ -1,9 +1,4 @@
-use Prim.Native.Nat.{◌-◌, ◌*◌, ◌≤◌}
-use mathlib.Core.Path.{◌≡◌}
 use native.Mathlib.Omega.{arith}
-use lib.ListN.{length}
-use Rattle.lists.specs.Sums.{sum_to}
-use Rattle.layout.specs.Plain.{line_size}
 use Rattle.text_write.proofs.Laws.{no_lines, next-line, all_lines}
 use Rattle.text_write.proofs.lines_size.Goals as goal
 

@@ -1,11 +1,9 @@
 -- The lines of the first t tasks are measured, each of at most 33 bytes.
 use Prim.Native.Nat.{◌-◌, ◌*◌, ◌≤◌}
 use mathlib.Core.Path.{◌≡◌}
-use native.Mathlib.Omega.{arith}
 use lib.ListN.{length}
 use Rattle.lists.specs.Sums.{sum_to}
 use Rattle.layout.specs.Plain.{line_size}
-use Rattle.text_write.proofs.Laws.{no_lines, next-line, all_lines}
 use Rattle.text_write.proofs.lines_size.Given as goal
 
 abbrev pub invariant-loop-t : goal.invariant-loop-t

@@ -1,9 +1,4 @@
-use Prim.Native.Nat.{◌-◌, ◌*◌, ◌≤◌}
-use mathlib.Core.Path.{◌≡◌}
 use native.Mathlib.Omega.{arith}
-use lib.ListN.{length, take}
-use Rattle.lists.specs.Sums.{sum_of}
-use Rattle.layout.specs.Plain.{pred_size}
 use Rattle.text_write.proofs.Laws.{no-preds, next-pred, all-preds}
 use Rattle.text_write.proofs.preds_size.Goals as goal
 

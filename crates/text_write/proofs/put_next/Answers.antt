@@ -1,5 +1,4 @@
 use Rattle.text_put.proofs.Laws.{appends-then}
-use borrow.Author.Rules.{rules}
 use Rattle.text_write.proofs.put_next.Goals as goal
 
 pub returns : goal.returns

@@ -1,7 +1,5 @@
-use Prim.Native.Nat.{◌-◌, ◌≤◌}
 use native.Mathlib.Omega.{arith}
-use lib.ListN.{length}
-use Rattle.text_write.proofs.Laws.{Spacing, none-spaced, space-room, next-spaced, all-spaced}
+use Rattle.text_write.proofs.Laws.{none-spaced, space-room, next-spaced, all-spaced}
 use Rattle.text_write.proofs.put_spaced.Goals as goal
 
 pub loop-i-init : goal.loop-i-init

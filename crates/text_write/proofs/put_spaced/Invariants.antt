@@ -1,8 +1,7 @@
 -- The first i numbers are put.
 use Prim.Native.Nat.{◌-◌, ◌≤◌}
-use native.Mathlib.Omega.{arith}
 use lib.ListN.{length}
-use Rattle.text_write.proofs.Laws.{Spacing, none-spaced, space-room, next-spaced, all-spaced}
+use Rattle.text_write.proofs.Laws.{Spacing}
 use Rattle.text_write.proofs.put_spaced.Given as goal
 
 abbrev pub invariant-loop-i : goal.invariant-loop-i

@@ -1,10 +1,9 @@
-use Prim.Native.Nat.{◌-◌, ◌≤◌}
 use native.Mathlib.Omega.{arith}
 use lib.ListN.{length}
 use Rattle.graph.specs.Graph.{part}
 use Rattle.graph.specs.Conditions.{Good}
 use Rattle.graph.proofs.Parts.{length_part}
-use Rattle.text_write.proofs.Laws.{TasksPut, no-tasks, task-room, next-task, all-tasks}
+use Rattle.text_write.proofs.Laws.{no-tasks, task-room, next-task, all-tasks}
 use Rattle.text_write.proofs.put_tasks.Goals as goal
 use Rattle.text_write.proofs.put_tasks.Goals.{In-loop-t}
 

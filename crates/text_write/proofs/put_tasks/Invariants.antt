@@ -1,11 +1,7 @@
 -- The lines of the first t tasks are put.
 use Prim.Native.Nat.{◌-◌, ◌≤◌}
-use native.Mathlib.Omega.{arith}
 use lib.ListN.{length}
-use Rattle.graph.specs.Graph.{part}
-use Rattle.graph.specs.Conditions.{Good}
-use Rattle.graph.proofs.Parts.{length_part}
-use Rattle.text_write.proofs.Laws.{TasksPut, no-tasks, task-room, next-task, all-tasks}
+use Rattle.text_write.proofs.Laws.{TasksPut}
 use Rattle.text_write.proofs.put_tasks.Given as goal
 
 abbrev pub invariant-loop-t : goal.invariant-loop-t

@@ -5,7 +5,6 @@ use lib.ListN.{length}
 use Rattle.graph.specs.Graph.{graph_of}
 use Rattle.graph.specs.Conditions.{Sound}
 use Rattle.text_write.proofs.Laws.{two-tasks, write-refused, write-sound, write_word, write-dummies, write-small, write-whole}
-use borrow.Author.Rules.{rules}
 use Rattle.text_write.proofs.write.Goals as goal
 use Rattle.text_write.proofs.write.Goals.{Else-not-dummies_fit}
 

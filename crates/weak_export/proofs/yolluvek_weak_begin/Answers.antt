@@ -1,6 +1,5 @@
 use Rattle.weak_export.proofs.Laws.{begin-replied}
 use Rattle.replies.specs.Replies.{reply_of}
-use borrow.Author.Rules.{rules}
 use Rattle.weak_export.proofs.yolluvek_weak_begin.Goals as goal
 
 pub returns : goal.returns

@@ -1,7 +1,6 @@
 use Rattle.weak_export.proofs.Laws.{step-replied}
 use Rattle.weak_replies.specs.Replies.{weak_reply_of}
 use Rattle.replies.proofs.Laws.{in-case}
-use borrow.Author.Rules.{rules}
 use Rattle.weak_export.proofs.yolluvek_weak_start.Goals as goal
 
 pub returns-in-Refused : goal.returns-in-Refused

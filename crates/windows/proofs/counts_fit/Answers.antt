@@ -1,6 +1,5 @@
 -- The tests, one by one.
 use Rattle.windows.proofs.Judging.{counts-tested}
-use borrow.Author.Rules.{rules}
 use Rattle.windows.proofs.counts_fit.Goals as goal
 
 pub returns : goal.returns

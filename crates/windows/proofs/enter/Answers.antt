@@ -1,7 +1,6 @@
 -- The entry's words as they were read.
 use Rattle.windows.proofs.Sliding.{entering, entered}
 use native.Mathlib.Omega.{arith}
-use borrow.Author.Rules.{rules}
 use Rattle.windows.proofs.enter.Goals as goal
 
 pub overflow_add-sums : goal.overflow_add-sums

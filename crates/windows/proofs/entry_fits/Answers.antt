@@ -1,7 +1,6 @@
 -- The task first, then the worker and the weight.
 use native.Mathlib.Omega.{arith}
 use Rattle.windows.proofs.Judging.{far-task, near-task}
-use borrow.Author.Rules.{rules}
 use Rattle.windows.proofs.entry_fits.Goals as goal
 
 pub returns-then-weights-task : goal.returns-then-weights-task

@@ -4,7 +4,6 @@ use mathlib.Core.Path.{◌≡◌}
 use native.Mathlib.Omega.{arith}
 use lib.ListN.{length, get_or}
 use Rattle.windows.proofs.Judging.{judge-far, judge-long, judge-over, judge-odd, judge-room, judge-bad, judge-good, counts-kept, both_equal, window-within, room-few}
-use borrow.Author.Rules.{rules}
 use Rattle.windows.proofs.judge.Goals as goal
 use Rattle.windows.proofs.judge.Goals.{Else-not-counts_fit, Else-not-executed-n}
 

@@ -1,6 +1,5 @@
 -- The entry's words as they were read.
 use Rattle.windows.proofs.Sliding.{leaving, left}
-use borrow.Author.Rules.{rules}
 use Rattle.windows.proofs.leave.Goals as goal
 
 pub overflow_sub-sums : goal.overflow_sub-sums

@@ -1,7 +1,5 @@
-use Prim.Native.Nat.{◌-◌, ◌≤◌}
 use native.Mathlib.Omega.{arith}
-use lib.ListN.{length}
-use Rattle.windows.proofs.Putting.{Putting, none-put, out-size, out-kept, next-put, all-put}
+use Rattle.windows.proofs.Putting.{none-put, out-size, out-kept, next-put, all-put}
 use Rattle.windows.proofs.put_window.Goals as goal
 
 pub bounds-sums-0 : goal.bounds-sums-0

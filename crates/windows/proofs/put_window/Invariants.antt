@@ -1,8 +1,7 @@
 -- The first i sums stand in the window.
 use Prim.Native.Nat.{◌-◌, ◌≤◌}
-use native.Mathlib.Omega.{arith}
 use lib.ListN.{length}
-use Rattle.windows.proofs.Putting.{Putting, none-put, out-size, out-kept, next-put, all-put}
+use Rattle.windows.proofs.Putting.{Putting}
 use Rattle.windows.proofs.put_window.Given as goal
 
 abbrev pub invariant-loop-i : goal.invariant-loop-i

@@ -1,10 +1,10 @@
-use Prim.Native.Nat.{◌+◌, ◌-◌, ◌≤◌}
+use Prim.Native.Nat.{◌+◌, ◌≤◌}
 use mathlib.Core.Path.{sym, ◌∙◌}
 use native.Mathlib.Omega.{arith}
 use lib.ListN.{length}
 use Rattle.loads.specs.Windows.{Spans}
 use Rattle.windows.proofs.Sliding.{sums-length}
-use Rattle.windows.proofs.Putting.{WindowsPut, fewer, first-room, first-put, first-windows, slide-asks, next-room, place-few, put-asks, next-window, all-windows}
+use Rattle.windows.proofs.Putting.{fewer, first-room, first-put, first-windows, slide-asks, next-room, place-few, put-asks, next-window, all-windows}
 use Rattle.windows.proofs.put_windows.Goals as goal
 use Rattle.windows.proofs.put_windows.Goals.{In-loop-w}
 

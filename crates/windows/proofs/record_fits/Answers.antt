@@ -1,8 +1,4 @@
-use Prim.Native.Nat.{◌-◌, ◌≤◌}
-use mathlib.Core.Path.{◌≡◌}
-use mathlib.Core.Bool.{true}
 use native.Mathlib.Omega.{arith}
-use Rattle.loads.specs.Windows.{record_fits}
 use Rattle.windows.proofs.Judging.{none-unfit, next_fits, all_fit, unfit}
 use Rattle.windows.proofs.record_fits.Goals as goal
 

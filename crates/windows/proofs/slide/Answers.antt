@@ -1,6 +1,5 @@
 -- One entry leaves, one enters.
 use Rattle.windows.proofs.Sliding.{leave-asks, leaves, enter-asks, slides}
-use borrow.Author.Rules.{rules}
 use Rattle.windows.proofs.slide.Goals as goal
 
 pub leave-requires : goal.leave-requires

@@ -1,10 +1,8 @@
 -- The first x entries are in.
 use Prim.Native.Nat.{◌-◌, ◌≤◌}
 use mathlib.Core.Path.{◌≡◌}
-use native.Mathlib.Omega.{arith}
 use lib.ListN.{length}
 use Rattle.loads.specs.Windows.{window_sums}
-use Rattle.windows.proofs.Sliding.{sums-length, first-asks, first-in, all_in}
 use Rattle.windows.proofs.sum_first.Given as goal
 
 abbrev pub invariant-loop-x : goal.invariant-loop-x

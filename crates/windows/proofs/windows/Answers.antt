@@ -2,7 +2,6 @@
 use mathlib.Core.Path.{sym}
 use native.Mathlib.Omega.{arith}
 use Rattle.windows.proofs.Putting.{scratch-size, call-refused, two-words, few-workers, call_asks, call-whole}
-use borrow.Author.Rules.{rules}
 use Rattle.windows.proofs.windows.Goals as goal
 
 pub returns-in-Refused : goal.returns-in-Refused

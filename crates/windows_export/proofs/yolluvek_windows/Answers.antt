@@ -1,6 +1,5 @@
 -- The reply to the answer; the results are the call's.
 use Rattle.windows_export.proofs.Laws.{windows-reply}
-use borrow.Author.Rules.{rules}
 use Rattle.windows_export.proofs.yolluvek_windows.Goals as goal
 
 pub returns : goal.returns
