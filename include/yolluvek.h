@@ -20,7 +20,7 @@
  *
  * Link libyolluvek.a, which `make install` installs (x86-64 Linux), or the archives that it is merged from:
  * libgraph_export.a, libstg_export.a, libengine_export.a, libpreview_export.a, libwindows_export.a and libweak_export.a,
- * which `rt staticlib` writes to target/staticlib. Of these the last has the calls of weak jobs, the fifth the load
+ * which `make archives` writes to target/staticlib. Of these the last has the calls of weak jobs, the fifth the load
  * windows, the fourth the preview's calls, the third begin and the steps, the second the reader and the writer, the first
  * the other calls.
  *
