@@ -3,9 +3,11 @@
 #   make                        target/kit/libyolluvek.a
 #   make install PREFIX=/opt/y  into /opt/y/include and /opt/y/lib, behind DESTDIR if that is set
 #   make dist                   target/kit/yolluvek-VERSION-x86_64-linux.tar.gz, for any place on any machine
+#   make archives               the archives of the proved code, target/staticlib/lib*.a, as Rust links them
 #   make check                  compiles and runs tests/c and the examples, and tries install and dist
 #
-# The proved archives are used as they stand in target/staticlib; a missing one is made by `rt staticlib`.
+# The archives are used as they stand in target/staticlib; a missing one is made by `rt lib` in crates/NAME_c, which proves what it holds
+# where that isn't done yet.
 
 PREFIX ?= /usr/local
 KIT := target/kit
@@ -18,13 +20,23 @@ NAME := yolluvek-$(VERSION)-x86_64-linux
 PC_PREFIX = $(abspath $(PREFIX))
 INTO = $(DESTDIR)$(abspath $(PREFIX))
 
-.PHONY: all install dist check clean
+# what tests link beside the kit's
+BESIDE := target/staticlib/libref_export.a
+
+.PHONY: all archives install dist check clean
 .DELETE_ON_ERROR:
 
 all: $(KIT)/libyolluvek.a
 
-$(ARCHIVES): target/staticlib/lib%.a:
-	rt staticlib $*
+archives: $(ARCHIVES) $(BESIDE)
+
+# one after the other: each builds the libraries below it that aren't built yet
+.NOTPARALLEL:
+
+$(ARCHIVES) $(BESIDE): target/staticlib/lib%.a:
+	cd crates/$*_c && rt lib
+	mkdir -p target/staticlib
+	cp crates/$*_c/out/lib$*_c.a $@
 
 $(KIT)/libyolluvek.a: $(ARCHIVES)
 	rm -rf $(KIT)/objects $@

@@ -3,7 +3,7 @@
  * workers, and run as the desk program runs it; printed are N and the steps accepted, then task and worker of each
  * entry of the record.
  *
- * From the repository's root, after `rt staticlib` of stg_export and engine_export:
+ * From the repository's root, after `make archives`:
  *
  *     cc -Iinclude examples/diamond.c -Ltarget/staticlib -lstg_export -lengine_export -o diamond && ./diamond
  */

@@ -2,7 +2,8 @@
  * Yolluvek: the scheduling core of a job console, proved. The calls for C and C++.
  *
  * A host lends lists of 32-bit words, each as a pointer and a length, and the calls read and write them; nothing is
- * allocated or kept between calls. A call uses at most about 41 KB of stack.
+ * allocated or kept between calls. A call uses at most about 41 KB of stack, as measured with an older kit,
+ * rattle-kit-5b-plain.
  *
  * A run: fill the weights and the predecessor table, by yolluvek_read_text or otherwise; call yolluvek_begin; let each
  * worker take steps, by yolluvek_fetch, _start, _complete and _release, until run[0] is the number of tasks. Then
@@ -20,7 +21,7 @@
  *
  * Link libyolluvek.a, which `make install` installs (x86-64 Linux), or the archives that it is merged from:
  * libgraph_export.a, libstg_export.a, libengine_export.a, libpreview_export.a, libwindows_export.a and libweak_export.a,
- * which `rt staticlib` writes to target/staticlib. Of these the last has the calls of weak jobs, the fifth the load
+ * which `make archives` writes to target/staticlib. Of these the last has the calls of weak jobs, the fifth the load
  * windows, the fourth the preview's calls, the third begin and the steps, the second the reader and the writer, the first
  * the other calls.
  *

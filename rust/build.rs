@@ -1,4 +1,4 @@
-//! With the feature `linked`, links the archives that `rt staticlib` writes of the crates named here.
+//! With the feature `linked`, links the archives that `make archives` writes of the crates named here.
 
 use std::env;
 use std::path::Path;

@@ -1,4 +1,4 @@
-//! Links the archives that `rt staticlib` writes of the crates named here, from the folder that `YOLLUVEK_LIB` names or
+//! Links the archives that `make archives` writes of the crates named here, from the folder that `YOLLUVEK_LIB` names or
 //! else from `target/staticlib` of this repository.
 
 use std::env;
@@ -26,7 +26,7 @@ fn main() {
         println!("cargo::rerun-if-changed={}", file.display());
         println!("cargo::rustc-link-lib=static={archive}");
         if !file.exists() {
-            let make = format!("`rt staticlib {archive}` writes it, or YOLLUVEK_LIB names its folder");
+            let make = format!("`make archives` writes it, or YOLLUVEK_LIB names its folder");
             println!("cargo::warning={} is missing: {make}", file.display());
         }
     }

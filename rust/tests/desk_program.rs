@@ -15,7 +15,7 @@ fn root() -> PathBuf {
 
 /// What the program prints when the text comes on standard input.
 fn printed(text: &[u8]) -> Vec<u8> {
-    let program = root().join("target/bin/desk");
+    let program = root().join("crates/desk/out/desk");
     let mut child = Command::new(&program)
         .stdin(Stdio::piped())
         .stdout(Stdio::piped())
@@ -47,7 +47,7 @@ fn diamond_of(bytes: usize) -> Vec<u8> {
 
 /// The program started by the shell with these redirections; what it printed and what it told.
 fn redirected(how: &str) -> (String, String) {
-    let program = root().join("target/bin/desk");
+    let program = root().join("crates/desk/out/desk");
     let line = format!("\"$0\" {how}");
     let result = Command::new("sh")
         .arg("-c")

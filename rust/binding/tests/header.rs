@@ -1,5 +1,6 @@
 //! include/yolluvek.h beside the exports: the same functions with the same parameters in the same order, `const` exactly
 //! where an export lends shared, and the same fields. The Rust declarations of begin and the steps write the same lists.
+//! What a static library exports has the words of the function that it hands on to.
 
 use std::collections::BTreeMap;
 use std::fs;
@@ -28,6 +29,13 @@ fn stored(file: &str) -> String {
 
 fn source(name: &str) -> String {
     stored(&format!("crates/{name}/src/lib.rt"))
+}
+
+const EXPORTED: &str = "#[unsafe(no_mangle)]\n";
+
+/// The exports of a static library, each from its first line to its last.
+fn exports(source: &str) -> impl Iterator<Item = &str> {
+    source.split(EXPORTED).skip(1)
 }
 
 /// The header without its comments.
@@ -109,8 +117,8 @@ fn exported_parameter(item: &str) -> Vec<Parameter> {
 
 fn exported() -> Functions {
     let mut functions = Functions::new();
-    for source in EXPORTS.map(source) {
-        for item in source.split("#[no_mangle]").skip(1) {
+    for name in EXPORTS {
+        for item in exports(&source(&format!("{name}_c"))) {
             let name = between(item, "pub extern \"C\" fn ", "(");
             let parameters = trimmed(between(item, "(", ")")).flat_map(exported_parameter);
             let answer = in_c(between(item, ") -> ", "\n").trim());
@@ -158,6 +166,19 @@ fn the_functions_are_the_exports() {
     assert_eq!(names(&declared), names(&exported));
     for (name, function) in &exported {
         assert_eq!(&declared[name], function, "{name}");
+    }
+}
+
+/// Parameters, answer and clauses are word for word those of the library's function of the same name.
+#[test]
+fn the_exports_are_the_library_s() {
+    for name in EXPORTS.into_iter().chain(["ref_export"]) {
+        let (library, linked) = (source(name), source(&format!("{name}_c")));
+        let heads = |source: &str| {
+            let heads = exports(source).map(|item| String::from(between(item, "", "\n{\n")));
+            heads.collect::<Vec<_>>()
+        };
+        assert_eq!(heads(&linked), heads(&library), "{name}");
     }
 }
 
@@ -251,9 +272,13 @@ fn the_rust_declarations_write_what_the_exports_do() {
     }
 }
 
-/// C's types and the names of the fields of a struct of the crate, in order.
+/// C's types and the names of the fields of a struct of the crate with C's layout, in order.
 fn fields(source: &str, name: &str) -> Vec<(String, String)> {
-    let body = between(source, &format!("#[repr(C)]\npub struct {name} {{"), "}");
+    let opening = format!("pub struct {name} {{");
+    let (before, _) = source.split_once(&opening).expect("the struct");
+    let mut attributes = before.lines().rev().take_while(|line| line.starts_with("#["));
+    assert!(attributes.any(|line| line == "#[repr(C)]"), "{name} has C's layout");
+    let body = between(source, &opening, "}");
     let fields = trimmed(body).map(|field| field.strip_prefix("pub ").expect("a public field"));
     fields
         .map(|field| field.split_once(": ").expect("a name and a type"))

@@ -1,0 +1,263 @@
+// The preview as C and Rust see it: each call hands on to the one of the same name in `preview_export`, under its clauses.
+#![tactic(auto)]
+
+ghost use Rattle.std.specs.Prelude.{◌≡◌};
+ghost use Rattle.task.specs.Types.{preview};
+ghost use Rattle.task.specs.declared.Step.{Step};
+ghost use Rattle.rules.specs.Begin.{begin};
+ghost use Rattle.rules.specs.Steps.{step};
+ghost use Rattle.rules.specs.Plans.{result_of};
+ghost use Rattle.engine_cells.specs.Cells.{cell_mem};
+ghost use Rattle.replies.specs.Replies.{reply_of, step_reply_of};
+ghost use Rattle.engine_export.specs.Replies.{replied};
+
+use replies::{Reply, StepReply};
+use task::RowCell;
+
+#[unsafe(no_mangle)]
+pub extern "C" fn yolluvek_preview_begin(
+    weights: &[u32],
+    pred_starts: &[u32],
+    preds: &[u32],
+    succ_starts: &mut [u32],
+    succs: &mut [u32],
+    degrees: &mut [u32],
+    rings: &mut [u32],
+    ends: &mut [u32],
+    counters: &mut [i32],
+    buffers: &mut [u32],
+    executed: &mut [u32],
+    run: &mut [u32],
+    rows: &mut [RowCell],
+    p: usize,
+    k: usize,
+) -> Reply
+    ensures { result_of result
+        (cell_mem weights.now pred_starts.now preds.now succ_starts.new
+        succs.new degrees.new rings.new ends.new
+        counters.new buffers.new executed.new run.new
+        rows.new)
+        ≡ replied reply_of (begin preview p k
+        (cell_mem weights.now pred_starts.now preds.now succ_starts.old
+        succs.old degrees.old rings.old ends.old
+        counters.old buffers.old executed.old run.old
+        rows.old)) }
+{
+    preview_export::yolluvek_preview_begin(
+        weights,
+        pred_starts,
+        preds,
+        succ_starts,
+        succs,
+        degrees,
+        rings,
+        ends,
+        counters,
+        buffers,
+        executed,
+        run,
+        rows,
+        p,
+        k,
+    )
+}
+
+#[unsafe(no_mangle)]
+pub extern "C" fn yolluvek_preview_fetch(
+    weights: &[u32],
+    pred_starts: &[u32],
+    preds: &[u32],
+    succ_starts: &[u32],
+    succs: &[u32],
+    degrees: &[u32],
+    rings: &[u32],
+    ends: &mut [u32],
+    counters: &[i32],
+    buffers: &[u32],
+    executed: &[u32],
+    run: &mut [u32],
+    rows: &mut [RowCell],
+    p: usize,
+    k: usize,
+    worker: u32,
+) -> StepReply
+    ensures { result_of result
+        (cell_mem weights.now pred_starts.now preds.now succ_starts.now
+        succs.now degrees.now rings.now ends.new
+        counters.now buffers.now executed.now run.new
+        rows.new)
+        ≡ replied step_reply_of (step preview p k worker Step.Fetch
+        (cell_mem weights.now pred_starts.now preds.now succ_starts.now
+        succs.now degrees.now rings.now ends.old
+        counters.now buffers.now executed.now run.old
+        rows.old)) }
+{
+    preview_export::yolluvek_preview_fetch(
+        weights,
+        pred_starts,
+        preds,
+        succ_starts,
+        succs,
+        degrees,
+        rings,
+        ends,
+        counters,
+        buffers,
+        executed,
+        run,
+        rows,
+        p,
+        k,
+        worker,
+    )
+}
+
+#[unsafe(no_mangle)]
+pub extern "C" fn yolluvek_preview_start(
+    weights: &[u32],
+    pred_starts: &[u32],
+    preds: &[u32],
+    succ_starts: &[u32],
+    succs: &[u32],
+    degrees: &[u32],
+    rings: &[u32],
+    ends: &[u32],
+    counters: &[i32],
+    buffers: &[u32],
+    executed: &[u32],
+    run: &mut [u32],
+    rows: &mut [RowCell],
+    p: usize,
+    k: usize,
+    worker: u32,
+) -> StepReply
+    ensures { result_of result
+        (cell_mem weights.now pred_starts.now preds.now succ_starts.now
+        succs.now degrees.now rings.now ends.now
+        counters.now buffers.now executed.now run.new
+        rows.new)
+        ≡ replied step_reply_of (step preview p k worker Step.Start
+        (cell_mem weights.now pred_starts.now preds.now succ_starts.now
+        succs.now degrees.now rings.now ends.now
+        counters.now buffers.now executed.now run.old
+        rows.old)) }
+{
+    preview_export::yolluvek_preview_start(
+        weights,
+        pred_starts,
+        preds,
+        succ_starts,
+        succs,
+        degrees,
+        rings,
+        ends,
+        counters,
+        buffers,
+        executed,
+        run,
+        rows,
+        p,
+        k,
+        worker,
+    )
+}
+
+#[unsafe(no_mangle)]
+pub extern "C" fn yolluvek_preview_complete(
+    weights: &[u32],
+    pred_starts: &[u32],
+    preds: &[u32],
+    succ_starts: &[u32],
+    succs: &[u32],
+    degrees: &[u32],
+    rings: &[u32],
+    ends: &[u32],
+    counters: &mut [i32],
+    buffers: &mut [u32],
+    executed: &mut [u32],
+    run: &mut [u32],
+    rows: &mut [RowCell],
+    p: usize,
+    k: usize,
+    worker: u32,
+) -> StepReply
+    ensures { result_of result
+        (cell_mem weights.now pred_starts.now preds.now succ_starts.now
+        succs.now degrees.now rings.now ends.now
+        counters.new buffers.new executed.new run.new
+        rows.new)
+        ≡ replied step_reply_of (step preview p k worker Step.Complete
+        (cell_mem weights.now pred_starts.now preds.now succ_starts.now
+        succs.now degrees.now rings.now ends.now
+        counters.old buffers.old executed.old run.old
+        rows.old)) }
+{
+    preview_export::yolluvek_preview_complete(
+        weights,
+        pred_starts,
+        preds,
+        succ_starts,
+        succs,
+        degrees,
+        rings,
+        ends,
+        counters,
+        buffers,
+        executed,
+        run,
+        rows,
+        p,
+        k,
+        worker,
+    )
+}
+
+#[unsafe(no_mangle)]
+pub extern "C" fn yolluvek_preview_release(
+    weights: &[u32],
+    pred_starts: &[u32],
+    preds: &[u32],
+    succ_starts: &[u32],
+    succs: &[u32],
+    degrees: &mut [u32],
+    rings: &mut [u32],
+    ends: &mut [u32],
+    counters: &mut [i32],
+    buffers: &[u32],
+    executed: &[u32],
+    run: &mut [u32],
+    rows: &mut [RowCell],
+    p: usize,
+    k: usize,
+    worker: u32,
+) -> StepReply
+    ensures { result_of result
+        (cell_mem weights.now pred_starts.now preds.now succ_starts.now
+        succs.now degrees.new rings.new ends.new
+        counters.new buffers.now executed.now run.new
+        rows.new)
+        ≡ replied step_reply_of (step preview p k worker Step.Release
+        (cell_mem weights.now pred_starts.now preds.now succ_starts.now
+        succs.now degrees.old rings.old ends.old
+        counters.old buffers.now executed.now run.old
+        rows.old)) }
+{
+    preview_export::yolluvek_preview_release(
+        weights,
+        pred_starts,
+        preds,
+        succ_starts,
+        succs,
+        degrees,
+        rings,
+        ends,
+        counters,
+        buffers,
+        executed,
+        run,
+        rows,
+        p,
+        k,
+        worker,
+    )
+}

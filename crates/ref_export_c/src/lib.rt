@@ -1,0 +1,263 @@
+// The calls of `engine_ref` as C and Rust see them: each hands on to the call of the same name in `ref_export`, under its clauses.
+#![tactic(auto)]
+
+ghost use Rattle.std.specs.Prelude.{◌≡◌};
+ghost use Rattle.task.specs.Types.{engine};
+ghost use Rattle.task.specs.declared.Step.{Step};
+ghost use Rattle.rules.specs.Begin.{begin};
+ghost use Rattle.rules.specs.Steps.{step};
+ghost use Rattle.rules.specs.Plans.{result_of};
+ghost use Rattle.rules.specs.Memory.{mem_of};
+ghost use Rattle.replies.specs.Replies.{reply_of, step_reply_of};
+ghost use Rattle.engine_export.specs.Replies.{replied};
+
+use replies::{Reply, StepReply};
+use task::Row;
+
+#[unsafe(no_mangle)]
+pub extern "C" fn yolluvek_ref_begin(
+    weights: &[u32],
+    pred_starts: &[u32],
+    preds: &[u32],
+    succ_starts: &mut [u32],
+    succs: &mut [u32],
+    degrees: &mut [u32],
+    rings: &mut [u32],
+    ends: &mut [u32],
+    counters: &mut [i32],
+    buffers: &mut [u32],
+    executed: &mut [u32],
+    run: &mut [u32],
+    rows: &mut [Row],
+    p: usize,
+    k: usize,
+) -> Reply
+    ensures { result_of result
+        (mem_of weights.now pred_starts.now preds.now succ_starts.new
+        succs.new degrees.new rings.new ends.new
+        counters.new buffers.new executed.new run.new
+        rows.new)
+        ≡ replied reply_of (begin engine p k
+        (mem_of weights.now pred_starts.now preds.now succ_starts.old
+        succs.old degrees.old rings.old ends.old
+        counters.old buffers.old executed.old run.old
+        rows.old)) }
+{
+    ref_export::yolluvek_ref_begin(
+        weights,
+        pred_starts,
+        preds,
+        succ_starts,
+        succs,
+        degrees,
+        rings,
+        ends,
+        counters,
+        buffers,
+        executed,
+        run,
+        rows,
+        p,
+        k,
+    )
+}
+
+#[unsafe(no_mangle)]
+pub extern "C" fn yolluvek_ref_fetch(
+    weights: &[u32],
+    pred_starts: &[u32],
+    preds: &[u32],
+    succ_starts: &[u32],
+    succs: &[u32],
+    degrees: &[u32],
+    rings: &[u32],
+    ends: &mut [u32],
+    counters: &[i32],
+    buffers: &[u32],
+    executed: &[u32],
+    run: &mut [u32],
+    rows: &mut [Row],
+    p: usize,
+    k: usize,
+    worker: u32,
+) -> StepReply
+    ensures { result_of result
+        (mem_of weights.now pred_starts.now preds.now succ_starts.now
+        succs.now degrees.now rings.now ends.new
+        counters.now buffers.now executed.now run.new
+        rows.new)
+        ≡ replied step_reply_of (step engine p k worker Step.Fetch
+        (mem_of weights.now pred_starts.now preds.now succ_starts.now
+        succs.now degrees.now rings.now ends.old
+        counters.now buffers.now executed.now run.old
+        rows.old)) }
+{
+    ref_export::yolluvek_ref_fetch(
+        weights,
+        pred_starts,
+        preds,
+        succ_starts,
+        succs,
+        degrees,
+        rings,
+        ends,
+        counters,
+        buffers,
+        executed,
+        run,
+        rows,
+        p,
+        k,
+        worker,
+    )
+}
+
+#[unsafe(no_mangle)]
+pub extern "C" fn yolluvek_ref_start(
+    weights: &[u32],
+    pred_starts: &[u32],
+    preds: &[u32],
+    succ_starts: &[u32],
+    succs: &[u32],
+    degrees: &[u32],
+    rings: &[u32],
+    ends: &[u32],
+    counters: &[i32],
+    buffers: &[u32],
+    executed: &[u32],
+    run: &mut [u32],
+    rows: &mut [Row],
+    p: usize,
+    k: usize,
+    worker: u32,
+) -> StepReply
+    ensures { result_of result
+        (mem_of weights.now pred_starts.now preds.now succ_starts.now
+        succs.now degrees.now rings.now ends.now
+        counters.now buffers.now executed.now run.new
+        rows.new)
+        ≡ replied step_reply_of (step engine p k worker Step.Start
+        (mem_of weights.now pred_starts.now preds.now succ_starts.now
+        succs.now degrees.now rings.now ends.now
+        counters.now buffers.now executed.now run.old
+        rows.old)) }
+{
+    ref_export::yolluvek_ref_start(
+        weights,
+        pred_starts,
+        preds,
+        succ_starts,
+        succs,
+        degrees,
+        rings,
+        ends,
+        counters,
+        buffers,
+        executed,
+        run,
+        rows,
+        p,
+        k,
+        worker,
+    )
+}
+
+#[unsafe(no_mangle)]
+pub extern "C" fn yolluvek_ref_complete(
+    weights: &[u32],
+    pred_starts: &[u32],
+    preds: &[u32],
+    succ_starts: &[u32],
+    succs: &[u32],
+    degrees: &[u32],
+    rings: &[u32],
+    ends: &[u32],
+    counters: &mut [i32],
+    buffers: &mut [u32],
+    executed: &mut [u32],
+    run: &mut [u32],
+    rows: &mut [Row],
+    p: usize,
+    k: usize,
+    worker: u32,
+) -> StepReply
+    ensures { result_of result
+        (mem_of weights.now pred_starts.now preds.now succ_starts.now
+        succs.now degrees.now rings.now ends.now
+        counters.new buffers.new executed.new run.new
+        rows.new)
+        ≡ replied step_reply_of (step engine p k worker Step.Complete
+        (mem_of weights.now pred_starts.now preds.now succ_starts.now
+        succs.now degrees.now rings.now ends.now
+        counters.old buffers.old executed.old run.old
+        rows.old)) }
+{
+    ref_export::yolluvek_ref_complete(
+        weights,
+        pred_starts,
+        preds,
+        succ_starts,
+        succs,
+        degrees,
+        rings,
+        ends,
+        counters,
+        buffers,
+        executed,
+        run,
+        rows,
+        p,
+        k,
+        worker,
+    )
+}
+
+#[unsafe(no_mangle)]
+pub extern "C" fn yolluvek_ref_release(
+    weights: &[u32],
+    pred_starts: &[u32],
+    preds: &[u32],
+    succ_starts: &[u32],
+    succs: &[u32],
+    degrees: &mut [u32],
+    rings: &mut [u32],
+    ends: &mut [u32],
+    counters: &mut [i32],
+    buffers: &[u32],
+    executed: &[u32],
+    run: &mut [u32],
+    rows: &mut [Row],
+    p: usize,
+    k: usize,
+    worker: u32,
+) -> StepReply
+    ensures { result_of result
+        (mem_of weights.now pred_starts.now preds.now succ_starts.now
+        succs.now degrees.new rings.new ends.new
+        counters.new buffers.now executed.now run.new
+        rows.new)
+        ≡ replied step_reply_of (step engine p k worker Step.Release
+        (mem_of weights.now pred_starts.now preds.now succ_starts.now
+        succs.now degrees.old rings.old ends.old
+        counters.old buffers.now executed.now run.old
+        rows.old)) }
+{
+    ref_export::yolluvek_ref_release(
+        weights,
+        pred_starts,
+        preds,
+        succ_starts,
+        succs,
+        degrees,
+        rings,
+        ends,
+        counters,
+        buffers,
+        executed,
+        run,
+        rows,
+        p,
+        k,
+        worker,
+    )
+}
