@@ -1,6 +1,5 @@
 use Rattle.engine_export.proofs.Laws.{begin-replied}
 use Rattle.replies.specs.Replies.{reply_of}
-use borrow.Author.Rules.{rules}
 use Rattle.preview_export.proofs.yolluvek_preview_begin.Goals as goal
 
 pub returns : goal.returns

@@ -1,7 +1,6 @@
 use Rattle.engine_export.proofs.Laws.{step-replied}
 use Rattle.replies.specs.Replies.{step_reply_of}
 use Rattle.replies.proofs.Laws.{in-case}
-use borrow.Author.Rules.{rules}
 use Rattle.preview_export.proofs.yolluvek_preview_release.Goals as goal
 
 pub returns-in-Refused : goal.returns-in-Refused
