@@ -107,7 +107,7 @@ module _ (limits : Limits) (p k i : ℕ) (m : Mem) (fits : Fits limits p k m) (w
           rw (thread-at p k m i worker, successors-at p k m task common.task.below)
           (lists-after p k i m worker fits.lengths _ _ _ _ _ _ _ _ _ kept (record_in m')
           ∙ state-same refl refl refl refl
-          -- line 16: "W_i = W_i − w_T'"
+          -- line 16: "W_i = W_i − w_T′"
           (counters-put p i i worker worker k m fits.lengths (record_in m) (λ c. c -ℤ pos (weight_in m task)))
           (rw joins)
           record-joins)

@@ -25,7 +25,7 @@ pub record Fetches (p i : ℕ) (s s' : State) (o : StepOutcome) : Type 0 where
   -- at the first ring that isn't empty"
   pub list : ℕ
   pub first : First p (λ j. ¬ (queue_of s i j ≡ [])) (thread_of s i).pointer list
-  -- line 15: "fetch a task T' from the head of LL_i"
+  -- line 15: "fetch a task T′ from the head of LL_i"
   pub task : ℕ
   pub rest : List ℕ
   pub head : queue_of s i list ≡ task ∷ rest
@@ -33,7 +33,7 @@ pub record Fetches (p i : ℕ) (s s' : State) (o : StepOutcome) : Type 0 where
   pub after : s' ≡ with_thread i (holding p list task (thread_of s i)) (with_queue i list rest s)
   pub outcome : o ≡ Fetched (record { 0 = task })
 
--- {Execute module}: document 01's Start and Complete are the two ends of line 17, "execute T'"; Complete has line 16 too. Start moves "the phase
+-- {Execute module}: document 01's Start and Complete are the two ends of line 17, "execute T′"; Complete has line 16 too. Start moves "the phase
 -- alone".
 pub record Starts (i : ℕ) (s s' : State) (o : StepOutcome) : Type 0 where
   -- "Start 1→2"
@@ -41,14 +41,14 @@ pub record Starts (i : ℕ) (s s' : State) (o : StepOutcome) : Type 0 where
   pub after : s' ≡ with_thread i (executing (thread_of s i)) s
   pub outcome : o ≡ Moved
 
--- line 17: "place the task ID of T' into the Completed Task ID buffer of Thread i"; "held becomes NIL"
+-- line 17: "place the task ID of T′ into the Completed Task ID buffer of Thread i"; "held becomes NIL"
 abbrev pub completed : List ℕ → Thread → Thread
 completed successors r = thread_with (buffered successors r.held r.buffer) r.cursor 0 nil.0 r.pointer
 
 pub record Completes (i : ℕ) (s s' : State) (o : StepOutcome) : Type 0 where
   -- "Complete 2→0"
   pub phase : ◌≡◌ {A = ℕ} (thread_of s i).phase 2
-  -- line 16: "W_i = W_i − w_T'", moved here from Fetch: "From now on the weight leaves counter (i, i) at Complete." It is still Thread i that updates
+  -- line 16: "W_i = W_i − w_T′", moved here from Fetch: "From now on the weight leaves counter (i, i) at Complete." It is still Thread i that updates
   -- W_i^i, whichever circular list the task came from
   pub after : s'
       ≡ with_thread i (completed (successors_of s (thread_of s i).held) (thread_of s i))

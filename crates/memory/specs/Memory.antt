@@ -20,7 +20,7 @@ pub record Mem (F : Family) : Type 0 where
   pub fixed : List ℕ
   -- "Rings P·P·K"
   pub rings : List F.Item
-  -- "Heads and tails", and "A ring keeps a count beside head and tail": P-as-P triples
+  -- "Heads and tails", and "A ring keeps a count beside head and tail": P·P triples
   pub ends : List ℕ
   -- "Counters P·P, signed, same place rule."
   pub counters : List ℤ

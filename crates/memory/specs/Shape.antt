@@ -21,7 +21,7 @@ length_of F p k n e list.degrees = n
 length_of F p k n e list.fixed = n
 -- "Rings P·P·K"
 length_of F p k n e list.rings = p * p * ring_words k
--- "Heads and tails", "a count beside head and tail": P-as-P triples
+-- "Heads and tails", "a count beside head and tail": P·P triples
 length_of F p k n e list.ends = p * p * end_words
 -- "Counters P·P"
 length_of F p k n e list.counters = p * p

@@ -16,7 +16,7 @@ abbrev pub target_by : Form → ℕ
 target_by f = least f.candidates f.sum
 
 module _ {F : Family} where
-  -- document 01's: "target j is the worker with the least sum of its P counters", "owners taken j, j+1, … modulo P", of all P workers; all P-as-P counters are
+  -- document 01's: "target j is the worker with the least sum of its P counters", "owners taken j, j+1, … modulo P", of all P workers; all P·P counters are
   -- read for that, the one that the weight joins among them
   abbrev pub own : ℕ → Mem F → Form
   own p m =

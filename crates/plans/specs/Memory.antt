@@ -6,7 +6,7 @@ use Rattle.ring.specs.Ring.{slot_at, ends_at, Rings, rings_of}
 use Rattle.memory.specs.Family.{Family, Places}
 use Rattle.memory.specs.Memory.{Mem}
 
--- "the ring of owner i filled by worker j": its number among the P-as-P rings, and that of its counter
+-- "the ring of owner i filled by worker j": its number among the P·P rings, and that of its counter
 abbrev pub ring_number : ℕ → ℕ → ℕ → ℕ
 ring_number p i j = i * p + j
 

@@ -28,7 +28,7 @@ BeyondPK limits p k = ((p < 1) ⊎ ((capped limits).workers < p)) ⊎ ((k < 2) �
 abbrev pub Beyond2^30 : ℤ → Type 0
 Beyond2^30 c = (c <ℤ negsuc 1073741823) ⊎ (pos 1073741824 <ℤ c)
 
--- one of the P-as-P counters is
+-- one of the P·P counters is
 abbrev pub BadCounter : ℕ → List ℤ → Type 0
 BadCounter n counters = (q : ℕ) × (q < n) × Beyond2^30 (get_or counters q (pos 0))
 

@@ -12,7 +12,7 @@ pub lengths-stated : (p k n e : ℕ)
     ≡ n ∷ (n + 1) ∷ e
     -- "Successor starts N+1 and successors E", "Degrees N."
     ∷ (n + 1) ∷ e ∷ n
-    -- "Rings P·P·K", "Heads and tails" with a count, P-as-P triples, "Counters P·P"
+    -- "Rings P·P·K", "Heads and tails" with a count, P·P triples, "Counters P·P"
     ∷ (p * p * k) ∷ (p * p * 3) ∷ (p * p)
     -- "Completed buffers P·N.", "Execution record 2N (task, worker).", "Two run words", "a record per worker"
     ∷ (p * n) ∷ (2 * n) ∷ 2 ∷ p ∷ []

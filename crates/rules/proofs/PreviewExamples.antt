@@ -79,7 +79,7 @@ root p k = lent p k (1 ∷ []) (0 ∷ 0 ∷ []) []
 abbrev pub begun_root : ℕ → ℕ → Mem
 begun_root p k = fresh p k (root p k)
 
--- Within the limits P-as-K roots are 32 such tasks: proved, as a search for cycles among so many tasks can't be computed.
+-- Within the limits P·K roots are 32 such tasks: proved, as a search for cycles among so many tasks can't be computed.
 module _ (n : ℕ) where
   abbrev here : Graph
   here = graph_in (loose n)

@@ -88,7 +88,7 @@ release_rows f p k i m =
     ∷ row damaged (only 0 (tasks m ≤ successor m i))
     -- 8: "degree to be lowered outside 1..N"
     ∷ row damaged (only 0 ((degree_in m (successor m i) < 1) ⊎ (tasks m < degree_in m (successor m i))))
-    -- 8: a word that is read for the target, since one is sought: of document 01's form "counter beyond ±2^30", of all P-as-P
+    -- 8: a word that is read for the target, since one is sought: of document 01's form "counter beyond ±2^30", of all P·P
     ∷ row damaged (only 0 (Ready m i × f.Damaged))
     -- 8: damaged ends, the rings before it, from the target's on, being full
     ∷ row damaged (only 0 (Ready m i × BadOffered f p k i m))

@@ -116,7 +116,7 @@ advanced count r h = go (ℕ_discrete (suc r.cursor) count)
     go (yes e) = (_, last e)
     go (no n) = (_, next (omega (arith, h, n)))
 
--- all P-as-P counters are in their range
+-- all P·P counters are in their range
 pub counters-within : (p : ℕ) (counters : List ℤ) → ((i j : ℕ) → i < p → j < p → ¬ (Beyond2^30 (get_or counters (ring_number p i j) (pos 0))))
     → ¬ (BadCounter (p * p) counters)
 counters-within p counters within (q, l, beyond) =

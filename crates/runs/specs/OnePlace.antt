@@ -19,7 +19,7 @@ held_by m i = cond (eqb (phase_in m i) 0) [] (held m i ∷ [])
 
 -- of a family whose record has, in a memory, these items at its entries
 module _ {F : Family} (same : Discrete F.Item) (entry_item : memory.Mem F → ℕ → F.Item) where
-  -- how often an item stands in the P-as-P rings, in the P hands, and in as many entries of the record as the entries word says
+  -- how often an item stands in the P·P rings, in the P hands, and in as many entries of the record as the entries word says
   unfoldable pub stands_in : ℕ → ℕ → memory.Mem F → F.Item → ℕ
   stands_in p k m a =
       sum_to p (λ i. sum_to p (λ j. occ_of same a (queue_in p k m i j)))

@@ -126,7 +126,7 @@ module _ {F : Family} (p k i : ℕ) (m : Mem F) (worker : i < p) (lengths : Leng
       entries
   lists-after kept entries = state-same refl refl refl refl refl (threads-after kept) refl
 
--- The ring of owner o filled by worker j, among the P-as-P rings.
+-- The ring of owner o filled by worker j, among the P·P rings.
 module _ (p o j : ℕ) (owner : o < p) (filler : j < p) where
   -- of what is read of each ring, by its number, only this ring's changes
   pub rings-put : {A : Type 0} (f g : ℕ → A) → ((q : ℕ) → ¬ (q ≡ ring_number p o j) → g q ≡ f q)

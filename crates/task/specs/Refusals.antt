@@ -33,7 +33,7 @@ duplicate = 4
 abbrev pub cycle : ℕ
 cycle = 5
 
--- more roots than P-as-K: "The roots' limit becomes P·K."
+-- more roots than P·K: "The roots' limit becomes P·K."
 abbrev pub too_many_roots : ℕ
 too_many_roots = 6
 

@@ -12,7 +12,7 @@ pub lengths-stated : (p k n e : ℕ)
     ≡ n ∷ (n + 1) ∷ e
     -- "Successor starts N+1 and successors E", "Degrees N.", "the task's worker (N lent words"
     ∷ (n + 1) ∷ e ∷ n ∷ n
-    -- "Rings P·P·K" of copies, "Heads and tails" with a count, P-as-P triples, "Counters P·P"
+    -- "Rings P·P·K" of copies, "Heads and tails" with a count, P·P triples, "Counters P·P"
     ∷ (p * p * k) ∷ (p * p * 3) ∷ (p * p)
     -- "Completed buffers P·N.", "three words per copy (task, predecessor, worker), length 3(E + N)", "A third run word", "a record per worker"
     ∷ (p * n) ∷ (3 * (e + n)) ∷ 3 ∷ p ∷ []

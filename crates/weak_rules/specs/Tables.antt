@@ -109,7 +109,7 @@ release_rows f p k i m =
     ∷ row damaged (only 0 (tasks m ≤ successor m i))
     -- 8: the fixed word, "65,535 before, else below P or damaged"
     ∷ row damaged (only 0 (¬ (FirstCopy m i) × (p ≤ fixed_in m (successor m i))))
-    -- 8: a word that is read for the first copy's target: of document 01's form "counter beyond ±2^30", of all P-as-P
+    -- 8: a word that is read for the first copy's target: of document 01's form "counter beyond ±2^30", of all P·P
     ∷ row damaged (only 0 (FirstCopy m i × f.Damaged))
     -- 8: damaged ends, the rings before it, from the target's on, being full
     ∷ row damaged (only 0 (FirstCopy m i × BadOffered f p k i m))

@@ -83,7 +83,7 @@ advanced count r h = go (ℕ_discrete (suc r.cursor) count)
     go (yes e) = (_, last e)
     go (no n) = (_, next (omega (arith, h, n)))
 
--- all P-as-P counters are in their range
+-- all P·P counters are in their range
 pub counters-good : {p : ℕ} {m : Mem} → Ranges p m → ¬ (BadCounter (p * p) m.counters)
 counters-good {p} {m} w = counters-within p m.counters (λ i j hi hj. within-range (counter_in m (ring_number p i j)) (w.within i j hi hj))
 
