@@ -113,12 +113,21 @@ def path(f, var, befores, segs, place, need):
             return ".".join([var, "type_inv", v] + rest[1:])
     if norm(p[2][0]) != s0:
         # a step of an enclosing record, cited from a record that is flat now
-        for q in f.j["places"]:
+        for k, q in enumerate(f.j["places"]):
             if norm(q[2][0]) == s0:
-                p = q
+                p, i = q, k
                 break
         else:
             return None
+        for new, old, how in (f.j["arms"][i] or [0, 0, []])[2]:
+            if norm(old) == s0 and how and rest[: len(how)] == how:
+                return ".".join([var, f.j["arms"][i][0], new] + rest[len(how):])
+        for v, old in f.j["typed"][i]:
+            if norm(old) == s0 and rest[:1] == ["given"]:
+                return ".".join([var, "type_inv", v] + rest[1:])
+    # what a call writes, and what is known of its lists, went by position
+    if rest[:1] in (["auto"], ["new"]) and rest[1:] and set(rest[1:]) <= {"0", "1"} and p[3] in f.j["params"]:
+        rest = [rest[0], f.j["params"][p[3]][rest[1:].count("1")]]
     step = p[2][1]
     for old, new in p[4]:
         if rest[:1] == [old]:
@@ -389,11 +398,15 @@ def turn(file, j, crate, fpath, out=None):
         pls = [f"use {own}.Goals.{{{', '.join(sorted(places))}}}"] if places else []
         ans = "\n".join((comments if not out_inv else comments[1:]) + uses + more + [f"use {own}.Goals as goal"] + pls) + "\n\n" + "\n\n".join(outh + out_ans) + "\n"
         open(os.path.join(d, "Answers.antt"), "w", encoding="utf-8").write(ans)
+    # a parameter keeps its spelling in the source
+    params = {x.replace("_", "-"): x for xs in j["params"].values() for x in xs if "_" in x}
     for name in ("Invariants.antt", "Answers.antt"):
         made = os.path.join(d, name)
         if os.path.isfile(made):
             with open(made, encoding="utf-8") as it:
                 tidy = re.sub(r"=\n[ \t]+\n", "=\n", it.read())
+            for old, kept in params.items():
+                tidy = re.sub(rf"\.{old}(?![\w-])", f".{kept}", tidy)
             with open(made, "w", encoding="utf-8") as it:
                 it.write(tidy)
     if not out:
