@@ -2,8 +2,7 @@
  * Yolluvek: the scheduling core of a job console, proved. The calls for C and C++.
  *
  * A host lends lists of 32-bit words, each as a pointer and a length, and the calls read and write them; nothing is
- * allocated or kept between calls. A call uses at most about 41 KB of stack, as measured with an older kit,
- * rattle-kit-5b-plain.
+ * allocated or kept between calls. A call uses at most about 41 KB of stack.
  *
  * A run: fill the weights and the predecessor table, by yolluvek_read_text or otherwise; call yolluvek_begin; let each
  * worker take steps, by yolluvek_fetch, _start, _complete and _release, until run[0] is the number of tasks. Then

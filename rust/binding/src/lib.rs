@@ -72,7 +72,7 @@
 //! `libwindows_export.a` and `libweak_export.a` (x86-64 Linux), which `make archives` writes to `target/staticlib` of the repository; the
 //! environment variable `YOLLUVEK_LIB` names another folder. A relative name counts from the folder that cargo is called
 //! in, or else from the nearest folder around this package that has it. A call allocates nothing and uses at most about
-//! 41 KB of stack, as measured with an older kit, `rattle-kit-5b-plain`.
+//! 41 KB of stack.
 
 #![deny(missing_docs, unsafe_code)]
 
