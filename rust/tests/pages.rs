@@ -165,7 +165,7 @@ fn what_is_counted() {
     let counts = [
         ("12,000 lines of code", 12_000, lines(&files("src", "rt"))),
         ("11,000 lines of definitions", 11_000, lines(&files("specs", "antt"))),
-        ("57,000 lines of proof", 57_000, lines(&files("proofs", "antt"))),
+        ("55,000 lines of proof", 55_000, lines(&files("proofs", "antt"))),
         ("about 420 wrong programs", 420, files("must-fail", "edit").len()),
         ("the proofs of 107 crates", 107, entries(&file("crates")).len()),
     ];
