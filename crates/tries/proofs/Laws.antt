@@ -41,11 +41,6 @@ next-try (suc (suc zero)) h = refl
 next-try (suc (suc (suc zero))) h = refl
 next-try (suc (suc (suc (suc n)))) h = absurd (omega (arith, h))
 
--- an answer that is no refusal accepts
-pub not-refused : (a : StepAnswer) → ((r d : ℕ) → ¬ (a ≡ Refused r d)) → (o : StepOutcome) × (a ≡ Accepted o)
-not-refused (Accepted o) h = (o, refl)
-not-refused (Refused r d) h = absurd (h r d refl)
-
 pub trying-last : (start m : Mem) (i tried : ℕ) → Trying start m i tried → 4 ≤ tried → m ≡ turn engine 2 4 i tries start
 unfolding turn
 trying-last start m i tried t h = sym (ap (λ (ss : List Step). turn engine 2 4 i ss m) (drop_of_length-le tries h)) ∙ t.whole

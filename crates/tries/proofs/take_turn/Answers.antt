@@ -1,6 +1,6 @@
 use mathlib.Core.Path.{refl}
 use native.Mathlib.Omega.{arith}
-use Rattle.tries.proofs.Laws.{not-refused, trying-last, trying-over, trying-on}
+use Rattle.tries.proofs.Laws.{trying-last, trying-over, trying-on}
 use Rattle.tries.proofs.take_turn.Goals as goal
 
 pub loop-tried-init : goal.loop-tried-init
@@ -32,8 +32,7 @@ shape_of-rows-in_default c = omega arith
 
 pub returns-in_default : goal.returns-in_default
 returns-in_default c =
-    let k = not-refused c.step-answer.result c.in_default.not-Refused in
-    trying-over _ _ _ _ c.loop-tried.invariant.1 (omega arith) _ c.engine.ensures _ c.try_at.ensures _ _ c.step-answer.ensures k.0 k.1
+    trying-over _ _ _ _ c.loop-tried.invariant.1 (omega arith) _ c.engine.ensures _ c.try_at.ensures _ _ c.step-answer.ensures _ c.in_default.is
 
 pub overflow_add-tried : goal.overflow_add-tried
 overflow_add-tried c = omega arith
