@@ -1,5 +1,6 @@
-// The lines of the input: those of cases start with a letter, a note is printed as it stands, any other line as unreadable.
-ghost use Rattle.std.specs.Prelude.{◌≡◌, ◌≤◌, ◌<◌, IfOk, length};
+// The lines of the input: those of cases start with a letter, a note is printed as it stands, any other line as unreadable. An error is one
+// that the reader or the writer gave; it leaves the lent lists as long as they were, with words that may have been read into them.
+ghost use Rattle.std.specs.Prelude.{◌≡◌, ◌≤◌, ◌<◌, IfOk, OnErr, length};
 ghost use Rattle.std.specs.Io.{ReadsAtMost};
 
 use crate::read::Count;
@@ -18,7 +19,8 @@ pub struct Text {
 
 // How much of the room the reader fills: nothing where there may be more of it than room.
 pub fn input<R: Read, W: Write>(from: &mut R, out: &mut W, space: &mut [u8]) -> io::Result<usize>
-    ensures { ReadsAtMost result space.new }
+    ensures ok { ReadsAtMost result space.new }
+    ensures err { OnErr result (length space.new ≡ length space.old) }
 {
     let count = read::full(from, space)?;
     if count == space.len() {
@@ -43,7 +45,8 @@ pub fn numbers_of<W: Write>(
     letter: u8,
     words: &mut [u32],
 ) -> io::Result<Count>
-    ensures { IfOk result (λ numbers. numbers.count ≤ length words.new) }
+    ensures ok { IfOk result (λ numbers. numbers.count ≤ length words.new) }
+    ensures err { OnErr result (length words.new ≡ length words.old) }
 {
     if line.len() == 0 {
         return no_numbers(out);
@@ -87,7 +90,8 @@ pub fn text_at<W: Write>(
     words: &mut [u32],
 ) -> io::Result<Text>
     requires { (at < length input.now) × (0 < length words.old) }
-    ensures { IfOk result (λ text. (at < text.next) × ((text.from ≤ text.end) × (text.end ≤ length input.now))) }
+    ensures ok { IfOk result (λ text. (at < text.next) × ((text.from ≤ text.end) × (text.end ≤ length input.now))) }
+    ensures err { OnErr result (length words.new ≡ length words.old) }
 {
     let end = read::line_end(input, at);
     if end == input.len() {

@@ -1,5 +1,5 @@
 // Reading the input, and lines of decimal numbers.
-ghost use Rattle.std.specs.Prelude.{◌≡◌, ◌≤◌, ◌<◌, length};
+ghost use Rattle.std.specs.Prelude.{◌≡◌, ◌≤◌, ◌<◌, OnErr, length};
 ghost use Rattle.std.specs.Io.{ReadsAtMost};
 
 use std::io;
@@ -144,7 +144,8 @@ pub fn length_at(case: &[u32], place: usize) -> usize
 
 // Reads until the room is full or the reader is at its end; how many bytes stand at the room's start then.
 pub fn full<R: Read>(from: &mut R, space: &mut [u8]) -> io::Result<usize>
-    ensures { ReadsAtMost result space.new }
+    ensures ok { ReadsAtMost result space.new }
+    ensures err { OnErr result (length space.new ≡ length space.old) }
 {
     let mut done = 0;
     while done < space.len() {
