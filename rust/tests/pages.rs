@@ -163,10 +163,10 @@ fn lines(files: &[PathBuf]) -> usize {
 #[test]
 fn what_is_counted() {
     let counts = [
-        ("12,000 lines of code", 12_000, lines(&files("src", "rt"))),
+        ("11,000 lines of code", 11_000, lines(&files("src", "rt"))),
         ("11,000 lines of definitions", 11_000, lines(&files("specs", "antt"))),
-        ("55,000 lines of proof", 55_000, lines(&files("proofs", "antt"))),
-        ("about 420 wrong programs", 420, files("must-fail", "edit").len()),
+        ("53,000 lines of proof", 53_000, lines(&files("proofs", "antt"))),
+        ("about 430 wrong programs", 430, files("must-fail", "edit").len()),
         ("the proofs of 107 crates", 107, entries(&file("crates")).len()),
     ];
     let page = text(FRONT);

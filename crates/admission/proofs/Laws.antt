@@ -8,6 +8,9 @@ use lib.ListN.{length, replicate, length-replicate}
 use lib.Dec.{leb, eqb}
 use lib.IntN.{pos}
 use borrow.Author.Tests.{leb-true, le-ltb, not-true, not-false}
+use Rattle.std.specs.Prelude.{Ok, Err}
+use Rattle.task.specs.declared.refusal.Refusal.{Refusal}
+use Rattle.task.specs.declared.refusal.Refusal.TheVariants.{BeyondLimit, NoSuchWorker, WrongLength}
 use Rattle.lists.proofs.Told.{and-true}
 use Rattle.task.specs.Types.{idle, engine, capped}
 use Rattle.task.specs.declared.Limits.{Limits}
@@ -23,7 +26,6 @@ use Rattle.rules.specs.Steps.{step_plan}
 use Rattle.plans.proofs.Headers.{fits-are}
 use Rattle.admission.specs.Admission.{sizes_of, size_at, Judges, Measured, Knows}
 use Rattle.admission.specs.declared.Sizes.{Sizes}
-use Rattle.admission.specs.declared.Judged.TheVariants as judged
 
 pub numbers-are : (limits most : Limits) (p k : ℕ) → most ≡ capped limits
     → (leb 1 p && leb p most.workers) && (leb 2 k && leb k most.slots) ≡ numbers_fit limits p k
@@ -114,7 +116,7 @@ module _ (limits : Limits) (p k : ℕ) (sizes : Sizes) (numbers fit : Bool) (hn 
   limits-are : (m : Mem) → sizes_of m ≡ sizes → numbers_fit limits p k && sizes_fit limits (tasks m) (edges m) ≡ numbers && fit
   limits-are m e = rw (hn, hf, ← e) refl
 
-  pub judged-beyond : not (numbers && fit) ≡ true → (i : ℕ) → Judges limits p k i sizes (judged.Refused 2 0)
+  pub judged-beyond : not (numbers && fit) ≡ true → (i : ℕ) → Judges limits p k i sizes (Err BeyondLimit)
   unfolding step_plan
   judged-beyond n i s m e = rw (limits-are m e ∙ not-true (numbers && fit) n)
 
@@ -132,7 +134,7 @@ module _ (limits : Limits) (p k : ℕ) (sizes : Sizes) (numbers fit : Bool) (hn 
         (workers, (slots, omega (arith, leb-true sizes.weights (min limits.tasks 1024) few.0)))
 
     module _ (lengths : Bool) (hl : (m : Mem) → sizes_of m ≡ sizes → lengths ≡ lengths_fit p k m) where
-      pub judged-lengths : not lengths ≡ true → (i : ℕ) → Judges limits p k i sizes (judged.Refused 1 0)
+      pub judged-lengths : not lengths ≡ true → (i : ℕ) → Judges limits p k i sizes (Err WrongLength)
       unfolding step_plan
       judged-lengths n i s m e = rw (within m e, sym (hl m e) ∙ not-true lengths n)
 
@@ -140,20 +142,20 @@ module _ (limits : Limits) (p k : ℕ) (sizes : Sizes) (numbers fit : Bool) (hn 
         long : (m : Mem) → sizes_of m ≡ sizes → lengths_fit p k m ≡ true
         long m e = sym (hl m e) ∙ not-false lengths l
 
-        pub judged-worker : p ≤ i → Judges limits p k i sizes (judged.Refused 7 i)
+        pub judged-worker : p ≤ i → Judges limits p k i sizes (Err (NoSuchWorker i))
         unfolding step_plan
         judged-worker h s m e = rw (within m e, long m e, le-ltb i p h)
 
         module _ (h : i < p) where
-          pub judged-fit : Judges limits p k i sizes judged.Fit
+          pub judged-fit : Judges limits p k i sizes (Ok tt)
           judged-fit = ((λ m e. (within m e, long m e)), h)
 
-          pub judged-knows : Knows p k i sizes judged.Fit
+          pub judged-knows : Knows p k i sizes (Ok tt)
           judged-knows =
               let m = blank sizes in
               let e = blank-sizes sizes in
               measured limits p k i sizes m e (fits-are limits p k m (within m e) (long m e)) h
 
-pub refused-known : (limits : Limits) (p k i : ℕ) (sizes : Sizes) (n d : ℕ) → Judges limits p k i sizes (judged.Refused n d)
-    → Judges limits p k i sizes (judged.Refused n d) × Knows p k i sizes (judged.Refused n d)
-refused-known limits p k i sizes n d h = (h, (limits, h))
+pub refused-known : (limits : Limits) (p k i : ℕ) (sizes : Sizes) (why : Refusal) → Judges limits p k i sizes (Err why)
+    → Judges limits p k i sizes (Err why) × Knows p k i sizes (Err why)
+refused-known limits p k i sizes why h = (h, (limits, h))

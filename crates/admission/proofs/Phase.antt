@@ -4,33 +4,31 @@ use mathlib.Core.Path.{◌≡◌, refl, sym, ◌∙◌}
 use mathlib.Core.Bool.{Bool, true, false, cond}
 use lib.Dec.{eqb}
 use borrow.Author.Tests.{le-leb, lt-leb, eqb-true}
+use Rattle.std.specs.Prelude.{Option, Some, None, Ok, Err}
+use Rattle.task.specs.declared.refusal.Refusal.{Refusal}
+use Rattle.task.specs.declared.refusal.Refusal.TheVariants.{Damaged, WrongPhase}
 use Rattle.lists.proofs.Apart.{unequal}
 use Rattle.task.specs.Phases.{suits, leads_to, next_phase}
 use Rattle.task.specs.declared.Row.{Row}
 use Rattle.task.specs.declared.Step.{Step}
 use Rattle.task.specs.declared.Step.TheVariants as step
-use Rattle.task.specs.declared.Next.{Next}
-use Rattle.task.specs.declared.Next.TheVariants as next
 use Rattle.plans.specs.Words.{phase_fits}
 use Rattle.plans.specs.Plans.{Plan, refuse, checked, suited}
 use Rattle.rules.specs.Memory.{with_hand}
-use Rattle.admission.specs.Phase.{phased_to, phase_after}
+use Rattle.admission.specs.Phase.{Phased, phased_to, phase_after}
 use Rattle.admission.specs.Admission.{Allows}
-use Rattle.admission.specs.declared.Phased.{Phased}
-use Rattle.admission.specs.declared.Phased.TheVariants.{Refused, To}
-use Rattle.admission.specs.declared.Admitted.TheVariants as admitted
 
 module _ (phase : ℕ) (s : Step) where
-  pub phase-damaged : 2 < phase → Refused 8 0 ≡ phase_after phase s
+  pub phase-damaged : 2 < phase → Err Damaged ≡ phase_after phase s
   unfolding phase_after
   phase-damaged h = rw (lt-leb phase 2 h) refl
 
-  passed_to : (b : Bool) (a q : ℕ) → cond b (next.To a) next.Refused ≡ next.To q → (b ≡ true) × (q ≡ a)
+  passed_to : (b : Bool) (a q : ℕ) → cond b (Some a) None ≡ Some q → (b ≡ true) × (q ≡ a)
   passed_to true a q e = (refl, cc)
   passed_to false a q e = unequal cc
 
   -- a word that a step suits is a phase
-  suits-fits : (q : ℕ) → next_phase phase s ≡ next.To q → phase_fits phase ≡ true
+  suits-fits : (q : ℕ) → next_phase phase s ≡ Some q → phase_fits phase ≡ true
   unfolding next_phase
   suits-fits q e = rw (eqb-true phase (suits s) (passed_to (eqb phase (suits s)) (leads_to s) q e).0) (fits s)
     where
@@ -40,52 +38,52 @@ module _ (phase : ℕ) (s : Step) where
       fits step.Complete = refl
       fits step.Release = refl
 
-  module _ (to : Next) (e : to ≡ next_phase phase s) where
-    pub phase-wrong : phase ≤ 2 → to ≡ next.Refused → Refused 9 phase ≡ phase_after phase s
+  module _ (to : Option ℕ) (e : to ≡ next_phase phase s) where
+    pub phase-wrong : phase ≤ 2 → to ≡ None → Err (WrongPhase phase) ≡ phase_after phase s
     unfolding phase_after
     phase-wrong h w = rw (le-leb phase 2 h, ← e, w) refl
 
-    pub phase-suits : (q : ℕ) → to ≡ next.To q → To q ≡ phase_after phase s
+    pub phase-suits : (q : ℕ) → to ≡ Some q → Ok q ≡ phase_after phase s
     unfolding phase_after
     phase-suits q w = rw (suits-fits q (sym e ∙ w), ← e, w) refl
 
   -- the phase that is led to
-  pub phase-leads : (q : ℕ) → phase_after phase s ≡ To q → (phase ≡ suits s) × (q ≡ leads_to s)
+  pub phase-leads : (q : ℕ) → phase_after phase s ≡ Ok q → (phase ≡ suits s) × (q ≡ leads_to s)
   unfolding phase_after next_phase
   phase-leads q e = go (phase_fits phase) (next_phase phase s) refl e
     where
-      go : (b : Bool) (x : Next) → x ≡ next_phase phase s → cond b (phased_to x phase) (Refused 8 0) ≡ To q → (phase ≡ suits s) × (q ≡ leads_to s)
-      go true (next.To a) h v =
+      go : (b : Bool) (x : Option ℕ) → x ≡ next_phase phase s → cond b (phased_to x phase) (Err Damaged) ≡ Ok q → (phase ≡ suits s) × (q ≡ leads_to s)
+      go true (Some a) h v =
           let (t, l) = passed_to (eqb phase (suits s)) (leads_to s) a (sym h) in
           (eqb-true phase (suits s) t, cc)
-      go true next.Refused h v = unequal cc
+      go true None h v = unequal cc
       go false x h v = unequal cc
 
   module _ {O U : Type 0} (rest : Plan O U) where
-    pub phase-refuses : (n d : ℕ) → phase_after phase s ≡ Refused n d → checked (phase_fits phase) (suited (next_phase phase s) phase rest) ≡ refuse n d
+    pub phase-refuses : (why : Refusal) → phase_after phase s ≡ Err why → checked (phase_fits phase) (suited (next_phase phase s) phase rest) ≡ refuse why
     unfolding phase_after
-    phase-refuses n d e = go (phase_fits phase) (next_phase phase s) e
+    phase-refuses why e = go (phase_fits phase) (next_phase phase s) e
       where
-        go : (b : Bool) (x : Next) → cond b (phased_to x phase) (Refused 8 0) ≡ Refused n d → checked b (suited x phase rest) ≡ refuse n d
-        go true (next.To a) v = unequal cc
-        go true next.Refused v = cc
+        go : (b : Bool) (x : Option ℕ) → cond b (phased_to x phase) (Err Damaged) ≡ Err why → checked b (suited x phase rest) ≡ refuse why
+        go true (Some a) v = unequal cc
+        go true None v = cc
         go false x v = cc
 
-    pub phase-goes-on : (q : ℕ) → phase_after phase s ≡ To q → checked (phase_fits phase) (suited (next_phase phase s) phase rest) ≡ rest
+    pub phase-goes-on : (q : ℕ) → phase_after phase s ≡ Ok q → checked (phase_fits phase) (suited (next_phase phase s) phase rest) ≡ rest
     unfolding phase_after
     phase-goes-on q e = go (phase_fits phase) (next_phase phase s) e
       where
-        go : (b : Bool) (x : Next) → cond b (phased_to x phase) (Refused 8 0) ≡ To q → checked b (suited x phase rest) ≡ rest
-        go true (next.To a) v = refl
-        go true next.Refused v = unequal cc
+        go : (b : Bool) (x : Option ℕ) → cond b (phased_to x phase) (Err Damaged) ≡ Ok q → checked b (suited x phase rest) ≡ rest
+        go true (Some a) v = refl
+        go true None v = unequal cc
         go false x v = unequal cc
 
 -- the same of a plain worker's row
 module _ (row : Row) (s : Step) (x : Phased) (e : x ≡ phase_after row.phase s) where
-  pub row-refused : (n d : ℕ) → x ≡ Refused n d → Allows row s (admitted.Refused n d)
-  row-refused n d v rest = phase-refuses row.phase s rest n d (sym e ∙ v)
+  pub row-refused : (why : Refusal) → x ≡ Err why → Allows row s (Err why)
+  row-refused why v rest = phase-refuses row.phase s rest why (sym e ∙ v)
 
-  pub row-admitted : (q : ℕ) → x ≡ To q → Allows row s (admitted.To (with_hand q row.held row))
+  pub row-admitted : (q : ℕ) → x ≡ Ok q → Allows row s (Ok (with_hand q row.held row))
   row-admitted q v =
       let (a, l) = phase-leads row.phase s q (sym e ∙ v) in
       ((λ rest. phase-goes-on row.phase s rest q (sym e ∙ v)), (a, rw l refl))

@@ -9,7 +9,7 @@ ghost use Rattle.rules.specs.Sizes.{numbers_fit, others_fit, lengths_fit};
 ghost use Rattle.admission.specs.Phase.{phase_after};
 ghost use Rattle.admission.specs.Admission.{sizes_of, Judges, Knows, Admits, answer_of, row_after};
 
-use task::{Limits, Next, Row, Step, StepAnswer, StepOutcome, WorkerId, refusal};
+use task::{Answer, Limits, Refusal, Row, Step, StepAnswer, StepOutcome, WorkerId};
 
 // The lengths of the lent lists.
 #[derive(Clone, Copy)]
@@ -63,97 +63,54 @@ pub fn lengths_fit(sizes: Sizes, p: usize, k: usize) -> bool
     (sizes.pred_starts == sizes.weights + 1) & others_fit(sizes, p, k)
 }
 
-// The numbers, all lengths and the worker are as they must be, or the refusal.
-#[derive(Clone, Copy)]
-pub enum Judged {
-    Fit,
-    Refused(u32, u32),
-}
-
 // 2, 1 and 7. Apart from what follows, so that it is small enough for the compiler to expand it in each call, where the limits are known.
-pub fn judge(limits: Limits, sizes: Sizes, p: usize, k: usize, worker: WorkerId) -> Judged
+pub fn judge(limits: Limits, sizes: Sizes, p: usize, k: usize, worker: WorkerId) -> Answer
     ensures judges { Judges limits p k worker.0 sizes result }
     ensures knows { Knows p k worker.0 sizes result }
 {
     if !(numbers_fit(limits, p, k) & tables::sizes_fit(limits, sizes.weights, sizes.preds)) {
-        return Judged::Refused(refusal::BEYOND_LIMIT, 0);
+        return Err(Refusal::BeyondLimit);
     }
     if !lengths_fit(sizes, p, k) {
-        return Judged::Refused(refusal::WRONG_LENGTH, 0);
+        return Err(Refusal::WrongLength);
     }
     if p <= worker.0 as usize {
-        return Judged::Refused(refusal::NO_SUCH_WORKER, worker.0);
+        return Err(Refusal::NoSuchWorker(worker.0));
     }
-    Judged::Fit
+    Ok(())
 }
 
-// Refused, or the phase that a step leads to.
-#[derive(Clone, Copy)]
-pub enum Phased {
-    Refused(u32, u32),
-    To(u32),
-}
-
-// The phase word (8), and whether the step suits it (9), whatever else stands in the worker's row.
-pub fn phase_after(phase: u32, step: Step) -> Phased
+// The phase that a step leads to, whatever else stands in the worker's row: the phase word (8), and whether the step suits it (9).
+pub fn phase_after(phase: u32, step: Step) -> Result<u32, Refusal>
     ensures { result ≡ phase_after phase step }
 {
-    let next = task::next_phase(phase, step);
-    let Next::To(to) = next else {
+    let Some(to) = task::next_phase(phase, step) else {
         if 2 < phase {
-            return Phased::Refused(refusal::DAMAGED, 0);
+            return Err(Refusal::Damaged);
         }
-        return Phased::Refused(refusal::WRONG_PHASE, phase);
+        return Err(Refusal::WrongPhase(phase));
     };
-    Phased::To(to)
+    Ok(to)
 }
 
-// Refused, or the worker's row in the phase that the step leads to.
-#[derive(Clone, Copy)]
-pub enum Admitted {
-    Refused(u32, u32),
-    To(Row),
-}
-
-// What was judged, then the phase word (8) and whether the step suits it (9). The phase is set here alone.
-pub fn admit(judged: Judged, row: Row, step: Step) -> Admitted
+// The worker's row in the phase that the step leads to: what was judged, then the phase word (8) and whether the step suits it (9). The
+// phase is set here alone.
+pub fn admit(judged: Answer, row: Row, step: Step) -> Result<Row, Refusal>
     ensures { Admits row step judged result }
 {
-    if let Judged::Refused(number, detail) = judged {
-        return Admitted::Refused(number, detail);
-    }
-    let phased = phase_after(row.phase, step);
-    match phased {
-        Phased::Refused(number, detail) => Admitted::Refused(number, detail),
-        Phased::To(phase) => {
-            let held = row.held;
-            let pointer = row.pointer;
-            Admitted::To(Row {
-                phase,
-                held,
-                pointer,
-                read: row.read,
-                write: row.write,
-                cursor: row.cursor,
-            })
-        }
-    }
+    judged?;
+    let phase = phase_after(row.phase, step)?;
+    Ok(Row { phase, ..row })
 }
 
-// A step's end: refused, or its outcome and the worker's row after it.
-#[derive(Clone, Copy)]
-pub enum Stepped {
-    Refused(u32, u32),
-    Taken(StepOutcome, Row),
-}
+// A step's end: its outcome and the worker's row after it, or refused.
+pub type Stepped = Result<(StepOutcome, Row), Refusal>;
 
 pub fn answer_of(stepped: Stepped) -> StepAnswer
     ensures { result ≡ answer_of stepped }
 {
-    match stepped {
-        Stepped::Refused(number, detail) => StepAnswer::Refused(number, detail),
-        Stepped::Taken(outcome, after) => StepAnswer::Accepted(outcome),
-    }
+    let (outcome, _) = stepped?;
+    Ok(outcome)
 }
 
 // The worker's row after a step, which had this row before.
@@ -161,7 +118,7 @@ pub fn row_after(stepped: Stepped, row: Row) -> Row
     ensures { result ≡ row_after row stepped }
 {
     match stepped {
-        Stepped::Refused(number, detail) => row,
-        Stepped::Taken(outcome, after) => after,
+        Err(_) => row,
+        Ok((_, after)) => after,
     }
 }

@@ -6,11 +6,11 @@ use native.Mathlib.Omega.{arith}
 use lib.IntN.{ℤ, pos}
 use lib.ListN.{length, replicate, length-replicate}
 use lib.Seq.{drop-length}
+use Rattle.std.specs.Prelude.{Err, Ok}
+use Rattle.task.specs.declared.refusal.Refusal.{Refusal}
 use Rattle.task.specs.Types.{idle, capped}
-use Rattle.task.specs.Refusals.{answer_says}
+use Rattle.task.specs.Refusals.{answer_says, Answer}
 use Rattle.task.specs.declared.Limits.{Limits}
-use Rattle.task.specs.declared.Answer.{Answer}
-use Rattle.task.specs.declared.Answer.TheVariants.{Refused, Accepted}
 use Rattle.task.specs.declared.Row.{Row}
 use Rattle.graph.specs.Graph.{Graph, graph_of}
 use Rattle.graph.specs.Conditions.{Sound, GraphFits}
@@ -60,7 +60,7 @@ lent w s e ss sc d r n c b x u rows =
 
 -- what an accepted begin shows of the lengths and of the graph
 module _ (limits : Limits) (p k : ℕ) (w s e : List ℕ) (ss sc d r n c b x u rows : ℕ) (a : Answer)
-    (judged : Judges limits p k (lent w s e ss sc d r n c b x u rows) w s e a) (q : a ≡ Accepted) where
+    (judged : Judges limits p k (lent w s e ss sc d r n c b x u rows) w s e a) (q : a ≡ (Ok tt)) where
   abbrev g : Graph
   g = graph_of (length w) s e
 
@@ -122,11 +122,11 @@ module _ (limits : Limits) (p k rows : ℕ) (w s e ss sc d r n : List ℕ) (c : 
   answer-is : (rs : List Row) → length rs ≡ rows → begin_answer limits p k (before rs) ≡ a
   answer-is rs h = sym (judged (before rs) (rw h))
 
-  pub begin-refused : (i j : ℕ) → a ≡ Refused i j → Begins limits p k rows before before (record { answer = a; rows = 0 })
+  pub begin-refused : (why : Refusal) → a ≡ Err why → Begins limits p k rows before before (record { answer = a; rows = 0 })
   unfolding begin cleared_rows
-  begin-refused i j q = (λ rs h. rw (answer-is rs h, q), omega arith)
+  begin-refused why q = (λ rs h. rw (answer-is rs h, q), omega arith)
 
-  module _ (q : a ≡ Accepted) (ss' sc' d' r' n' : List ℕ) (c' : List ℤ) (b' x' u' : List ℕ)
+  module _ (q : a ≡ (Ok tt)) (ss' sc' d' r' n' : List ℕ) (c' : List ℤ) (b' x' u' : List ℕ)
       (hs : ss' ≡ succ_starts_of (graph_of (length w) s e)) (hw : sc' ≡ succ_words (graph_of (length w) s e)) (hd : d' ≡ degree_list (graph_of (length w) s e))
       (placed : Placed p k w d' (length d') r' n' c')
       (hb : b' ≡ replicate (length b) 0) (hx : x' ≡ replicate (length x) 0) (hu : u' ≡ replicate (length u) 0) where
@@ -156,4 +156,4 @@ module _ (limits : Limits) (p k rows : ℕ) (w s e ss sc d r n : List ℕ) (c : 
 
     pub begin-laid : Begins limits p k rows before after (record { answer = a; rows = p })
     unfolding begin
-    begin-laid = (λ rs h. rw (answer-is rs h, q) (ap (result_of Accepted) (laid-down rs h)), omega (arith, rows_fit))
+    begin-laid = (λ rs h. rw (answer-is rs h, q) (ap (result_of (Ok tt)) (laid-down rs h)), omega (arith, rows_fit))

@@ -8,6 +8,7 @@ use admission::Sizes;
 use task::{Answer, Limits};
 
 // Begin's answer, and how many rows the caller has to clear: P, or 0 where it is refused.
+// kept: no Result, since refused_begin_clears_rows and rows_left try a wrong number in either case.
 #[derive(Clone, Copy)]
 pub struct Begun {
     pub answer: Answer,
@@ -55,7 +56,7 @@ pub fn begin_lists(
         rows,
     };
     let answer = begin_check::judge(limits, sizes, p, k, weights, pred_starts, preds);
-    let Answer::Accepted = answer else {
+    let Ok(()) = answer else {
         return Begun { answer, rows: 0 };
     };
     let n = weights.len();

@@ -9,13 +9,14 @@ use mir.Syntax.{w64}
 use mir.Val.{Fits}
 use lib.ListN.{length}
 use borrow.Author.Tests.{lt-ltb, le-ltb, not-true, not-false}
+use Rattle.std.specs.Prelude.{Err, Ok}
+use Rattle.task.specs.declared.refusal.Refusal.{Refusal}
+use Rattle.task.specs.declared.refusal.Refusal.TheVariants.{BeyondLimit, TooManyRoots}
 use Rattle.lists.proofs.Apart.{true-and-false}
 use Rattle.lists.proofs.Told.{told-true, told, and-true}
 use Rattle.task.specs.Types.{engine}
-use Rattle.task.specs.Refusals.{answer_says}
+use Rattle.task.specs.Refusals.{answer_says, Answer}
 use Rattle.task.specs.declared.Limits.{Limits}
-use Rattle.task.specs.declared.Answer.{Answer}
-use Rattle.task.specs.declared.Answer.TheVariants.{Refused, Accepted}
 use Rattle.graph.specs.Graph.{graph_of}
 use Rattle.graph.specs.Conditions.{Sound, GraphFits}
 use Rattle.graph.specs.Check.{sizes_fit, check_answer}
@@ -32,7 +33,7 @@ use Rattle.admission.proofs.Laws.{numbers-within}
 use Rattle.begin_check.specs.Judging.{read_in, Judges}
 
 -- what the graph's check accepts fits, whatever other lengths it is told
-pub check-fits : (limits : Limits) (others : Bool) (weights starts preds : List ℕ) → check_answer limits true others weights starts preds ≡ Accepted
+pub check-fits : (limits : Limits) (others : Bool) (weights starts preds : List ℕ) → check_answer limits true others weights starts preds ≡ Ok tt
     → GraphFits limits weights starts preds
 check-fits limits others weights starts preds e =
     (clear-fits limits {Far = ⊥} {Odd = others ≡ false} weights starts preds
@@ -52,7 +53,7 @@ module _ (limits : Limits) (p k : ℕ) (numbers fit : Bool) (hn : numbers ≡ nu
 
 module _ (limits : Limits) (p k : ℕ) (sizes : Sizes) (weights starts preds : List ℕ) (numbers fit : Bool) (hn : numbers ≡ numbers_fit limits p k)
     (hf : fit ≡ sizes_fit limits sizes.weights sizes.preds) where
-  pub judge-beyond : not (numbers && fit) ≡ true → Judges limits p k sizes weights starts preds (Refused 2 0)
+  pub judge-beyond : not (numbers && fit) ≡ true → Judges limits p k sizes weights starts preds (Err BeyondLimit)
   unfolding begin_answer check_answer
   judge-beyond n m e = rw beyond
     where
@@ -65,11 +66,11 @@ module _ (limits : Limits) (p k : ℕ) (sizes : Sizes) (weights starts preds : L
         → check_answer limits (numbers_fit limits p k) (others_fit p k (read_in m weights starts preds)) weights starts preds ≡ a
     checked m e = rw (numbers-fit limits p k numbers fit hn f, ← ho (read_in m weights starts preds) e) (sym ha)
 
-    pub judge-refused : (n d : ℕ) → a ≡ Refused n d → Judges limits p k sizes weights starts preds a
+    pub judge-refused : (why : Refusal) → a ≡ Err why → Judges limits p k sizes weights starts preds (Err why)
     unfolding begin_answer
-    judge-refused n d q m e = rw (checked m e, q)
+    judge-refused why q m e = rw (checked m e, q)
 
-    module _ (q : a ≡ Accepted) where
+    module _ (q : a ≡ (Ok tt)) where
       graph-sound : Sound (graph_of (length weights) starts preds)
       graph-sound = fits-sound (check-fits limits others weights starts preds (sym ha ∙ q))
 
@@ -81,10 +82,10 @@ module _ (limits : Limits) (p k : ℕ) (sizes : Sizes) (weights starts preds : L
 
       module _ (found : ℕ)
           (hr : (preds : List ℕ) → Sound (graph_of (length weights) starts preds) → found ≡ length (roots (graph_of (length weights) starts preds))) where
-        pub judge-roots : p * k < found → Judges limits p k sizes weights starts preds (Refused 6 found)
+        pub judge-roots : p * k < found → Judges limits p k sizes weights starts preds (Err (TooManyRoots found))
         unfolding begin_answer roots_answer capacity
         judge-roots h m e = rw (checked m e, q, ← hr preds graph-sound, lt-ltb (p * k) found h)
 
-        pub judge-accepted : found ≤ p * k → Judges limits p k sizes weights starts preds a
+        pub judge-accepted : found ≤ p * k → Judges limits p k sizes weights starts preds (Ok tt)
         unfolding begin_answer roots_answer capacity
         judge-accepted h m e = rw (checked m e, q, ← hr preds graph-sound, le-ltb (p * k) found h)

@@ -1,7 +1,7 @@
 -- What begin's answer depends on: the lent lengths, weights and predecessor tables.
+use Rattle.task.specs.Refusals.{Answer}
 use Rattle.std.specs.Prelude.{ℕ, ◌≡◌, List}
 use Rattle.task.specs.declared.Limits.{Limits}
-use Rattle.task.specs.declared.Answer.{Answer}
 use Rattle.memory.specs.Field as list
 use Rattle.memory.specs.Memory.{put}
 use Rattle.rules.specs.Memory.{Mem}

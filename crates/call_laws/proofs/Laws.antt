@@ -6,13 +6,14 @@ use mathlib.Core.List.{List}
 use native.Mathlib.Omega.{arith}
 use lib.ListN.{length, get_or}
 use lib.IntN.{ℤ}
+use Rattle.std.specs.Prelude.{Err, Ok}
+use Rattle.task.specs.declared.refusal.Refusal.{Refusal}
+use Rattle.task.specs.Refusals.{StepAnswer, Answer}
 use Rattle.task.specs.Types.{idle}
 use Rattle.task.specs.declared.Limits.{Limits}
 use Rattle.task.specs.declared.Row.{Row}
 use Rattle.task.specs.declared.Step.{Step}
 use Rattle.task.specs.declared.Step.TheVariants.{Fetch, Start, Complete, Release}
-use Rattle.task.specs.declared.StepAnswer.{StepAnswer}
-use Rattle.task.specs.declared.StepAnswer.TheVariants as answer
 use Rattle.rows.specs.Rows.{cleared_rows}
 use Rattle.memory.specs.Field as list
 use Rattle.memory.specs.Memory.{put}
@@ -20,11 +21,8 @@ use Rattle.rules.specs.Memory.{Mem, mem_of}
 use Rattle.rules.specs.Plans.{result_of}
 use Rattle.rules.specs.Begin.{begin}
 use Rattle.rules.specs.Steps.{step}
-use Rattle.admission.specs.Admission.{sizes_of, Judges, Knows, answer_of, rows_after}
+use Rattle.admission.specs.Admission.{sizes_of, Judges, Knows, answer_of, rows_after, Stepped}
 use Rattle.admission.specs.declared.Sizes.{Sizes}
-use Rattle.admission.specs.declared.Judged.{Judged}
-use Rattle.admission.specs.declared.Judged.TheVariants as judged
-use Rattle.admission.specs.declared.Stepped.{Stepped}
 use Rattle.admission.proofs.Rows.{refused-result}
 use Rattle.fetch.specs.Fetch.{Fetches}
 use Rattle.start.specs.Start.{Starts}
@@ -34,7 +32,7 @@ use Rattle.begin.specs.Begin.{Begins}
 use Rattle.begin.specs.declared.Begun.{Begun}
 
 -- where 2, 1 and 7 pass, the worker has a row
-pub row-there : (p k i : ℕ) (sizes : Sizes) (j : Judged) → Knows p k i sizes j → j ≡ judged.Fit → (rows : ℕ) → sizes.rows ≡ rows → i < rows
+pub row-there : (p k i : ℕ) (sizes : Sizes) (j : Answer) → Knows p k i sizes j → j ≡ (Ok tt) → (rows : ℕ) → sizes.rows ≡ rows → i < rows
 row-there p k i sizes j known v rows e = let f = subst (Knows p k i sizes) v known in omega (arith, f.lengths.list list.rows, f.worker)
 
 module _ (w ps p' ss s d r e : List ℕ) (c : List ℤ) (b x n : List ℕ) (rows : List Row) where
@@ -69,10 +67,10 @@ module _ (w ps p' ss s d r e : List ℕ) (c : List ℤ) (b x n : List ℕ) (rows
           run = refl;
         })
 
-    module _ (limits : Limits) (p k i : ℕ) (j : Judged) (judges : Judges limits p k i sizes j) where
-      pub judged-made : (step-name : Step) (n d : ℕ) → j ≡ judged.Refused n d → result_of (answer.Refused n d) lent ≡ step limits p k i step-name lent
-      judged-made step-name n d v =
-          refused-result limits p k i step-name lent n d (subst (Judges limits p k i sizes) v judges step-name lent (sym measured))
+    module _ (limits : Limits) (p k i : ℕ) (j : Answer) (judges : Judges limits p k i sizes j) where
+      pub judged-made : (step-name : Step) (why : Refusal) → j ≡ Err why → result_of (Err why) lent ≡ step limits p k i step-name lent
+      judged-made step-name why v =
+          refused-result limits p k i step-name lent why (subst (Judges limits p k i sizes) v judges step-name lent (sym measured))
 
       module _ (rows' : List Row) (row : Row) (a : Stepped) (y : StepAnswer) (loaded : row ≡ get_or rows i idle)
           (ended : (y ≡ answer_of a) × (rows' ≡ rows_after rows i a)) where

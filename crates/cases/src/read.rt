@@ -1,122 +1,44 @@
 // Reading the input, and lines of decimal numbers.
-ghost use Rattle.std.specs.Prelude.{◌≡◌, ◌≤◌, ◌<◌, OnErr, length};
+ghost use Rattle.std.specs.Prelude.{◌≡◌, ◌≤◌, ◌<◌, IfSome, OnErr, length};
 ghost use Rattle.std.specs.Io.{ReadsAtMost};
 
 use std::io;
 use std::io::Read;
 
-// The value that digits spell, and the place after them.
-#[derive(Clone, Copy)]
-struct Digits {
-    value: u64,
-    end: usize,
+// The number that digits spell, where there are any and it needs no more than 32 bits.
+fn number(digits: &[u8]) -> Option<u32> {
+    if digits.is_empty() {
+        return None;
+    }
+    let mut value = 0u32;
+    for digit in digits {
+        let digit = char::from(*digit).to_digit(10)?;
+        value = value.checked_mul(10)?.checked_add(digit)?;
+    }
+    Some(value)
 }
 
-// A number of a line and the place after it; not good where no digit stands there, or it needs more than 32 bits.
-#[derive(Clone, Copy)]
-pub struct Number {
-    pub good: bool,
-    pub value: u32,
-    pub end: usize,
-}
-
-// How many numbers a line has; not good where something else stands in it, or there are too many.
-#[derive(Clone, Copy)]
-pub struct Count {
-    pub good: bool,
-    pub count: usize,
-}
-
-// The digit that a byte stands for, or 10.
-fn digit(byte: u8) -> u64 {
-    if byte < 48 {
-        return 10;
-    }
-    if 57 < byte {
-        return 10;
-    }
-    (byte - 48) as u64
-}
-
-// The value with one digit more; one that needs more than 32 bits already stays.
-fn with_digit(value: u64, digit: u64) -> u64 {
-    if 4294967295 < value {
-        return value;
-    }
-    if 9 < digit {
-        return value;
-    }
-    value * 10 + digit
-}
-
-// The digits from a place on.
-fn digits_at(line: &[u8], from: usize) -> Digits
-    ensures { from ≤ result.end }
-{
-    let mut value = 0u64;
-    let mut end = from;
-    while end < line.len() {
-        let next = digit(line[end]);
-        if 9 < next {
-            break;
-        }
-        value = with_digit(value, next);
-        end += 1;
-    }
-    Digits { value, end }
-}
-
-// The number behind the blank at a place.
-fn number_behind(line: &[u8], at: usize) -> Number
-    requires { at < length line.now }
-    ensures { at < result.end }
-{
-    let digits = digits_at(line, at + 1);
-    let value = digits.value;
-    let end = digits.end;
-    if 4294967295 < value {
-        return Number {
-            good: false,
-            value: 0,
-            end,
-        };
-    }
-    let good = (line[at] == b' ') & (at + 1 < end);
-    Number {
-        good,
-        value: value as u32,
-        end,
-    }
-}
-
-pub fn none() -> Count
-    ensures { result.count ≡ 0 }
-{
-    Count {
-        good: false,
-        count: 0,
-    }
-}
-
-// The numbers after the first byte of a line, each behind one blank.
-pub fn numbers(line: &[u8], words: &mut [u32]) -> Count
-    ensures { result.count ≤ length words.new }
+// Numbers with one blank between two of them; how many.
+fn spaced(list: &[u8], words: &mut [u32]) -> Option<usize>
+    ensures { IfSome result (λ count. count ≤ length words.new) }
 {
     let mut count = 0;
-    let mut at = 1;
-    while at < line.len() {
-        let number = number_behind(line, at);
-        if !number.good {
-            return none();
-        }
-        if words.len() <= count {
-            return none();
-        }
-        words[count] = number.value;
+    for digits in list.split(|byte| *byte == b' ') {
+        *words.get_mut(count)? = number(digits)?;
         count += 1;
-        at = number.end;
     }
-    Count { good: true, count }
+    Some(count)
+}
+
+// The numbers after the first byte of a line, each behind one blank; how many, unless something else stands there or they are too many.
+pub fn numbers(line: &[u8], words: &mut [u32]) -> Option<usize>
+    ensures { IfSome result (λ count. count ≤ length words.new) }
+{
+    match line {
+        [] | [_] => Some(0),
+        [_, b' ', list @ ..] => spaced(list, words),
+        _ => None,
+    }
 }
 
 // Where the line that holds a place ends: its line feed, or the end of the text.
@@ -124,14 +46,9 @@ pub fn line_end(text: &[u8], from: usize) -> usize
     requires { from ≤ length text.now }
     ensures { (from ≤ result) × (result ≤ length text.now) }
 {
-    let mut end = from;
-    while end < text.len() {
-        if text[end] == b'\n' {
-            return end;
-        }
-        end += 1;
-    }
-    end
+    let rest = &text[from..];
+    let place = rest.iter().position(|byte| *byte == b'\n');
+    from + place.unwrap_or(rest.len())
 }
 
 // A word of a case that is a length or a limit.
@@ -148,6 +65,7 @@ pub fn full<R: Read>(from: &mut R, space: &mut [u8]) -> io::Result<usize>
     ensures err { OnErr result (length space.new ≡ length space.old) }
 {
     let mut done = 0;
+    // kept: std has no call that fills a slice as far as the input goes
     while done < space.len() {
         let count = from.read(&mut space[done..])?;
         if count == 0 {
@@ -163,10 +81,4 @@ pub fn room() -> [u8; 786432]
     ensures { 786432 ≡ length result }
 {
     [0; 786432]
-}
-
-pub fn larger(a: usize, b: usize) -> usize
-    ensures { (a ≤ result) × (b ≤ result) }
-{
-    if a < b { b } else { a }
 }

@@ -1,39 +1,34 @@
 // Printing answers and lists, and the words that a lent list holds before a call.
-ghost use Rattle.std.specs.Prelude.{OnOk, decimal};
+ghost use Rattle.std.specs.Prelude.{[], ◌∷◌, ◌++◌, OnOk};
 ghost use Rattle.std.specs.Io.KnownBytes.{Appends};
 
-use std::io;
 use std::io::Write;
+use std::{fmt, io};
 use task::{Answer, RowCell};
-
-pub fn say<W: Write>(out: &mut W, bytes: &[u8]) -> io::Result<()>
-    ensures { OnOk result (Appends (W.contents out.old) (W.contents out.new) bytes.now) }
-{
-    out.write_all(bytes)
-}
-
-pub fn number<W: Write>(out: &mut W, n: u64) -> io::Result<()>
-    ensures { OnOk result (Appends (W.contents out.old) (W.contents out.new) (decimal n)) }
-{
-    write!(out, "{n}")
-}
 
 // A line that is no case.
 pub fn unreadable<W: Write>(out: &mut W) -> io::Result<()> {
-    say(out, b"unreadable\n")
+    writeln!(out, "unreadable")
 }
 
-pub fn pair<W: Write>(out: &mut W, a: u32, b: u32) -> io::Result<()> {
-    number(out, a as u64)?;
-    say(out, b" ")?;
-    number(out, b as u64)
+// A line as it stands.
+pub fn note<W: Write>(out: &mut W, line: &[u8]) -> io::Result<()>
+    ensures { OnOk result (Appends (W.contents out.old) (W.contents out.new) (line.now ++ 10 ∷ [])) }
+{
+    out.write_all(line)?;
+    out.write_all(b"\n")
 }
 
 // The number and the detail; 0 and 0 where accepted.
-pub fn answer<W: Write>(out: &mut W, answer: Answer) -> io::Result<()> {
-    match answer {
-        Answer::Refused(number, detail) => pair(out, number, detail),
-        Answer::Accepted => pair(out, 0, 0),
+#[derive(Clone, Copy)]
+pub struct Told(pub Answer);
+
+impl fmt::Display for Told {
+    fn fmt<W: fmt::Write>(&self, f: &mut fmt::Formatter<W>) -> fmt::Result {
+        match self.0 {
+            Err(why) => write!(f, "{} {}", why.number(), why.detail()),
+            Ok(()) => f.write_str("0 0"),
+        }
     }
 }
 
@@ -43,110 +38,70 @@ fn mark(place: usize) -> u32 {
 }
 
 pub fn put_marks(list: &mut [u32]) {
-    let mut i = 0;
-    while i < list.len() {
-        list[i] = mark(i);
-        i += 1;
+    for (i, word) in list.iter_mut().enumerate() {
+        *word = mark(i);
     }
 }
 
 fn has_marks(list: &[u32]) -> bool {
-    let mut i = 0;
-    while i < list.len() {
-        if list[i] != mark(i) {
-            return false;
-        }
-        i += 1;
-    }
-    true
-}
-
-fn spaced<W: Write>(out: &mut W, i: usize, word: u32) -> io::Result<()> {
-    if 0 < i {
-        say(out, b" ")?;
-    }
-    number(out, word as u64)
-}
-
-pub fn words<W: Write>(out: &mut W, list: &[u32]) -> io::Result<()> {
-    let mut i = 0;
-    while i < list.len() {
-        spaced(out, i, list[i])?;
-        i += 1;
-    }
-    Ok(())
+    list.iter().enumerate().all(|(i, word)| *word == mark(i))
 }
 
 // One step of the hash: a polynomial modulo a prime below 2^32.
-pub fn mixed(sum: u64, word: u32) -> u64 {
+fn mixed(sum: u64, word: u32) -> u64 {
     ((sum % 4294967291) * 1000003 + word as u64 + 1) % 4294967291
 }
 
 pub fn hash(list: &[u32]) -> u64 {
-    let mut sum = 0;
-    let mut i = 0;
-    while i < list.len() {
-        sum = mixed(sum, list[i]);
-        i += 1;
-    }
-    sum
+    list.iter().copied().fold(0, mixed)
 }
 
-// A counter as a word: 2^31 more than it is.
-fn raised(counter: i32) -> u32 {
-    (counter as i64 + 2147483648) as u32
-}
-
+// A counter counts as a word: 2^31 more than it is.
 pub fn hash_counters(counters: &[i32]) -> u64 {
-    let mut sum = 0;
-    let mut i = 0;
-    while i < counters.len() {
-        let counter = counters[i];
-        sum = mixed(sum, raised(counter));
-        i += 1;
-    }
-    sum
-}
-
-fn mixed_row(sum: u64, row: RowCell) -> u64 {
-    let held = mixed(mixed(sum, row[0]), row[1]);
-    let read = mixed(mixed(held, row[2]), row[3]);
-    mixed(mixed(read, row[4]), row[5])
+    counters
+        .iter()
+        .map(|counter| counter.abs_diff(i32::MIN))
+        .fold(0, mixed)
 }
 
 pub fn hash_rows(rows: &[RowCell]) -> u64 {
-    let mut sum = 0;
-    let mut i = 0;
-    while i < rows.len() {
-        let row = rows[i];
-        sum = mixed_row(sum, row);
-        i += 1;
+    hash(rows.as_flattened())
+}
+
+// Words, with a blank between two of them.
+#[derive(Clone, Copy)]
+pub struct Words<'a>(pub &'a [u32]);
+
+impl fmt::Display for Words<'_> {
+    fn fmt<W: fmt::Write>(&self, f: &mut fmt::Formatter<W>) -> fmt::Result {
+        f.write_joined(self.0.iter(), " ")
     }
-    sum
 }
 
 // The words of a short list; the length and the hash of a long one.
-pub fn list<W: Write>(out: &mut W, list: &[u32]) -> io::Result<()> {
-    if list.len() == 0 {
-        return say(out, b"-");
+#[derive(Clone, Copy)]
+pub struct List<'a>(pub &'a [u32]);
+
+impl fmt::Display for List<'_> {
+    fn fmt<W: fmt::Write>(&self, f: &mut fmt::Formatter<W>) -> fmt::Result {
+        match self.0.len() {
+            0 => f.write_str("-"),
+            1..=16 => write!(f, "{}", Words(self.0)),
+            count => write!(f, "{count} words {}", hash(self.0)),
+        }
     }
-    if list.len() <= 16 {
-        return words(out, list);
-    }
-    number(out, list.len() as u64)?;
-    say(out, b" words ")?;
-    number(out, hash(list))
 }
 
 // A lent list after the call.
-pub fn left<W: Write>(out: &mut W, after: &[u32]) -> io::Result<()> {
-    if (0 < after.len()) & has_marks(after) {
-        return say(out, b"kept");
-    }
-    list(out, after)
-}
+#[derive(Clone, Copy)]
+pub struct Left<'a>(pub &'a [u32]);
 
-pub fn lent<W: Write>(out: &mut W, after: &[u32]) -> io::Result<()> {
-    say(out, b" | ")?;
-    left(out, after)
+impl fmt::Display for Left<'_> {
+    fn fmt<W: fmt::Write>(&self, f: &mut fmt::Formatter<W>) -> fmt::Result {
+        if !self.0.is_empty() && has_marks(self.0) {
+            f.write_str("kept")
+        } else {
+            write!(f, "{}", List(self.0))
+        }
+    }
 }

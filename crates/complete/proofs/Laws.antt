@@ -8,10 +8,13 @@ use lib.Dec.{ltb, leb, eqb}
 use lib.ListN.{length, get_or, set}
 use lib.IntN.{ℤ, pos, ◌-ℤ◌}
 use borrow.Author.Tests.{lt-ltb, le-ltb, le-leb, lt-leb, eq-eqb, ne_eqb, not-true, not-false}
+use Rattle.std.specs.Prelude.{Err, Ok}
+use Rattle.task.specs.declared.refusal.Refusal.{Refusal}
+use Rattle.task.specs.declared.refusal.Refusal.TheVariants.{Damaged, RecordFull}
 use Rattle.lists.proofs.Places.{place-lt}
 use Rattle.lists.proofs.Told.{and-false}
 use Rattle.task.specs.Types.{nil, idle, engine}
-use Rattle.task.specs.Refusals.{record_full}
+use Rattle.task.specs.Refusals.{Answer}
 use Rattle.task.specs.declared.Limits.{Limits}
 use Rattle.task.specs.declared.Row.{Row}
 use Rattle.task.specs.declared.Step.TheVariants.{Complete}
@@ -23,22 +26,15 @@ use Rattle.rules.specs.Memory.{Mem, all_entries, all_steps, ring_number, row_in,
 use Rattle.rules.specs.Words.{counter_fits}
 use Rattle.rules.specs.Plans.{Plan, refuse, refuse_if, checked, counted}
 use Rattle.rules.specs.Steps.{complete_sink, complete_inner, complete_rule, rule_of}
-use Rattle.admission.specs.Admission.{sizes_of, Judges, Measured, Admits, Enters}
+use Rattle.admission.specs.Admission.{sizes_of, Judges, Measured, Admits, Enters, Admitted, Stepped}
 use Rattle.admission.specs.declared.Sizes.{Sizes}
-use Rattle.admission.specs.declared.Judged.{Judged}
-use Rattle.admission.specs.declared.Stepped.{Stepped}
-use Rattle.admission.specs.declared.Stepped.TheVariants as stepped
-use Rattle.admission.specs.declared.Admitted.{Admitted}
-use Rattle.admission.specs.declared.Admitted.TheVariants as admitted
 use Rattle.admission.proofs.Laws.{few-places}
 use Rattle.admission.proofs.Rows.{admission-entered, admission-refused, admission-enters, refused-result, rule-refused, rule-accepted}
 use Rattle.complete.specs.Complete.{lent, Completes, HandAndWrite}
-use Rattle.complete.specs.Planned.{plan_of, Plans, Room, Decides, Recordable, Records, left_row, Leavable, Joinable}
-use Rattle.complete.specs.declared.CompletePlan.{CompletePlan}
-use Rattle.complete.specs.declared.CompletePlan.TheVariants.{Refused, Sink, Inner}
+use Rattle.complete.specs.Planned.{CompletePlan, Sink, Inner, plan_of, Plans, Room, Decides, Recordable, Records, left_row, Leavable, Joinable}
 
 -- a place that isn't below n: whether it is n or beyond, the answer is the same
-unplaced : (a b c : Bool) (rest : Plan) → a && c ≡ false → checked (a && b) (checked c rest) ≡ refuse 8 0
+unplaced : (a b c : Bool) (rest : Plan) → a && c ≡ false → checked (a && b) (checked c rest) ≡ refuse Damaged
 unplaced true true c rest e = rw e
 unplaced true false c rest e = refl
 unplaced false b c rest e = refl
@@ -88,7 +84,7 @@ module _ (e own : ℕ) (row : Row) (weights succ_starts : List ℕ) (counters : 
   abbrev ruled : Plan → Plan → Plan
   ruled alone joined =
       checked (leb (get_or run 0 0) n)
-      (refuse_if (eqb (get_or run 0 0) n) record_full 0
+      (refuse_if (eqb (get_or run 0 0) n) RecordFull
       (checked (ltb row.held.0 n)
       (weighed alone joined)))
 
@@ -106,11 +102,11 @@ module _ (e own : ℕ) (row : Row) (weights succ_starts : List ℕ) (counters : 
   unfolding complete_rule complete_sink complete_inner counted all_entries all_steps
   planned plan f p i m he ho hr hw hs hc hu = rw (← he, ho, hr, ← hw, ← hs, ← hc, ← hu) at f p i m
 
-  pub plan-over : n < get_or run 0 0 → Planned (Refused 8 0)
-  plan-over h = planned (Refused 8 0) (λ p i m. simp (lt-leb _ _ h))
+  pub plan-over : n < get_or run 0 0 → Planned (Err Damaged)
+  plan-over h = planned (Err Damaged) (λ p i m. simp (lt-leb _ _ h))
 
-  pub plan-full : get_or run 0 0 ≡ n → Planned (Refused 12 0)
-  plan-full h = let a : get_or run 0 0 ≤ n = omega arith in planned (Refused 12 0) (λ p i m. simp (le-leb _ _ a, eq-eqb _ _ h))
+  pub plan-full : get_or run 0 0 ≡ n → Planned (Err RecordFull)
+  plan-full h = let a : get_or run 0 0 ≤ n = omega arith in planned (Err RecordFull) (λ p i m. simp (le-leb _ _ a, eq-eqb _ _ h))
 
   module _ (a : get_or run 0 0 < n) where
     fits : get_or run 0 0 ≤ n
@@ -119,32 +115,32 @@ module _ (e own : ℕ) (row : Row) (weights succ_starts : List ℕ) (counters : 
     unfilled : ¬ (get_or run 0 0 ≡ n)
     unfilled q = absurd (omega arith)
 
-    pub plan-held : n ≤ row.held.0 → Planned (Refused 8 0)
-    plan-held h = planned (Refused 8 0) (λ p i m. simp (le-leb _ _ fits, ne_eqb _ _ unfilled, le-ltb _ _ h))
+    pub plan-held : n ≤ row.held.0 → Planned (Err Damaged)
+    plan-held h = planned (Err Damaged) (λ p i m. simp (le-leb _ _ fits, ne_eqb _ _ unfilled, le-ltb _ _ h))
 
     module _ (c : row.held.0 < n) where
       -- what the tests up to here leave of the rule
       held_known : (plan : CompletePlan) → ((p i : ℕ) (m : Mem) → weighed (alone p i m) (joined p i m) ≡ plan_of p i m plan) → Planned plan
       held_known plan f = planned plan (λ p i m. rw (le-leb _ _ fits, ne_eqb _ _ unfilled, lt-ltb _ _ c) (f p i m))
 
-      pub plan-heavy : 65535 < weight → Planned (Refused 8 0)
-      plan-heavy h = held_known (Refused 8 0) (λ p i m. rw (lt-leb weight 65535 h) refl)
+      pub plan-heavy : 65535 < weight → Planned (Err Damaged)
+      plan-heavy h = held_known (Err Damaged) (λ p i m. rw (lt-leb weight 65535 h) refl)
 
       module _ (l : weight ≤ 65535) (counts : Bool) (hf : counts ≡ counter_fits counter) where
-        pub plan-counter : not counts ≡ true → Planned (Refused 8 0)
-        plan-counter h = held_known (Refused 8 0) (λ p i m. rw (le-leb weight 65535 l, sym hf ∙ not-true counts h) refl)
+        pub plan-counter : not counts ≡ true → Planned (Err Damaged)
+        plan-counter h = held_known (Err Damaged) (λ p i m. rw (le-leb weight 65535 l, sym hf ∙ not-true counts h) refl)
 
         module _ (x : not counts ≡ false) where
           counter-fits : counter_fits counter ≡ true
           counter-fits = sym hf ∙ not-false counts x
 
-          unranged : ranged ≡ false → Planned (Refused 8 0)
-          unranged h = held_known (Refused 8 0) (λ p i m. rw (le-leb weight 65535 l, counter-fits, h) refl)
+          unranged : ranged ≡ false → Planned (Err Damaged)
+          unranged h = held_known (Err Damaged) (λ p i m. rw (le-leb weight 65535 l, counter-fits, h) refl)
 
-          pub plan-past : e < past → Planned (Refused 8 0)
+          pub plan-past : e < past → Planned (Err Damaged)
           plan-past h = unranged (and-false (leb first past) (leb past e) (λ q. lt-leb past e h))
 
-          pub plan-first : past < first → Planned (Refused 8 0)
+          pub plan-first : past < first → Planned (Err Damaged)
           plan-first h = unranged (rw (lt-leb first past h) refl)
 
           module _ (d : past ≤ e) where
@@ -169,8 +165,8 @@ module _ (e own : ℕ) (row : Row) (weights succ_starts : List ℕ) (counters : 
               sinks : sink ≡ true
               sinks = eq-eqb (past - first) 0 (omega arith)
 
-              pub plan-alone : 3 * n + e ≤ get_or run 1 0 → Planned (Refused 8 0)
-              plan-alone h = later (Refused 8 0) o (λ p i m. simp (sinks, le-ltb _ _ h))
+              pub plan-alone : 3 * n + e ≤ get_or run 1 0 → Planned (Err Damaged)
+              plan-alone h = later (Err Damaged) o (λ p i m. simp (sinks, le-ltb _ _ h))
 
               pub plan-sink : get_or run 1 0 < 3 * n + e → Decides e own row weights succ_starts counters run (Sink (get_or run 0 0) (get_or run 1 0) weight)
               plan-sink g = (later (Sink (get_or run 0 0) (get_or run 1 0) weight) o (λ p i m. simp (sinks, lt-ltb _ _ g)), room g)
@@ -183,23 +179,23 @@ module _ (e own : ℕ) (row : Row) (weights succ_starts : List ℕ) (counters : 
               inner : sink ≡ false
               inner = ne_eqb (past - first) 0 (λ q. absurd (omega arith))
 
-              unplaces : placed ≡ false → Planned (Refused 8 0)
+              unplaces : placed ≡ false → Planned (Err Damaged)
               unplaces j =
-                  later (Refused 8 0) ordered
+                  later (Err Damaged) ordered
                   (λ p i m. rw inner (unplaced (leb row.read row.write) (leb row.write n) (ltb row.write n) _ j))
 
-              pub plan-write : n ≤ row.write → Planned (Refused 8 0)
+              pub plan-write : n ≤ row.write → Planned (Err Damaged)
               plan-write h = unplaces (and-false (leb row.read row.write) (ltb row.write n) (λ q. le-ltb row.write n h))
 
-              pub plan-places : row.write < row.read → Planned (Refused 8 0)
+              pub plan-places : row.write < row.read → Planned (Err Damaged)
               plan-places h = unplaces (rw (lt-leb row.read row.write h) refl)
 
               module _ (w : row.write < n) (r : row.read ≤ row.write) where
                 within : row.write ≤ n
                 within = omega arith
 
-                pub plan-counted : 3 * n + e ≤ get_or run 1 0 → Planned (Refused 8 0)
-                plan-counted h = later (Refused 8 0) ordered (λ p i m. simp (inner, le-leb _ _ r, le-leb _ _ within, lt-ltb _ _ w, le-ltb _ _ h))
+                pub plan-counted : 3 * n + e ≤ get_or run 1 0 → Planned (Err Damaged)
+                plan-counted h = later (Err Damaged) ordered (λ p i m. simp (inner, le-leb _ _ r, le-leb _ _ within, lt-ltb _ _ w, le-ltb _ _ h))
 
                 pub plan-inner : get_or run 1 0 < 3 * n + e
                     → Decides e own row weights succ_starts counters run (Inner (get_or run 0 0) (get_or run 1 0) weight)
@@ -260,12 +256,12 @@ module _ (e own : ℕ) (row : Row) (weights succ_starts : List ℕ) (counters : 
   inner-writable w = (rw w at d).1
 
 -- an accepted Complete leaves the row's other words
-pub hand-and-write : (row : Row) (judged : Judged) (r : Admitted) → Admits row Complete judged r → (after : Row) → r ≡ admitted.To after → (write : ℕ)
-    → (a : Stepped) → a ≡ stepped.Taken Moved (left_row write after) → HandAndWrite row a
+pub hand-and-write : (row : Row) (judged : Answer) (r : Admitted) → Admits row Complete judged r → (after : Row) → r ≡ Ok after → (write : ℕ)
+    → (a : Stepped) → a ≡ Ok (Moved, (left_row write after)) → HandAndWrite row a
 hand-and-write row judged r told after v write a o = rw (o, (admission-entered row Complete judged r told after v).1) refl
 
 -- The step by value: its admission and its plan, then the result.
-module _ (p k i : ℕ) (sizes : Sizes) (row : Row) (weights succ_starts : List ℕ) (counters : List ℤ) (buffers executed run : List ℕ) (judged : Judged)
+module _ (p k i : ℕ) (sizes : Sizes) (row : Row) (weights succ_starts : List ℕ) (counters : List ℤ) (buffers executed run : List ℕ) (judged : Answer)
     (r : Admitted) (told : Admits row Complete judged r) where
   abbrev before : Mem → Mem
   before m = lent m weights succ_starts counters buffers executed run m.rows
@@ -275,13 +271,13 @@ module _ (p k i : ℕ) (sizes : Sizes) (row : Row) (weights succ_starts : List �
   Left counters' buffers' executed' run' a =
       Completes p k i sizes judged row weights succ_starts counters counters' buffers buffers' executed executed' run run' a
 
-  pub row-refused : (n d : ℕ) → r ≡ admitted.Refused n d → Left counters buffers executed run (stepped.Refused n d)
+  pub row-refused : (why : Refusal) → r ≡ Err why → Left counters buffers executed run (Err why)
   unfolding Completes
-  row-refused n d v limits m j e h =
-      refused-result limits p k i Complete (before m) n d
-      (admission-refused p k i sizes row Complete limits (before m) e h judged j r told n d v)
+  row-refused why v limits m j e h =
+      refused-result limits p k i Complete (before m) why
+      (admission-refused p k i sizes row Complete limits (before m) e h judged j r told why v)
 
-  module _ (after : Row) (v : r ≡ admitted.To after) (own : ℕ) (ho : own ≡ ring_number p i i) (plan : CompletePlan)
+  module _ (after : Row) (v : r ≡ Ok after) (own : ℕ) (ho : own ≡ ring_number p i i) (plan : CompletePlan)
       (decided : Decides sizes.preds own after weights succ_starts counters run plan) where
     module _ (limits : Limits) (m : Mem) (j : Judges limits p k i sizes judged) (e : sizes_of (before m) ≡ sizes) (h : row_in m i ≡ row) where
       enters : Enters limits p k i Complete (before m) after
@@ -290,15 +286,15 @@ module _ (p k i : ℕ) (sizes : Sizes) (row : Row) (weights succ_starts : List �
       follows : (q : CompletePlan) → plan ≡ q → complete_rule p i (before m) ≡ plan_of p i (before m) q
       follows q w = rw (← w) (decided.0 p i (before m) (ap (λ (x : Sizes). x.preds) e) ho enters.leads refl refl refl refl)
 
-    pub rule-refuses : (n d : ℕ) → plan ≡ Refused n d → Left counters buffers executed run (stepped.Refused n d)
+    pub rule-refuses : (why : Refusal) → plan ≡ Err why → Left counters buffers executed run (Err why)
     unfolding Completes rule_of
-    rule-refuses n d w limits m j e h =
-        rule-refused limits p k i Complete (before m) after (enters limits m j e h) n d (follows limits m j e h (Refused n d) w)
+    rule-refuses why w limits m j e h =
+        rule-refused limits p k i Complete (before m) after (enters limits m j e h) why (follows limits m j e h (Err why) w)
 
     module _ (entries accepted weight : ℕ) (room : Room sizes.preds own after.held.0 weights counters run entries accepted weight)
         (counters' : List ℤ) (lowered : counters' ≡ set counters own (get_or counters own (pos 0) -ℤ pos weight)) (executed' run' : List ℕ)
         (records : Records entries accepted after.held.0 i executed executed' run run') (a : Stepped) where
-      pub sink-made : plan ≡ Sink entries accepted weight → a ≡ stepped.Taken Moved (left_row after.write after) → Left counters' buffers executed' run' a
+      pub sink-made : plan ≡ Sink entries accepted weight → a ≡ Ok (Moved, (left_row after.write after)) → Left counters' buffers executed' run' a
       unfolding Completes rule_of written updated store_words
       sink-made w o limits m j e h =
           rw (o, lowered, records.0, records.1, room.entries_word, room.accepted_word, room.weighs, ho, (enters limits m j e h).leads)
@@ -306,7 +302,7 @@ module _ (p k i : ℕ) (sizes : Sizes) (row : Row) (weights succ_starts : List �
 
       pub inner_made : plan ≡ Inner entries accepted weight
           → (buffers' : List ℕ) → buffers' ≡ set buffers (i * length weights + after.write) after.held.0
-          → a ≡ stepped.Taken Moved (left_row (after.write + 1) after)
+          → a ≡ Ok (Moved, (left_row (after.write + 1) after))
           → Left counters' buffers' executed' run' a
       unfolding Completes rule_of written updated store_words
       inner_made w buffers' hb o limits m j e h =

@@ -1,5 +1,6 @@
 -- What Complete by value does to the memory whose lists it is lent: worker i's row goes in and comes back.
-use Rattle.std.specs.Prelude.{ℕ, ◌≡◌, List, ℤ}
+use Rattle.std.specs.Prelude.{ℕ, ◌≡◌, List, ℤ, Err, Ok}
+use Rattle.task.specs.Refusals.{Answer}
 use Rattle.task.specs.declared.Limits.{Limits}
 use Rattle.task.specs.declared.Row.{Row}
 use Rattle.task.specs.declared.Step.TheVariants as step-name
@@ -8,11 +9,8 @@ use Rattle.memory.specs.Memory.{put}
 use Rattle.rules.specs.Memory.{Mem, row_in, with_hand, with_places}
 use Rattle.rules.specs.Plans.{result_of}
 use Rattle.rules.specs.Steps.{step}
-use Rattle.admission.specs.Admission.{sizes_of, Judges, answer_of, rows_after}
+use Rattle.admission.specs.Admission.{sizes_of, Judges, answer_of, rows_after, Stepped}
 use Rattle.admission.specs.declared.Sizes.{Sizes}
-use Rattle.admission.specs.declared.Judged.{Judged}
-use Rattle.admission.specs.declared.Stepped.{Stepped}
-use Rattle.admission.specs.declared.Stepped.TheVariants.{Refused, Taken}
 
 -- a memory with the lists that Complete reads and writes
 abbrev pub lent : Mem → List ℕ → List ℕ → List ℤ → List ℕ → List ℕ → List ℕ → List Row → Mem
@@ -26,7 +24,7 @@ lent m weights succ_starts counters buffers executed run rows =
     (put list.rows rows m))))))
 
 -- whatever the other lists hold
-unfoldable pub Completes : ℕ → ℕ → ℕ → Sizes → Judged → Row → List ℕ → List ℕ → List ℤ → List ℤ
+unfoldable pub Completes : ℕ → ℕ → ℕ → Sizes → Answer → Row → List ℕ → List ℕ → List ℤ → List ℤ
     → List ℕ → List ℕ → List ℕ → List ℕ → List ℕ → List ℕ → Stepped → Type 0
 Completes p k i sizes judged row weights succ_starts counters counters' buffers buffers' executed executed' run run' r =
     (limits : Limits) (m : Mem) → Judges limits p k i sizes judged
@@ -36,5 +34,5 @@ Completes p k i sizes judged row weights succ_starts counters counters' buffers 
 
 -- the row keeps its words but the hand and the write place
 abbrev pub HandAndWrite : Row → Stepped → Type 0
-HandAndWrite row (Refused n d) = Unit {0}
-HandAndWrite row (Taken o after) = after ≡ with_hand after.phase after.held (with_places row.read after.write row.cursor row)
+HandAndWrite row (Err why) = Unit {0}
+HandAndWrite row (Ok (o, after)) = after ≡ with_hand after.phase after.held (with_places row.read after.write row.cursor row)

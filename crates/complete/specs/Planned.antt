@@ -1,6 +1,7 @@
 -- What Complete is to do, by the words that it reads.
-use Rattle.std.specs.Prelude.{ℕ, ◌+◌, ◌*◌, ◌≤◌, ◌<◌, ◌≡◌, true, List, ◌∷◌, length, get_or, set, ℤ, pos, ◌-ℤ◌}
+use Rattle.std.specs.Prelude.{ℕ, ◌+◌, ◌*◌, ◌≤◌, ◌<◌, ◌≡◌, true, List, ◌∷◌, length, get_or, set, ℤ, pos, ◌-ℤ◌, Result, Ok, Err}
 use Rattle.task.specs.Types.{nil, engine}
+use Rattle.task.specs.declared.refusal.Refusal.{Refusal}
 use Rattle.task.specs.declared.Row.{Row}
 use Rattle.task.specs.declared.Step.TheVariants.{Complete}
 use Rattle.task.specs.declared.StepOutcome.TheVariants.{Moved}
@@ -9,15 +10,23 @@ use Rattle.rules.specs.Words.{counter_fits}
 use Rattle.rules.specs.Updates.{put_buffer, put_places}
 use Rattle.rules.specs.Plans.{Plan, refuse, accept, with_count}
 use Rattle.rules.specs.Steps.{let_go, leave, record_entry, complete_rule}
-use Rattle.admission.specs.Admission.{entered}
-use Rattle.admission.specs.declared.Stepped.{Stepped}
-use Rattle.admission.specs.declared.Stepped.TheVariants.{Taken}
-use Rattle.complete.specs.declared.CompletePlan.{CompletePlan}
-use Rattle.complete.specs.declared.CompletePlan.TheVariants.{Refused, Sink, Inner}
+use Rattle.admission.specs.Admission.{entered, Stepped}
+use Rattle.complete.specs.declared.CompletePlan as plan
+use Rattle.complete.specs.declared.CompletePlan.TheVariants as plans
+
+-- what Complete is to do, or why it is refused
+abbrev pub CompletePlan : Type 0
+CompletePlan = Result plan.CompletePlan Refusal
+
+pattern abbrev pub Sink : (entries accepted weight : ℕ) → CompletePlan
+Sink entries accepted weight = Ok (plans.Sink entries accepted weight)
+
+pattern abbrev pub Inner : (entries accepted weight : ℕ) → CompletePlan
+Inner entries accepted weight = Ok (plans.Inner entries accepted weight)
 
 -- a plan as the rules have it, for worker i
 abbrev pub plan_of : ℕ → ℕ → Mem → CompletePlan → Plan
-plan_of p i m (Refused n d) = refuse n d
+plan_of p i m (Err why) = refuse why
 plan_of p i m (Sink entries accepted weight) = accept Moved (with_count m (leave p i m ∷ let_go i ∷ record_entry i m))
 plan_of p i m (Inner entries accepted weight) =
     accept Moved
@@ -47,7 +56,7 @@ pub record Room (e own task : ℕ) (weights : List ℕ) (counters : List ℤ) (r
 
 -- what lets an accepted plan be written
 abbrev pub Writable : ℕ → ℕ → Row → List ℕ → List ℤ → List ℕ → CompletePlan → Type 0
-Writable e own row weights counters run (Refused number detail) = Unit {0}
+Writable e own row weights counters run (Err why) = Unit {0}
 Writable e own row weights counters run (Sink entries accepted weight) = Room e own row.held.0 weights counters run entries accepted weight
 Writable e own row weights counters run (Inner entries accepted weight) =
     Room e own row.held.0 weights counters run entries accepted weight × (row.write < length weights)
@@ -71,6 +80,10 @@ Records entries accepted task worker executed executed' run run' =
 abbrev pub left_row : ℕ → Row → Row
 left_row write row = with_hand row.phase nil (with_places row.read write row.cursor row)
 
+-- the end of an accepted Complete
+abbrev pub let_go_of : ℕ → Row → Stepped
+let_go_of write row = Ok (Moved, left_row write row)
+
 -- what lets the weight leave the counter with this number
 abbrev pub Leavable : ℕ → ℕ → List ℤ → Type 0
 Leavable own weight counters = (own < length counters) × ((counter_fits (get_or counters own (pos 0)) ≡ true) × (weight ≤ 65535))
@@ -83,4 +96,4 @@ Joinable n i write places = (i * n + write < places) × ((places ≤ engine.work
 abbrev pub Leaves : (own i entries accepted weight : ℕ) → Row → ℕ → List ℤ → List ℤ → (executed executed' run run' : List ℕ) → Stepped → Type 0
 Leaves own i entries accepted weight row write counters counters' executed executed' run run' r =
     (counters' ≡ set counters own (get_or counters own (pos 0) -ℤ pos weight))
-    × (Records entries accepted row.held.0 i executed executed' run run' × (r ≡ Taken Moved (left_row write row)))
+    × (Records entries accepted row.held.0 i executed executed' run run' × (r ≡ let_go_of write row))

@@ -3,20 +3,17 @@
 
 ghost use Rattle.std.specs.Prelude.{◌≡◌, ◌+◌, ◌*◌, ◌≤◌, ◌<◌, length, set};
 ghost use Rattle.task.specs.Types.{engine};
-ghost use Rattle.task.specs.declared.StepOutcome.{StepOutcome};
 ghost use Rattle.admission.specs.Admission.{Knows};
-ghost use Rattle.admission.specs.declared.Stepped.{Stepped};
 ghost use Rattle.complete.specs.Complete.{Completes, HandAndWrite};
-ghost use Rattle.complete.specs.Planned.{Decides, Recordable, Records, left_row, Leavable, Joinable, Leaves};
+ghost use Rattle.complete.specs.Planned.{Decides, Recordable, Records, let_go_of, Leavable, Joinable, Leaves};
 
-use admission::{Admitted, Judged, Sizes, Stepped};
-use task::{Row, Step, StepOutcome, TaskId, WorkerId, refusal};
+use admission::{Sizes, Stepped};
+use task::{Answer, Refusal, Row, Step, StepOutcome, TaskId, WorkerId};
 
-// What Complete is to do: refused, or the held task joins the record, and the buffer where it is no sink; with the run words and the task's
-// weight as read.
+// What Complete is to do: the held task joins the record, and the buffer where it is no sink; with the run words and the task's weight as
+// read.
 #[derive(Clone, Copy)]
 pub enum CompletePlan {
-    Refused(u32, u32),
     Sink(u32, u32, u32),
     Inner(u32, u32, u32),
 }
@@ -31,7 +28,7 @@ pub fn plan_complete(
     e: usize,
     own: usize,
     row: Row,
-) -> CompletePlan
+) -> Result<CompletePlan, Refusal>
     requires { (length weights.now ≤ engine.tasks) × ((e ≤ engine.edges) × ((length succ_starts.now ≡ length weights.now + 1)
         × ((own < length counters.now) × (length run.now ≡ 2)))) }
     ensures { Decides e own row weights.now succ_starts.now counters.now run.now result }
@@ -40,47 +37,47 @@ pub fn plan_complete(
     let entries = run[0];
     if n <= entries as usize {
         if entries as usize == n {
-            return CompletePlan::Refused(refusal::RECORD_FULL, 0);
+            return Err(Refusal::RecordFull);
         }
-        return CompletePlan::Refused(refusal::DAMAGED, 0);
+        return Err(Refusal::Damaged);
     }
     let held = row.held.0 as usize;
     if n <= held {
-        return CompletePlan::Refused(refusal::DAMAGED, 0);
+        return Err(Refusal::Damaged);
     }
     let weight = weights[held];
     if 65535 < weight {
-        return CompletePlan::Refused(refusal::DAMAGED, 0);
+        return Err(Refusal::Damaged);
     }
     if !counters::counter_fits(counters, own) {
-        return CompletePlan::Refused(refusal::DAMAGED, 0);
+        return Err(Refusal::Damaged);
     }
     let past = succ_starts[held + 1];
     if e < past as usize {
-        return CompletePlan::Refused(refusal::DAMAGED, 0);
+        return Err(Refusal::Damaged);
     }
     let first = succ_starts[held];
     if past <= first {
         if past < first {
-            return CompletePlan::Refused(refusal::DAMAGED, 0);
+            return Err(Refusal::Damaged);
         }
         let accepted = run[1];
         if 3 * n + e <= accepted as usize {
-            return CompletePlan::Refused(refusal::DAMAGED, 0);
+            return Err(Refusal::Damaged);
         }
-        return CompletePlan::Sink(entries, accepted, weight);
+        return Ok(CompletePlan::Sink(entries, accepted, weight));
     }
     if n <= row.write as usize {
-        return CompletePlan::Refused(refusal::DAMAGED, 0);
+        return Err(Refusal::Damaged);
     }
     if row.write < row.read {
-        return CompletePlan::Refused(refusal::DAMAGED, 0);
+        return Err(Refusal::Damaged);
     }
     let accepted = run[1];
     if 3 * n + e <= accepted as usize {
-        return CompletePlan::Refused(refusal::DAMAGED, 0);
+        return Err(Refusal::Damaged);
     }
-    CompletePlan::Inner(entries, accepted, weight)
+    Ok(CompletePlan::Inner(entries, accepted, weight))
 }
 
 // The task and its worker join the record, and the step is counted, by the run words as read.
@@ -111,20 +108,16 @@ fn join_buffer(buffers: &mut [u32], n: usize, worker: WorkerId, write: u32, task
 
 // An accepted Complete: "held becomes NIL", and the write place is as given.
 fn let_go(row: Row, write: u32) -> Stepped
-    ensures { result ≡ Stepped.Taken StepOutcome.Moved (left_row write row) }
+    ensures { result ≡ let_go_of write row }
 {
-    let pointer = row.pointer;
-    Stepped::Taken(
+    Ok((
         StepOutcome::Moved,
         Row {
-            phase: row.phase,
             held: TaskId::NIL,
-            pointer,
-            read: row.read,
             write,
-            cursor: row.cursor,
+            ..row
         },
-    )
+    ))
 }
 
 // The writes where the task has no successors: its weight leaves the worker's own counter, and it joins the record.
@@ -179,7 +172,7 @@ pub fn write_inner(
 // Complete by a worker with this row, after what was judged; `sizes` are the lengths of all lent lists.
 pub fn complete_row(
     sizes: Sizes,
-    judged: Judged,
+    judged: Answer,
     p: usize,
     k: usize,
     worker: WorkerId,
@@ -200,15 +193,10 @@ pub fn complete_row(
         executed.old executed.new run.old run.new result }
     ensures hand_and_write { HandAndWrite row result }
 {
-    let admitted = admission::admit(judged, row, Step::Complete);
-    let after = match admitted {
-        Admitted::Refused(number, detail) => return Stepped::Refused(number, detail),
-        Admitted::To(after) => after,
-    };
+    let after = admission::admit(judged, row, Step::Complete)?;
     let own = searches::ring_number(p, worker, worker);
-    let plan = plan_complete(weights, succ_starts, counters, run, sizes.preds, own, after);
+    let plan = plan_complete(weights, succ_starts, counters, run, sizes.preds, own, after)?;
     match plan {
-        CompletePlan::Refused(number, detail) => Stepped::Refused(number, detail),
         CompletePlan::Sink(entries, accepted, weight) => {
             write_sink(
                 counters, executed, run, own, worker, entries, accepted, weight, after,

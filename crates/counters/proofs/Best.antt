@@ -1,7 +1,7 @@
 -- The least of the workers' sums at any width, and whether the counters looked at so far are in their range.
 use Prim.Native.Nat.{ℕ, suc, ◌+◌, ◌*◌, ◌≤◌, ◌<◌}
 use mathlib.Core.Path.{◌≡◌, refl, ap, ◌∙◌}
-use mathlib.Core.Bool.{Bool, true, false, not}
+use mathlib.Core.Bool.{true, false}
 use mathlib.Core.List.{List, ◌∷◌}
 use native.Mathlib.Omega.{arith}
 use native.Mathlib.Numerals.{add-one}
@@ -13,7 +13,6 @@ use lib.Seq.{drop-cons}
 use mir.Syntax.{Width}
 use mir.Val.{SFits, of_z, to_z}
 use mir.ValLaws.{to_z-of_z}
-use borrow.Author.Tests.{not-true, not-false}
 use Rattle.lists.specs.Lists.{all_of}
 use Rattle.lists.proofs.Blocks.{length-all, all-at}
 use Rattle.rules.specs.Words.{counters_fit}
@@ -79,13 +78,9 @@ module _ (p : ℕ) (counters : List ℤ) where
   pub fit_none : FitTo p counters 0
   fit_none = rw (zero-mul p) refl
 
-  -- worker j's own are looked at
-  module _ (j : ℕ) (s : ℤ) (fits : Bool) (e : Loads p counters j s fits) (before : FitTo p counters j) where
-    pub damaged-here : not fits ≡ true → counters_fit counters ≡ false
-    damaged-here h = before ∙ e.1 ∙ rw (not-true fits h)
-
-    pub fit_on : not fits ≡ false → FitTo p counters (j + 1)
-    fit_on h = before ∙ e.1 ∙ rw (not-false fits h, add-one j, suc-mul j p) refl
+  -- and worker j's own
+  pub fit_on : (j : ℕ) (s : ℤ) → Loads p counters j s true → FitTo p counters j → FitTo p counters (j + 1)
+  fit_on j s e before = before ∙ e.1 ∙ rw (add-one j, suc-mul j p) refl
 
   pub fit-whole : (j : ℕ) → FitTo p counters j → p ≤ j → length counters ≡ p * p → counters_fit counters ≡ true
   unfolding counters_fit

@@ -1,26 +1,28 @@
 -- The sum of a worker's counters at any width, and whether they are in their range or even small.
-use Prim.Native.Nat.{ℕ, suc, ◌+◌, ◌*◌, ◌≤◌, ◌<◌}
+use Prim.Native.Nat.{ℕ, suc, ◌+◌, ◌-◌, ◌*◌, ◌≤◌, ◌<◌}
 use mathlib.Core.Path.{◌≡◌, refl, ap, ◌∙◌}
 use mathlib.Core.Bool.{Bool, true, false, ◌&&◌}
 use mathlib.Core.List.{List, [], ◌∷◌}
 use native.Mathlib.Omega.{arith}
-use native.Mathlib.Decide.{dec_lt}
 use native.Mathlib.Numerals.{add-one}
 use native.Mathlib.Nat.{mul-suc, add-zero, add-suc}
 use lib.IntN.{ℤ, pos, negsuc, ◌+ℤ◌}
 use lib.Signed.{mag}
-use lib.ListN.{length, get_or, drop}
-use lib.Seq.{drop-cons}
+use lib.ListN.{length, get_or, take, drop}
+use lib.Seq.{drop-cons, get_or-take, get_or-drop}
 use mir.Syntax.{Width, w32}
 use mir.Val.{SFits, of_z, to_z}
 use mir.ValLaws.{to_z-of_z}
 use borrow.Author.Tests.{le-leb}
 use Rattle.lists.specs.Sums.{sum_to_z}
-use Rattle.lists.proofs.Told.{and-true}
 use Rattle.rules.specs.Words.{counter_fits, counters_fit}
-use Rattle.counters.specs.Choice.{small_counter, Small}
+use Rattle.counters.specs.Choice.{Small}
 use Rattle.choice.specs.Least.{load}
-use Rattle.counters.proofs.Laws.{mag-plus, mag-within, test_read}
+use Rattle.counters.proofs.Laws.{mag-plus, test_read}
+
+-- A counter of a worker's part of the list.
+pub in_part : (counters : List ℤ) (first p f : ℕ) → f < p → get_or (take (first + p - first) (drop first counters)) f (pos 0) ≡ get_or counters (first + f) (pos 0)
+in_part counters first p f h = get_or-take (first + p - first) (drop first counters) f (pos 0) (omega arith) ∙ get_or-drop first counters f (pos 0)
 
 -- The sum of f counters from place `first` on, each of a magnitude below `each`.
 pub record Summed (each : ℕ) (counters : List ℤ) (first f : ℕ) (sum : ℤ) : Type 0 where
@@ -88,23 +90,6 @@ small-fit (c ∷ counters) h = rw (small-fits c (h 0 (omega arith)), small-fit c
 -- P as a constant.
 pub squared : {n p q : ℕ} → p ≡ q → n ≡ p * p → n ≡ q * q
 squared e h = h ∙ ap (λ x. x * x) e
-
--- Those before place q are small if no test said otherwise.
-pub record SmallTo (counters : List ℤ) (q : ℕ) (small : Bool) : Type 0 where
-  pub each : small ≡ true → (i : ℕ) → i < q → mag (get_or counters i (pos 0)) ≤ 67108864
-
-pub small-none : (counters : List ℤ) → SmallTo counters 0 true
-small-none counters = record { each = λ t i l. absurd (omega (arith, l)) }
-
-pub small-on : (counters : List ℤ) (q : ℕ) (small : Bool) → SmallTo counters q small → SFits w32 (get_or counters q (pos 0))
-    → (b : Bool) → b ≡ small_counter (to_z w32 (of_z w32 (get_or counters q (pos 0)))) → SmallTo counters (q + 1) (small && b)
-small-on counters q small s is_IsWord b h = record { each = λ t i l. go t i l (dec_lt i q) }
-  where
-    go : (small && b) ≡ true → (i : ℕ) → i < q + 1 → Dec (i < q) → mag (get_or counters i (pos 0)) ≤ 67108864
-    go t i l (yes m) = s.each (and-true small b t).0 i m
-    go t i l (no m) =
-        let e : i ≡ q = omega (arith, l, m) in
-        rw e (mag-within 67108863 (get_or counters q (pos 0)) (rw (test_read _ is_IsWord small_counter b h) at (and-true small b t).1))
 
 -- At 32 bits, 16 small counters.
 module _ (counters : List ℤ) (first f : ℕ) (sum : ℤ) (s : Summed 67108865 counters first f sum) (few : f < 16) where

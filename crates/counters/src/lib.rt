@@ -1,7 +1,7 @@
 // Counters: whether they are in their range, a weight that joins or leaves one, and the target of a Release.
 #![tactic(auto)]
 
-ghost use Rattle.std.specs.Prelude.{◌≡◌, true, ◌+◌, ◌*◌, ◌≤◌, ◌<◌, length, get_or, set, pos, ◌+ℤ◌, ◌-ℤ◌};
+ghost use Rattle.std.specs.Prelude.{◌≡◌, ℤ, MatchOption, true, false, ◌+◌, ◌*◌, ◌≤◌, ◌<◌, length, get_or, set, pos, ◌+ℤ◌, ◌-ℤ◌};
 ghost use Rattle.std.specs.Int.Signed.{mag};
 ghost use Rattle.task.specs.Types.{engine};
 ghost use Rattle.rules.specs.Words.{counter_fits};
@@ -9,7 +9,7 @@ ghost use Rattle.lists.specs.Lists.{all_of};
 ghost use Rattle.choice.specs.Least.{load, least};
 ghost use Rattle.counters.specs.Choice.{small_counter, Small, Loads, Chosen};
 
-use task::WorkerId;
+use task::{Damaged, WorkerId};
 
 // A counter is in its range.
 fn in_range(counter: i32) -> bool
@@ -52,62 +52,44 @@ fn add_counter(sum: i64, counter: i32) -> i64
     sum + (counter as i64)
 }
 
-// The sum of a worker's counters, which needs more than 32 bits, and whether all of them are in their range.
-#[derive(Clone, Copy)]
-struct Load {
-    sum: i64,
-    fits: bool,
-}
-
-// A worker's load.
-fn load_of(counters: &[i32], p: usize, worker: WorkerId) -> Load
+// A worker's load: the sum of its counters, which needs more than 32 bits, where all of them are in their range. With no early exit the
+// loop can be vectorized.
+fn load_of(counters: &[i32], p: usize, worker: WorkerId) -> Option<i64>
     requires { (length counters.now ≡ p * p) × ((p ≤ engine.workers) × (worker.0 < p)) }
-    ensures { Loads p counters.now worker.0 result.sum result.fits }
+    ensures { MatchOption result ((sum : ℤ) × Loads p counters.now worker.0 sum false) (λ sum. Loads p counters.now worker.0 sum true) }
 {
     let first = worker.0 as usize * p;
     let mut sum: i64 = 0;
     let mut fits = true;
-    let mut f = 0;
-    while f < p {
-        let counter = counters[first + f];
-        sum = add_counter(sum, counter);
-        fits = fits & in_range(counter);
-        f += 1;
+    for counter in &counters[first..first + p] {
+        sum = add_counter(sum, *counter);
+        fits = fits & in_range(*counter);
     }
-    Load { sum, fits }
+    if fits { Some(sum) } else { None }
 }
 
-// A counter out of its range, or the worker with the least sum of its p counters.
-#[derive(Clone, Copy)]
-pub enum Choice {
-    Damaged,
-    Target(WorkerId),
-}
+// The worker with the least sum of its p counters, unless a counter is out of its range.
+pub type Choice = Result<WorkerId, Damaged>;
 
 // The workers' counters in turn, each read once; of equal sums that of the lowest number.
 fn choose_wide(counters: &[i32], p: usize) -> Choice
     requires { (length counters.now ≡ p * p) × ((1 ≤ p) × (p ≤ engine.workers)) }
     ensures { Chosen p counters.now result }
 {
-    let first = load_of(counters, p, WorkerId(0));
-    if !first.fits {
-        return Choice::Damaged;
-    }
+    let Some(mut least) = load_of(counters, p, WorkerId(0)) else {
+        return Err(Damaged);
+    };
     let mut best = WorkerId(0);
-    let mut least = first.sum;
-    let mut j: u32 = 1;
-    while (j as usize) < p {
-        let load = load_of(counters, p, WorkerId(j));
-        if !load.fits {
-            return Choice::Damaged;
-        }
-        if load.sum < least {
+    for j in 1..p as u32 {
+        let Some(load) = load_of(counters, p, WorkerId(j)) else {
+            return Err(Damaged);
+        };
+        if load < least {
             best = WorkerId(j);
-            least = load.sum;
+            least = load;
         }
-        j += 1;
     }
-    Choice::Target(best)
+    Ok(best)
 }
 
 // Within ±2^26: 16 such counters add up in 32 bits.
@@ -122,10 +104,8 @@ fn all_small(counters: &[i32]) -> bool
     ensures { result ≡ true → Small counters.now }
 {
     let mut small = true;
-    let mut q = 0;
-    while q < counters.len() {
-        small = small & is_small(counters[q]);
-        q += 1;
+    for counter in counters {
+        small = small & is_small(*counter);
     }
     small
 }
@@ -137,10 +117,8 @@ fn narrow_load(counters: &[i32], p: usize, worker: WorkerId) -> i32
 {
     let first = worker.0 as usize * p;
     let mut sum: i32 = 0;
-    let mut f = 0;
-    while f < p {
-        sum = sum + counters[first + f];
-        f += 1;
+    for counter in &counters[first..first + p] {
+        sum = sum + *counter;
     }
     sum
 }
@@ -152,14 +130,12 @@ fn choose_narrow(counters: &[i32], p: usize) -> WorkerId
 {
     let mut best = WorkerId(0);
     let mut least = narrow_load(counters, p, WorkerId(0));
-    let mut j: u32 = 1;
-    while (j as usize) < p {
+    for j in 1..p as u32 {
         let sum = narrow_load(counters, p, WorkerId(j));
         if sum < least {
             best = WorkerId(j);
             least = sum;
         }
-        j += 1;
     }
     best
 }
@@ -190,7 +166,7 @@ pub fn choose(counters: &[i32], p: usize) -> Choice
         return choose_wide(counters, p);
     }
     if all_small(counters) {
-        return Choice::Target(choose_small(counters, p));
+        return Ok(choose_small(counters, p));
     }
     choose_wide(counters, p)
 }

@@ -1,16 +1,14 @@
 -- Laws of the search for the smallest task on a cycle.
 use Prim.Native.Nat.{ℕ, ◌≤◌, ◌<◌}
 use mathlib.Core.Path.{◌≡◌, sym, ◌∙◌}
-use mathlib.Core.Logic.{inl, ◌↔◌}
-use mathlib.Core.Bool.{Bool, true, false}
+use mathlib.Core.Bool.{Bool, true}
 use mathlib.Core.List.{List}
 use native.Mathlib.Omega.{arith}
-use lib.ListN.{length, get_or, take}
+use lib.ListN.{length, take}
 use lib.Seq.{length-take-le}
 use Rattle.lists.specs.Decided.{holds}
-use Rattle.lists.proofs.Decided.{holds-yes, holds-no, first-is, first-none}
+use Rattle.lists.proofs.Decided.{holds-yes, first-is, first-none}
 use Rattle.graph.specs.Graph.{Graph}
-use Rattle.graph.specs.Conditions.{OnCycle, ToCycle}
 use Rattle.graph.specs.Decide.{on_cycle?}
 use Rattle.graph.specs.Stripping.{Stripped}
 use Rattle.graph.specs.Check.{first_on_cycle}
@@ -18,13 +16,6 @@ use Rattle.graph.proofs.Stripping.{all-stripped}
 use Rattle.cycles.specs.Ranks.{NoneBelow}
 
 module _ {g : Graph} (t : ℕ) where
-  -- a task that stripping takes away is on no cycle
-  pub stripped-off : (left : List ℕ) → (0 < get_or left t 0) ↔ ToCycle g t → get_or left t 0 ≡ 0 → ¬ (OnCycle g t)
-  stripped-off left f z p = omega (arith, f.1 (inl p))
-
-  pub asked-off : {r : Bool} → r ≡ holds (on_cycle? g t) → r ≡ false → ¬ (OnCycle g t)
-  asked-off e f = holds-no (on_cycle? g t) (sym e ∙ f)
-
   pub found_first : {r : Bool} → r ≡ holds (on_cycle? g t) → r ≡ true → t < g.tasks → NoneBelow g t → t ≡ first_on_cycle g
   unfolding first_on_cycle
   found_first e f h n = first-is g.tasks (on_cycle? g) t h (holds-yes (on_cycle? g t) (sym e ∙ f)) n

@@ -6,7 +6,7 @@ use mathlib.Core.List.{List, [], ◌∷◌}
 use native.Mathlib.Omega.{arith}
 use native.Mathlib.Decide.{ℕ_discrete, dec_lt}
 use lib.ListN.{length, take, get_or, set, length-set}
-use lib.Seq.{length-take-le, take-set-le, take_all, get_or-set_same, get_or-set_other}
+use lib.Seq.{length-take-le, take-set-le, get_or-set_same, get_or-set_other}
 use Rattle.lists.specs.Decided.{tally}
 use Rattle.lists.specs.Lists.{occ}
 use Rattle.lists.proofs.Decided.{stable, tally-yes, tally-no, tally-pos}
@@ -122,6 +122,3 @@ module _ (words : List ℕ) {s q : List ℕ} {a : ℕ} {s₁ q₁ : List ℕ} {b
       back : (u : ℕ) → Has s₁ u ⊎ Among u (get_or words i 0 ∷ []) → Has s u ⊎ Among u (take (i + 1) words)
       back u (inl k) = first u (f.only u k)
       back u (inr k) = inr (omega (arith, both u))
-
-pub grown-all : {s q s₁ q₁ : List ℕ} {a b : ℕ} (words : List ℕ) (i : ℕ) → length words ≤ i → Grown (take i words) s q a s₁ q₁ b → Grown words s q a s₁ q₁ b
-grown-all words i h f = rw (take_all i words h) at f

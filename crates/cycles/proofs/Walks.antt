@@ -1,22 +1,18 @@
 -- Laws of the walk back from a task: it begins, takes one task from the queue, and ends with every task that leads to t.
 use Prim.Native.Nat.{ℕ, ◌+◌, ◌≤◌, ◌<◌}
-use mathlib.Core.Path.{◌≡◌, sym, ap, ◌∙◌}
+use mathlib.Core.Path.{◌≡◌, ap, ◌∙◌}
 use mathlib.Core.Logic.{◌⊎◌, inl, inr, ◌↔◌}
-use mathlib.Core.Bool.{not}
 use mathlib.Core.List.{List}
 use native.Mathlib.Omega.{arith}
 use native.Mathlib.Decide.{ℕ_discrete, dec_lt}
-use lib.Dec.{eqb}
-use lib.ListN.{length, take, get_or, replicate, length-replicate}
-use borrow.Author.Tests.{eq-eqb, ne_eqb}
+use lib.ListN.{take, get_or, replicate, length-replicate}
 use Rattle.lists.specs.Lists.{occ}
-use Rattle.lists.specs.Decided.{holds, tally}
-use Rattle.lists.proofs.Decided.{yes-holds, no-holds, tally-pos}
+use Rattle.lists.specs.Decided.{tally}
+use Rattle.lists.proofs.Decided.{tally-pos}
 use Rattle.lists.proofs.Prefixes.{zeros, occ-more, occ-early, take_same}
 use Rattle.lists.proofs.Occurrences.{occ-nil}
 use Rattle.graph.specs.Graph.{Among, Graph, preds_of, Edge, Leads, edge, via}
-use Rattle.graph.specs.Conditions.{Good, Sound, OnCycle}
-use Rattle.graph.specs.Decide.{on_cycle?}
+use Rattle.graph.specs.Conditions.{Sound}
 use Rattle.graph.proofs.Parts.{leads-from}
 use Rattle.cycles.specs.Marks.{Has, Marked, Grown, Walked}
 
@@ -36,13 +32,6 @@ unmarked : {seen queue : List ℕ} → Marked seen queue 0 → (u : ℕ) → ¬ 
 unmarked m u h = omega (arith, m.once u, occ-nil ℕ_discrete u)
 
 module _ {g : Graph} (s : Sound g) where
-  -- what a look at the predecessors of a task asks
-  pub good-small : (t : ℕ) → t < g.tasks → Good 1024 g.starts g.preds t
-  good-small t h = record { rises = (s.good t h).rises; inside = (s.good t h).inside; below = λ u k. omega (arith, (s.good t h).below u k, s.sized.tasks) }
-
-  pub has-start : (t : ℕ) → t < g.tasks → t + 1 < length g.starts
-  has-start t h = omega (arith, s.sized.starts)
-
   pub walk_begins : {seen₀ queue₀ seen queue : List ℕ} {tail : ℕ} (t : ℕ) → t < g.tasks → Marked seen₀ queue₀ 0 → Grown (preds_of g t) seen₀ queue₀ 0 seen queue tail → Walked g t seen queue 0 tail
   walk_begins {seen₀} {queue₀} {seen} {queue} t h m f =
       record {
@@ -104,11 +93,3 @@ module _ {g : Graph} (s : Sound g) where
 
       pub walk_ends : (u : ℕ) → Has seen u ↔ Leads (Edge g) u t
       walk_ends u = (w.leads u, reached)
-
--- the test of the mark decides
-pub mark-tells : {g : Graph} (seen : List ℕ) (t : ℕ) → Has seen t ↔ OnCycle g t → not (eqb (get_or seen t 0) 0) ≡ holds (on_cycle? g t)
-mark-tells {g} seen t f = go (ℕ_discrete (get_or seen t 0) 0)
-  where
-    go : Dec (get_or seen t 0 ≡ 0) → not (eqb (get_or seen t 0) 0) ≡ holds (on_cycle? g t)
-    go (yes e) = rw (eq-eqb (get_or seen t 0) 0 e) (sym (no-holds (on_cycle? g t) (λ p. omega (arith, f.1 p))))
-    go (no n) = rw (ne_eqb (get_or seen t 0) 0 n) (sym (yes-holds (on_cycle? g t) (f.0 (omega arith))))

@@ -2,16 +2,19 @@
 // a task below which none is on a cycle, and that it reaches itself is looked up.
 #![tactic(auto)]
 
-ghost use Rattle.std.specs.Prelude.{◌≡◌, ◌↔◌, [], ◌∷◌, ℕ, ◌+◌, ◌≤◌, ◌<◌, length, get_or};
+ghost use Rattle.std.specs.Prelude.{◌≡◌, ◌↔◌, [], ◌∷◌, ℕ, ◌+◌, ◌≤◌, ◌<◌, length, get_or, IfSome, MatchOption};
 ghost use Rattle.lists.specs.Decided.{holds};
 ghost use Rattle.lists.specs.Lists.{occ};
-ghost use Rattle.graph.specs.Graph.{Among, part, graph_of, Edge, Leads};
-ghost use Rattle.graph.specs.Conditions.{Good, Sound, ToCycle};
+ghost use Rattle.graph.specs.Graph.{Among, graph_of, preds_of, Edge, Leads};
+ghost use Rattle.graph.specs.Conditions.{Sound, ToCycle};
 ghost use Rattle.graph.specs.Decide.{on_cycle?};
 ghost use Rattle.graph.specs.Stripping.{HandsOut};
 ghost use Rattle.graph.specs.Check.{first_on_cycle};
+ghost use Rattle.tables.specs.Tables.{graph_in};
 ghost use Rattle.cycles.specs.Marks.{Has, Marked, Grown};
 ghost use Rattle.cycles.specs.Ranks.{NoneBelow, Lows, LowestBefore};
+
+use tables::Table;
 
 // Marks and queues task u if it has no mark.
 fn mark(seen: &mut [u32], queue: &mut [u32], tail: usize, u: usize) -> usize
@@ -32,162 +35,115 @@ fn mark_all(words: &[u32], seen: &mut [u32], queue: &mut [u32], from: usize) -> 
     ensures { Grown words.now seen.old queue.old from seen.new queue.new result }
 {
     let mut tail = from;
-    let mut i = 0;
-    while i < words.len() {
-        let u = words[i] as usize;
-        tail = mark(seen, queue, tail, u);
-        i += 1;
+    for &word in words {
+        tail = mark(seen, queue, tail, word as usize);
     }
     tail
 }
 
 // Marks and queues the predecessors of task t that have no mark.
-fn mark_preds(
-    starts: &[u32],
-    preds: &[u32],
-    t: usize,
-    seen: &mut [u32],
-    queue: &mut [u32],
-    from: usize,
-) -> usize
-    requires { (t + 1 < length starts.now) × (Good 1024 starts.now preds.now t × Marked seen.old queue.old from) }
-    ensures { Grown (part starts.now preds.now t) seen.old queue.old from
-        seen.new queue.new result }
+fn mark_preds(table: Table, t: usize, seen: &mut [u32], queue: &mut [u32], from: usize) -> usize
+    requires { (t < table.tasks) × Marked seen.old queue.old from }
+    ensures { Grown (preds_of (graph_in table.entry) t) seen.old queue.old from seen.new queue.new result }
 {
-    let a = starts[t] as usize;
-    let e = starts[t + 1] as usize;
-    mark_all(&preds[a..e], seen, queue, from)
+    mark_all(table.part(t), seen, queue, from)
 }
 
 // Marks every task from which a path of edges leads to t.
-fn mark_before(
-    n: usize,
-    starts: &[u32],
-    preds: &[u32],
-    t: usize,
-    seen: &mut [u32],
-    queue: &mut [u32],
-)
-    requires { Sound (graph_of n starts.now preds.now) × ((t < n) × Marked seen.old queue.old 0) }
-    ensures { (u : ℕ) → Has seen.new u ↔ Leads (Edge (graph_of n starts.now preds.now)) u t }
+fn mark_before(table: Table, t: usize, seen: &mut [u32], queue: &mut [u32])
+    requires { (t < table.tasks) × Marked seen.old queue.old 0 }
+    ensures { (u : ℕ) → Has seen.new u ↔ Leads (Edge (graph_in table.entry)) u t }
 {
-    let mut tail = mark_preds(starts, preds, t, seen, queue, 0);
+    let mut tail = mark_preds(table, t, seen, queue, 0);
     let mut head = 0;
+    // kept: the bound moves, as what a turn queues is a turn to come
     while head < tail {
         let u = queue[head] as usize;
-        tail = mark_preds(starts, preds, u, seen, queue, tail);
+        tail = mark_preds(table, u, seen, queue, tail);
         head += 1;
     }
 }
 
 // Whether a path of edges leads from task t back to itself.
-fn on_cycle(n: usize, starts: &[u32], preds: &[u32], t: usize) -> bool
-    requires { Sound (graph_of n starts.now preds.now) × (t < n) }
-    ensures { result ≡ holds (on_cycle? (graph_of n starts.now preds.now) t) }
+fn on_cycle(table: Table, t: usize) -> bool
+    requires { t < table.tasks }
+    ensures { result ≡ holds (on_cycle? (graph_in table.entry) t) }
 {
     let mut seen = [0u32; 1024];
     let mut queue = [0u32; 1024];
-    mark_before(n, starts, preds, t, &mut seen, &mut queue);
+    mark_before(table, t, &mut seen, &mut queue);
     seen[t] != 0
 }
 
-fn smaller(a: u32, b: u32) -> u32
-    ensures { (result ≤ a) × (result ≤ b) }
-{
-    if b < a { b } else { a }
-}
-
-// The least rank of the words; of it is promised that none is below it.
-fn lowest(words: &[u32], rank: &[u32; 1024]) -> u32
+// The least rank of the words, of which is promised that none is below it; none where there is no word.
+fn lowest(words: &[u32], rank: &[u32; 1024]) -> Option<u32>
     requires { (u : ℕ) → Among u words.now → u < 1024 }
-    ensures { Lows words.now rank.now result }
+    ensures { MatchOption result ((low : ℕ) → Lows words.now rank.now low) (λ low. Lows words.now rank.now low) }
 {
-    let mut low = 4294967295;
-    let mut i = 0;
-    while i < words.len() {
-        let u = words[i] as usize;
-        low = smaller(low, rank[u]);
-        i += 1;
-    }
-    low
+    words.iter().map(|&word| rank[word as usize]).min()
 }
 
-// The least rank before task t, if it is left.
-fn lowest_before(
-    n: usize,
-    starts: &[u32],
-    preds: &[u32],
-    left: &[u32],
-    rank: &[u32; 1024],
-    t: usize,
-) -> u32
-    requires { Sound (graph_of n starts.now preds.now) × ((t < n) × ((length left.now ≡ 1024)
-        × ((0 < get_or left.now t 0) ↔ ToCycle (graph_of n starts.now preds.now) t))) }
-    ensures { LowestBefore (graph_of n starts.now preds.now) rank.now t result }
+// The least rank before task t, if it is left and some task is before it.
+fn lowest_before(table: Table, left: &[u32], rank: &[u32; 1024], t: usize) -> Option<u32>
+    requires { (t < table.tasks) × ((length left.now ≡ 1024) × ((0 < get_or left.now t 0) ↔ ToCycle (graph_in table) t)) }
+    ensures { MatchOption result ((low : ℕ) → LowestBefore (graph_in table.entry) rank.now t low)
+        (λ low. LowestBefore (graph_in table.entry) rank.now t low) }
 {
     if left[t] == 0 {
-        return 4294967295;
+        return None;
     }
-    let a = starts[t] as usize;
-    let e = starts[t + 1] as usize;
-    lowest(&preds[a..e], rank)
+    lowest(table.part(t), rank)
 }
 
 // The smallest task left with an edge from one of its own rank: no rank rises along an edge, so none below it is on a
-// cycle. n where there is no such task, or a rank rises.
-fn first_level(n: usize, starts: &[u32], preds: &[u32], left: &[u32], rank: &[u32; 1024]) -> usize
-    requires { Sound (graph_of n starts.now preds.now) × ((length left.now ≡ 1024)
-        × ((t : ℕ) → t < n → (0 < get_or left.now t 0) ↔ ToCycle (graph_of n starts.now preds.now) t)) }
-    ensures { result < n → NoneBelow (graph_of n starts.now preds.now) result }
+// cycle. None where there is no such task, or a rank rises.
+fn first_level(table: Table, left: &[u32], rank: &[u32; 1024]) -> Option<usize>
+    requires { (length left.now ≡ 1024)
+        × ((t : ℕ) → t < table.tasks → (0 < get_or left.now t 0) ↔ ToCycle (graph_in table) t) }
+    ensures { IfSome result (λ t. (t < table.entry.tasks) × NoneBelow (graph_in table.entry) t) }
 {
-    let mut first = n;
-    let mut t = n;
-    while 0 < t {
-        t -= 1;
-        let low = lowest_before(n, starts, preds, left, rank, t);
+    let mut first = None;
+    for t in (0..table.tasks).rev() {
+        let Some(low) = lowest_before(table, left, rank, t) else {
+            continue;
+        };
         if low < rank[t] {
-            return n;
+            return None;
         }
         if low == rank[t] {
-            first = t;
+            first = Some(t);
         }
     }
     first
 }
 
-// The smallest task on a cycle by the ranks of the tasks left, or n where these don't tell.
-fn by_ranks(n: usize, starts: &[u32], preds: &[u32], left: &[u32]) -> usize
-    requires { Sound (graph_of n starts.now preds.now) × ((length left.now ≡ 1024)
-        × ((t : ℕ) → t < n → (0 < get_or left.now t 0) ↔ ToCycle (graph_of n starts.now preds.now) t)) }
-    ensures { result < n → result ≡ first_on_cycle (graph_of n starts.now preds.now) }
+// The smallest task on a cycle by the ranks of the tasks left, where these tell.
+fn by_ranks(table: Table, left: &[u32]) -> Option<usize>
+    requires { (length left.now ≡ 1024)
+        × ((t : ℕ) → t < table.tasks → (0 < get_or left.now t 0) ↔ ToCycle (graph_in table) t) }
+    ensures { IfSome result (λ t. t ≡ first_on_cycle (graph_in table.entry)) }
 {
     let mut rank = [0u32; 1024];
-    components::rank_left(n, starts, preds, left, &mut rank);
-    let first = first_level(n, starts, preds, left, &rank);
-    if first < n {
-        if on_cycle(n, starts, preds, first) {
-            return first;
-        }
+    components::rank_left(table.tasks, table.starts, table.words, left, &mut rank);
+    let first = first_level(table, left, &rank)?;
+    if on_cycle(table, first) {
+        return Some(first);
     }
-    n
+    None
 }
 
 // The smallest task on a cycle among those left, asked one by one.
-fn search(n: usize, starts: &[u32], preds: &[u32], left: &[u32]) -> usize
-    requires { Sound (graph_of n starts.now preds.now) × ((length left.now ≡ 1024)
-        × ((t : ℕ) → t < n → (0 < get_or left.now t 0) ↔ ToCycle (graph_of n starts.now preds.now) t)) }
-    ensures { result ≡ first_on_cycle (graph_of n starts.now preds.now) }
+fn search(table: Table, left: &[u32]) -> usize
+    requires { (length left.now ≡ 1024)
+        × ((t : ℕ) → t < table.tasks → (0 < get_or left.now t 0) ↔ ToCycle (graph_in table) t) }
+    ensures { result ≡ first_on_cycle (graph_in table.entry) }
 {
-    let mut t = 0;
-    while t < n {
-        if left[t] != 0 {
-            if on_cycle(n, starts, preds, t) {
-                return t;
-            }
+    for t in 0..table.tasks {
+        if left[t] != 0 && on_cycle(table, t) {
+            return t;
         }
-        t += 1;
     }
-    n
+    table.tasks
 }
 
 // What 5 is judged by: the smallest task on a cycle, or n; and how many tasks were stripped.
@@ -213,21 +169,16 @@ pub fn first_on_cycle(
 {
     let stripped = strip::strip(n, starts, preds, left, order);
     if stripped == n {
-        return Judged {
-            first: n,
-            stripped: stripped,
-        };
+        return Judged { first: n, stripped };
     }
-    let first = by_ranks(n, starts, preds, left);
-    if first < n {
-        return Judged {
-            first: first,
-            stripped: stripped,
-        };
-    }
-    let asked = search(n, starts, preds, left);
-    Judged {
-        first: asked,
-        stripped: stripped,
-    }
+    let table = Table {
+        tasks: n,
+        starts,
+        words: preds,
+    };
+    let first = match by_ranks(table, left) {
+        Some(first) => first,
+        None => search(table, left),
+    };
+    Judged { first, stripped }
 }

@@ -2,25 +2,8 @@
 // read to the end, nothing is judged; a failed read or write is told on standard error.
 #![tactic(auto)]
 
-ghost use Rattle.std.specs.Io.{ReadsAtMost};
-
-use std::io;
-use std::io::{Read, Write};
-
-// Reads until the room is full or the reader is at its end; how many bytes stand at the room's start then.
-fn read_full<R: Read>(from: &mut R, room: &mut [u8]) -> io::Result<usize>
-    ensures { ReadsAtMost result room.new }
-{
-    let mut done = 0;
-    while done < room.len() {
-        let count = from.read(&mut room[done..])?;
-        if count == 0 {
-            break;
-        }
-        done += count;
-    }
-    Ok(done)
-}
+use cases::read;
+use std::io::Write;
 
 fn tell<W: Write>(err: &mut W, line: &[u8]) {
     let _ = err.write_all(line);
@@ -29,7 +12,7 @@ fn tell<W: Write>(err: &mut W, line: &[u8]) {
 fn main(rt: HostRuntime) {
     // one byte more than a text may have, so that a longer one is refused and not cut
     let mut text = [0u8; 65537];
-    let Ok(count) = read_full(&mut rt.stdin(), &mut text) else {
+    let Ok(count) = read::full(&mut rt.stdin(), &mut text) else {
         return tell(&mut rt.stderr(), b"desk: standard input can't be read\n");
     };
     let mut out = [0u8; 32768];

@@ -10,16 +10,16 @@ use native.Mathlib.Decide.{dec_lt, dec_le}
 use borrow.Author.Tests.{lt-ltb, le-ltb}
 use lib.ListN.{length}
 use lib.Dec.{ltb}
+use Rattle.std.specs.Prelude.{Err, Ok}
 use Rattle.lists.specs.Circles.{after}
 use Rattle.lists.proofs.Circles.{after-lt}
 use Rattle.task.specs.Types.{engine}
-use Rattle.task.specs.Refusals.{accepted, answer_says, step_says}
+use Rattle.task.specs.Refusals.{StepAnswer, refusal_number, refusal_detail, accepted, answer_says, step_says}
 use Rattle.task.specs.Rows.{Acceptance}
+use Rattle.task.specs.declared.refusal.Refusal.{Refusal}
 use Rattle.task.specs.declared.Step.{Step}
 use Rattle.task.specs.declared.Step.TheVariants.{Fetch, Start, Complete, Release}
 use Rattle.task.specs.declared.StepOutcome.{StepOutcome}
-use Rattle.task.specs.declared.StepAnswer.{StepAnswer}
-use Rattle.task.specs.declared.StepAnswer.TheVariants.{Refused, Accepted}
 use Rattle.machine.specs.Machine as machine
 use Rattle.machine.proofs.Lists.{memory-on}
 use Rattle.layout.specs.Marks.{Each}
@@ -54,27 +54,27 @@ data Turned (i : ℕ) (ss : List Step) (m : Mem) : Type 0 where
   waits : turn engine 2 4 i ss m ≡ m → Each (Refuses i m) ss → Turned i ss m
 
 module _ (i : ℕ) (s : Step) (ss : List Step) (m : Mem) where
-  turn-accepted : (o : StepOutcome) → answer_of i s m ≡ Accepted o → turn engine 2 4 i (s ∷ ss) m ≡ left i s m
+  turn-accepted : (o : StepOutcome) → answer_of i s m ≡ Ok o → turn engine 2 4 i (s ∷ ss) m ≡ left i s m
   unfolding turn
   turn-accepted o e = rw e
 
-  turn-refused : (n d : ℕ) → answer_of i s m ≡ Refused n d → turn engine 2 4 i (s ∷ ss) m ≡ turn engine 2 4 i ss m
+  turn-refused : (why : Refusal) → answer_of i s m ≡ Err why → turn engine 2 4 i (s ∷ ss) m ≡ turn engine 2 4 i ss m
   unfolding turn
-  turn-refused n d e = rw e (ap (turn engine 2 4 i ss) (refused-step engine 2 4 i s m n d (ap step_says e)))
+  turn-refused why e = rw e (ap (turn engine 2 4 i ss) (refused-step engine 2 4 i s m (refusal_number why) (refusal_detail why) (ap step_says e)))
 
 turned : (i : ℕ) (ss : List Step) (m : Mem) → Turned i ss m
 unfolding turn
 turned i [] m = waits refl tt
 turned i (s ∷ ss) m = go (answer_of i s m) refl (turned i ss m)
   where
-    later : (n d : ℕ) → answer_of i s m ≡ Refused n d → Turned i ss m → Turned i (s ∷ ss) m
-    later n d e (takes h) = takes (ap accepted_in (turn-refused i s ss m n d e) ∙ h)
-    later n d e (waits h r) = waits (turn-refused i s ss m n d e ∙ h) (λ a. rw (ap step_says e) at a, r)
+    later : (why : Refusal) → answer_of i s m ≡ Err why → Turned i ss m → Turned i (s ∷ ss) m
+    later why e (takes h) = takes (ap accepted_in (turn-refused i s ss m why e) ∙ h)
+    later why e (waits h r) = waits (turn-refused i s ss m why e ∙ h) (λ a. rw (ap step_says e) at a, r)
 
     go : (a : StepAnswer) → answer_of i s m ≡ a → Turned i ss m → Turned i (s ∷ ss) m
-    go (Accepted o) e _ =
+    go (Ok o) e _ =
         takes (ap accepted_in (turn-accepted i s ss m o e) ∙ counts engine 2 4 i s m (rw (ap step_says e) (outcome-accepts o)))
-    go (Refused n d) e t = later n d e t
+    go (Err why) e t = later why e t
 
 -- what the calls of a turn leave
 turn-calls : (i : ℕ) (ss : List Step) (m : Mem) → memory_after (turn_calls i ss m) m ≡ turn engine 2 4 i ss m
@@ -86,8 +86,8 @@ turn-calls i (s ∷ ss) m = go (answer_of i s m) refl (turn-calls i ss (left i s
         → memory_after (turn_calls i ss (left i s m)) (left i s m) ≡ turn engine 2 4 i ss (left i s m)
         → memory_after (unless_accepted (answer_of i s m) (turn_calls i ss (left i s m))) (left i s m)
         ≡ first_of (answer_of i s m) (left i s m) (turn engine 2 4 i ss (left i s m))
-    go (Accepted o) e _ = rw e
-    go (Refused n d) e later = rw e later
+    go (Ok o) e _ = rw e
+    go (Err why) e later = rw e later
 
 -- one turn more, where steps are left
 pub turns_more : (n i : ℕ) (m : Mem) → accepted_in m < all_steps m

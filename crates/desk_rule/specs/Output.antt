@@ -1,12 +1,9 @@
 -- "It prints N and the accepted word, then per entry task and worker. A refusal by the reader or by begin prints one line alone, "refused",
 -- number, detail, parted by single spaces; refused steps print nothing."
-use Rattle.std.specs.Prelude.{ℕ, zero, suc, ◌+◌, ◌*◌, List, [], ◌∷◌, ◌++◌, length, get_or, take, replicate, pos}
+use Rattle.std.specs.Prelude.{ℕ, zero, suc, ◌+◌, ◌*◌, List, [], ◌∷◌, ◌++◌, length, get_or, take, replicate, pos, Err, Ok}
 use Rattle.task.specs.Types.{engine}
 use Rattle.task.specs.declared.Row.{Row}
-use Rattle.task.specs.declared.Answer.{Answer}
-use Rattle.task.specs.declared.Answer.TheVariants as answer
-use Rattle.task.specs.declared.ReadAnswer.{ReadAnswer}
-use Rattle.task.specs.declared.ReadAnswer.TheVariants as read_answer
+use Rattle.task.specs.Refusals.{Answer, ReadAnswer, refusal_number, refusal_detail}
 use Rattle.layout.specs.Marks.{space}
 use Rattle.layout.specs.Reader.{Read, read_text}
 use Rattle.rules.specs.Memory.{Mem, mem_of, tasks, entries_in, accepted_in}
@@ -32,8 +29,8 @@ run_lines m = pair_line (tasks m) (accepted_in m) ++ entry_lines m.executed (ent
 
 -- begin's answer is printed where it refuses, else the desk's run
 abbrev pub begun_output : Answer → Mem → List ℕ
-begun_output (answer.Refused n d) m = refused_line n d
-begun_output answer.Accepted m = run_lines (desk_run m)
+begun_output (Err why) m = refused_line (refusal_number why) (refusal_detail why)
+begun_output (Ok u) m = run_lines (desk_run m)
 
 unfoldable pub graph_output : Mem → List ℕ
 graph_output m = begun_output (begin engine 2 4 m).answer (begin engine 2 4 m).memory
@@ -54,8 +51,8 @@ desk_memory w ps p =
 
 -- the reader's answer likewise
 abbrev pub read_output : ReadAnswer → Read → List ℕ
-read_output (read_answer.Refused n d) r = refused_line n d
-read_output (read_answer.Accepted n e) r = graph_output (desk_memory (take n r.weights) (take (n + 1) r.starts) (take e r.preds))
+read_output (Err why) r = refused_line (refusal_number why) (refusal_detail why)
+read_output (Ok (n, e)) r = graph_output (desk_memory (take n r.weights) (take (n + 1) r.starts) (take e r.preds))
 
 -- "The reader is lent 1,024, 1,025 and 8,192 words"
 unfoldable pub desk_read : List ℕ → Read

@@ -1,11 +1,9 @@
 -- The desk's run always finishes: "each takes the first accepted of Release, Fetch, Start, Complete, or nothing, until 3N+E are accepted".
-use Rattle.std.specs.Prelude.{ℕ, zero, suc, ◌+◌, ◌*◌, ◌≡◌, cond, List, [], ◌∷◌, ◌++◌, ltb}
+use Rattle.std.specs.Prelude.{ℕ, zero, suc, ◌+◌, ◌*◌, ◌≡◌, cond, List, [], ◌∷◌, ◌++◌, ltb, Err, Ok}
 use Rattle.lists.specs.Circles.{after}
 use Rattle.task.specs.Types.{engine}
-use Rattle.task.specs.Refusals.{accepted, answer_says}
+use Rattle.task.specs.Refusals.{accepted, answer_says, StepAnswer}
 use Rattle.task.specs.declared.Step.{Step}
-use Rattle.task.specs.declared.StepAnswer.{StepAnswer}
-use Rattle.task.specs.declared.StepAnswer.TheVariants.{Refused, Accepted}
 use Rattle.rules.specs.Memory.{Mem, tasks, edges, all_steps, entries_in, accepted_in}
 use Rattle.rules.specs.Steps.{step}
 use Rattle.rules.specs.Begin.{begin}
@@ -15,8 +13,8 @@ use Rattle.runs.specs.Demand.{Finished}
 
 -- after an accepted step a turn makes no further call
 abbrev pub unless_accepted : StepAnswer → List Call → List Call
-unless_accepted (Accepted o) later = []
-unless_accepted (Refused n d) later = later
+unless_accepted (Ok o) later = []
+unless_accepted (Err why) later = later
 
 -- the calls of a turn of worker i: the steps in their order, up to the first that is accepted, with P 2 and K 4
 unfoldable pub turn_calls : ℕ → List Step → Mem → List Call

@@ -7,7 +7,7 @@
 // Numbers are decimal, up to 32 bits, each behind one blank. A line that is none of these is printed as unreadable.
 #![tactic(auto)]
 
-use cases::{lines, read, show};
+use cases::{lines, read};
 use std::io;
 use std::io::Write;
 
@@ -15,20 +15,19 @@ use std::io::Write;
 fn respond<W: Write>(out: &mut W, text: &[u8]) -> io::Result<()> {
     let mut printed = [0u8; 32768];
     let end = response::respond(text, &mut printed);
-    show::say(out, &printed[..task::smaller(end, 32768)])
+    out.write_all(&printed[..end.min(32768)])
 }
 
 fn run<W: Write>(out: &mut W, input: &[u8]) -> io::Result<()> {
     let mut words = [0u32; 8];
     let mut at = 0;
+    // kept: a case says itself where the next one starts
     while at < input.len() {
-        let text = lines::text_at(out, input, at, 1, &mut words)?;
-        let from = text.from;
-        let end = text.end;
-        if text.good {
-            respond(out, &input[from..end])?;
+        let case = lines::text_at(out, input, at, 1, &mut words)?;
+        if let Some(text) = case.text {
+            respond(out, &input[text.start..text.end])?;
         }
-        at = text.next;
+        at = case.next;
     }
     Ok(())
 }

@@ -10,7 +10,6 @@ ghost use Rattle.rules.specs.Plans.{result_of};
 ghost use Rattle.rules.specs.Steps.{step};
 ghost use Rattle.engine_cells.specs.Cells.{cell_mem};
 
-use admission::Judged;
 use task::{Limits, RowCell, StepAnswer, WorkerId};
 
 pub fn fetch(
@@ -59,9 +58,7 @@ pub fn fetch(
         rows,
     );
     let judged = admission::judge(limits, sizes, p, k, worker);
-    if let Judged::Refused(number, detail) = judged {
-        return StepAnswer::Refused(number, detail);
-    }
+    judged?;
     let row = rows::row_at(rows, worker);
     let stepped = fetch::fetch_row(sizes, judged, p, k, worker, row, rings, ends, run);
     engine_cells::store_fetched(rows, worker, row, stepped)
@@ -113,9 +110,7 @@ pub fn start(
         rows,
     );
     let judged = admission::judge(limits, sizes, p, k, worker);
-    if let Judged::Refused(number, detail) = judged {
-        return StepAnswer::Refused(number, detail);
-    }
+    judged?;
     let row = rows::row_at(rows, worker);
     let stepped = start::start_row(sizes, judged, p, k, worker, row, run);
     engine_cells::store_started(rows, worker, row, stepped)
@@ -167,9 +162,7 @@ pub fn complete(
         rows,
     );
     let judged = admission::judge(limits, sizes, p, k, worker);
-    if let Judged::Refused(number, detail) = judged {
-        return StepAnswer::Refused(number, detail);
-    }
+    judged?;
     let row = rows::row_at(rows, worker);
     let stepped = complete::complete_row(
         sizes,
@@ -234,9 +227,7 @@ pub fn release(
         rows,
     );
     let judged = admission::judge(limits, sizes, p, k, worker);
-    if let Judged::Refused(number, detail) = judged {
-        return StepAnswer::Refused(number, detail);
-    }
+    judged?;
     let row = rows::row_at(rows, worker);
     let stepped = release::release_row(
         sizes,

@@ -3,13 +3,11 @@
 use Prim.Native.Nat.{ℕ}
 use mathlib.Core.Path.{◌≡◌, sym, ap, ◌∙◌}
 use mathlib.Core.List.{List}
-use Rattle.task.specs.Refusals.{answer_says, step_says}
-use Rattle.task.specs.declared.Answer.{Answer}
-use Rattle.task.specs.declared.Answer.TheVariants as answer
+use Rattle.std.specs.Prelude.{Err}
+use Rattle.task.specs.declared.refusal.Refusal.{Refusal}
+use Rattle.task.specs.Refusals.{answer_says, step_says, Answer, StepAnswer, refusal_number, refusal_detail}
 use Rattle.task.specs.declared.Limits.{Limits}
 use Rattle.task.specs.declared.Step.{Step}
-use Rattle.task.specs.declared.StepAnswer.{StepAnswer}
-use Rattle.task.specs.declared.StepAnswer.TheVariants.{Refused}
 use Rattle.rules.specs.Memory.{Mem}
 use Rattle.rules.specs.Begin.{begin}
 use Rattle.rules.specs.Plans.{Result, result_of}
@@ -25,18 +23,18 @@ module _ (m m' : Mem) (cells cells' : List (List ℕ)) (rows : m.rows ≡ rows_o
   same-cells e = (e, rows_words cells' cells six' six (sym rows' ∙ ap (λ (x : Mem). x.rows) e ∙ rows))
 
   -- "all lent memory keeps its words": the contracts here, which hand out the answer itself; of the exports `untouched` (`crates/hosts/proofs/Untouched.antt`)
-  pub refused-step-cells : (limits : Limits) (p k i : ℕ) (s : Step) (n d : ℕ) → result_of (Refused n d) m' ≡ step limits p k i s m
+  pub refused-step-cells : (limits : Limits) (p k i : ℕ) (s : Step) (why : Refusal) → result_of (Err why) m' ≡ step limits p k i s m
       → (m' ≡ m) × (cells' ≡ cells)
-  refused-step-cells limits p k i s n d contract =
+  refused-step-cells limits p k i s why contract =
       same-cells
       (ap (λ (r : Result StepAnswer). r.memory) contract
-      ∙ refused-step limits p k i s m n d (ap (λ (r : Result StepAnswer). step_says r.answer) (sym contract)))
+      ∙ refused-step limits p k i s m (refusal_number why) (refusal_detail why) (ap (λ (r : Result StepAnswer). step_says r.answer) (sym contract)))
 
-  pub refused-begin-cells : (limits : Limits) (p k n d : ℕ) → result_of (answer.Refused n d) m' ≡ begin limits p k m → (m' ≡ m) × (cells' ≡ cells)
-  refused-begin-cells limits p k n d contract =
+  pub refused-begin-cells : (limits : Limits) (p k : ℕ) (why : Refusal) → result_of (Err why) m' ≡ begin limits p k m → (m' ≡ m) × (cells' ≡ cells)
+  refused-begin-cells limits p k why contract =
       same-cells
       (ap (λ (r : Result Answer). r.memory) contract
-      ∙ refused-begin limits p k m n d (ap (λ (r : Result Answer). answer_says r.answer) (sym contract)))
+      ∙ refused-begin limits p k m (refusal_number why) (refusal_detail why) (ap (λ (r : Result Answer). answer_says r.answer) (sym contract)))
 
   -- "For each call and input one result and one content of the lent words is permitted": two that keep to one contract are the same
   pub one-content : {A : Type 0} (a a' : A) (result : Result A) → result_of a m ≡ result → result_of a' m' ≡ result

@@ -65,15 +65,11 @@ pub fn store_fetched(
     requires { (worker.0 < length rows.old) × ((row ≡ get_or (rows_of rows.old) worker.0 idle) × HandAndPointer row stepped) }
     ensures { (result ≡ answer_of stepped) × (rows_of rows.new ≡ rows_after (rows_of rows.old) worker.0 stepped) }
 {
-    match stepped {
-        Stepped::Refused(number, detail) => StepAnswer::Refused(number, detail),
-        Stepped::Taken(outcome, after) => {
-            let held = after.held;
-            rows::set_hand(rows, worker, after.phase, held);
-            rows::set_pointer(rows, worker, after.pointer);
-            StepAnswer::Accepted(outcome)
-        }
-    }
+    let (outcome, after) = stepped?;
+    let held = after.held;
+    rows::set_hand(rows, worker, after.phase, held);
+    rows::set_pointer(rows, worker, after.pointer);
+    Ok(outcome)
 }
 
 // The end of a Start by the worker with this row: accepted, it stores the row's phase.
@@ -86,13 +82,9 @@ pub fn store_started(
     requires { (worker.0 < length rows.old) × ((row ≡ get_or (rows_of rows.old) worker.0 idle) × PhaseAlone row stepped) }
     ensures { (result ≡ answer_of stepped) × (rows_of rows.new ≡ rows_after (rows_of rows.old) worker.0 stepped) }
 {
-    match stepped {
-        Stepped::Refused(number, detail) => StepAnswer::Refused(number, detail),
-        Stepped::Taken(outcome, after) => {
-            rows::set_phase(rows, worker, after.phase);
-            StepAnswer::Accepted(outcome)
-        }
-    }
+    let (outcome, after) = stepped?;
+    rows::set_phase(rows, worker, after.phase);
+    Ok(outcome)
 }
 
 // The end of a Complete by the worker with this row: accepted, it stores the row's hand and write place.
@@ -105,15 +97,11 @@ pub fn store_completed(
     requires { (worker.0 < length rows.old) × ((row ≡ get_or (rows_of rows.old) worker.0 idle) × HandAndWrite row stepped) }
     ensures { (result ≡ answer_of stepped) × (rows_of rows.new ≡ rows_after (rows_of rows.old) worker.0 stepped) }
 {
-    match stepped {
-        Stepped::Refused(number, detail) => StepAnswer::Refused(number, detail),
-        Stepped::Taken(outcome, after) => {
-            let held = after.held;
-            rows::set_hand(rows, worker, after.phase, held);
-            rows::set_write(rows, worker, after.write);
-            StepAnswer::Accepted(outcome)
-        }
-    }
+    let (outcome, after) = stepped?;
+    let held = after.held;
+    rows::set_hand(rows, worker, after.phase, held);
+    rows::set_write(rows, worker, after.write);
+    Ok(outcome)
 }
 
 // The end of a Release by the worker with this row: accepted, it stores the row's cursor, and its read place where
@@ -127,15 +115,11 @@ pub fn store_released(
     requires { (worker.0 < length rows.old) × ((row ≡ get_or (rows_of rows.old) worker.0 idle) × ReadAndCursor row stepped) }
     ensures { (result ≡ answer_of stepped) × (rows_of rows.new ≡ rows_after (rows_of rows.old) worker.0 stepped) }
 {
-    match stepped {
-        Stepped::Refused(number, detail) => StepAnswer::Refused(number, detail),
-        Stepped::Taken(outcome, after) => {
-            if after.read == row.read {
-                rows::set_cursor(rows, worker, after.cursor);
-                return StepAnswer::Accepted(outcome);
-            }
-            rows::set_next(rows, worker, after.read, after.cursor);
-            StepAnswer::Accepted(outcome)
-        }
+    let (outcome, after) = stepped?;
+    if after.read == row.read {
+        rows::set_cursor(rows, worker, after.cursor);
+        return Ok(outcome);
     }
+    rows::set_next(rows, worker, after.read, after.cursor);
+    Ok(outcome)
 }

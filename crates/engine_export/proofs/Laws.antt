@@ -1,10 +1,9 @@
 -- A reply is what its answer says, beside the memory that the call leaves; the calls are made with the limits that their export stands for.
 use Prim.Native.Nat.{ℕ}
 use mathlib.Core.Path.{◌≡◌, ap}
-use Rattle.task.specs.declared.Answer.{Answer}
+use Rattle.task.specs.Refusals.{Answer, StepAnswer}
 use Rattle.task.specs.declared.Limits.{Limits}
 use Rattle.task.specs.declared.Step.{Step}
-use Rattle.task.specs.declared.StepAnswer.{StepAnswer}
 use Rattle.rules.specs.Memory.{Mem}
 use Rattle.rules.specs.Begin.{begin}
 use Rattle.rules.specs.Steps.{step}

@@ -14,7 +14,7 @@ ghost use Rattle.replies.specs.Replies.{reply_of, step_reply_of};
 ghost use Rattle.engine_export.specs.Replies.{replied};
 
 use replies::{Reply, StepReply};
-use task::{Limits, RowCell, StepAnswer, WorkerId};
+use task::{Limits, RowCell, WorkerId};
 
 #[unsafe(no_mangle)]
 pub extern "C" fn yolluvek_begin(
@@ -115,8 +115,8 @@ pub extern "C" fn yolluvek_fetch(
         k,
         WorkerId(worker),
     );
-    if let StepAnswer::Refused(number, detail) = answer {
-        return replies::refused(number, detail);
+    if let Err(why) = answer {
+        return replies::refused(why);
     }
     replies::step_reply_of(answer)
 }
@@ -170,8 +170,8 @@ pub extern "C" fn yolluvek_start(
         k,
         WorkerId(worker),
     );
-    if let StepAnswer::Refused(number, detail) = answer {
-        return replies::refused(number, detail);
+    if let Err(why) = answer {
+        return replies::refused(why);
     }
     replies::step_reply_of(answer)
 }
@@ -225,8 +225,8 @@ pub extern "C" fn yolluvek_complete(
         k,
         WorkerId(worker),
     );
-    if let StepAnswer::Refused(number, detail) = answer {
-        return replies::refused(number, detail);
+    if let Err(why) = answer {
+        return replies::refused(why);
     }
     replies::step_reply_of(answer)
 }
@@ -280,8 +280,8 @@ pub extern "C" fn yolluvek_release(
         k,
         WorkerId(worker),
     );
-    if let StepAnswer::Refused(number, detail) = answer {
-        return replies::refused(number, detail);
+    if let Err(why) = answer {
+        return replies::refused(why);
     }
     replies::step_reply_of(answer)
 }

@@ -6,6 +6,10 @@ use native.Mathlib.Omega.{arith}
 use native.Mathlib.Nat.{mod-lt}
 use borrow.Author.Tests.{lt-ltb, le-ltb}
 use lib.ListN.{length, get_or, set}
+use Rattle.std.specs.Prelude.{Some, None, Ok, Err}
+use Rattle.task.specs.Refusals.{Answer}
+use Rattle.task.specs.declared.refusal.Refusal.{Refusal}
+use Rattle.task.specs.declared.refusal.Refusal.TheVariants.{Damaged, NothingThere}
 use Rattle.lists.specs.Circles.{after}
 use Rattle.lists.proofs.Places.{place_end}
 use Rattle.task.specs.Types.{idle, engine}
@@ -14,7 +18,6 @@ use Rattle.task.specs.declared.Ends.{Ends}
 use Rattle.task.specs.declared.Limits.{Limits}
 use Rattle.task.specs.declared.Row.{Row}
 use Rattle.task.specs.declared.Step.TheVariants.{Fetch}
-use Rattle.task.specs.declared.StepAnswer.TheVariants as answer
 use Rattle.task.specs.declared.StepOutcome.TheVariants.{Fetched}
 use Rattle.task.specs.declared.TaskId.{TaskId}
 use Rattle.task.specs.declared.WorkerId.{WorkerId}
@@ -29,21 +32,14 @@ use Rattle.rules.specs.Updates.{Update, put_ends, put_hand, put_pointer}
 use Rattle.rules.specs.Plans.{accept, with_count, counted, result_of, carried_out}
 use Rattle.rules.specs.Steps.{scan, fetch_task, fetch_from, fetch_rule, rule_of}
 use Rattle.plans.proofs.Searches.{Looked, search-looked}
-use Rattle.searches.specs.Searches.{found_of, Reads}
-use Rattle.searches.specs.declared.Found.{Found}
-use Rattle.searches.specs.declared.Found.TheVariants as found
-use Rattle.admission.specs.Admission.{Measured, Knows, entered, Admits, Enters}
-use Rattle.admission.specs.declared.Admitted.{Admitted}
-use Rattle.admission.specs.declared.Admitted.TheVariants as admitted
+use Rattle.searches.specs.Searches.{Found, found_of, Reads}
+use Rattle.task.specs.declared.refusal.Damaged as word
+use Rattle.admission.specs.Admission.{Measured, Knows, entered, Admits, Enters, Admitted, Stepped}
 use Rattle.admission.specs.declared.Sizes.{Sizes}
-use Rattle.admission.specs.declared.Judged.{Judged}
-use Rattle.admission.specs.declared.Stepped.{Stepped}
-use Rattle.admission.specs.declared.Stepped.TheVariants as stepped
 use Rattle.admission.proofs.Rows.{admission-measured, admission-refused, admission-entered, admission-enters, few-steps, refused-result, rule-refused, rule-accepted}
 use Rattle.fetch.specs.Fetch.{lent, Extent, FetchesFound, FetchesAdmitted, Fetches, HandAndPointer}
-use Rattle.fetch.specs.Plan.{Readable, Sized, Head, scan_of, Fetchable, PlansTask, Reachable, Scanned, Finds, PlansFound, Takes, PlansFetch, Takeable, fetched_row}
-use Rattle.fetch.specs.declared.FetchPlan.{FetchPlan}
-use Rattle.fetch.specs.declared.FetchPlan.TheVariants.{Refused, Take}
+use Rattle.fetch.specs.Plan.{FetchPlan, Readable, Sized, scan_of, Fetchable, PlansTask, Reachable, Scanned, Finds, PlansFound, Takes, PlansFetch, Takeable, fetched_row, taken_by}
+use Rattle.fetch.specs.declared.Head.{Head}
 
 -- a memory before the step
 abbrev old : List ℕ → List ℕ → List ℕ → Mem → Mem
@@ -51,23 +47,23 @@ old rings ends run m = lent m rings ends run m.rows
 
 -- Task t, of the ring filled by j, with these ends.
 module _ (n steps : ℕ) (run : List ℕ) (j : ℕ) (both : Ends) (t : ℕ) where
-  pub task-unknown : n ≤ t → PlansTask n steps run j both t (Refused 8 0)
+  pub task-unknown : n ≤ t → PlansTask n steps run j both t (Err Damaged)
   unfolding PlansTask fetch_task
   task-unknown a p k i rings ends m e = rw (e.0, le-ltb t n a)
 
   module _ (a : t < n) where
-    pub task-counted : steps ≤ get_or run 1 0 → PlansTask n steps run j both t (Refused 8 0)
+    pub task-counted : steps ≤ get_or run 1 0 → PlansTask n steps run j both t (Err Damaged)
     unfolding PlansTask fetch_task counted all_steps
     task-counted b p k i rings ends m e = rw (e.1, e.0, lt-ltb t n a, le-ltb (get_or run 1 0) steps b)
 
     pub task-fetchable : get_or run 1 0 < steps → (filler : WorkerId) (task : TaskId) → filler.0 ≡ j → task.0 ≡ t
-        → PlansTask n steps run j both t (Take filler both.head both.tail both.count task (get_or run 1 0))
+        → PlansTask n steps run j both t (Ok (record { filler = filler; ends = both; task = task; accepted = get_or run 1 0 }))
     unfolding PlansTask
     task-fetchable b filler task e f = (e, (refl, (f, record { known = rw f a; counts = refl; accepted = b })))
 
 -- Where the scan stops.
 module _ (p k i pointer : ℕ) (ends : List ℕ) (x : Found) (hx : found_of x ≡ scan_of p k i pointer ends)
-    (reads : Reads (λ j. ends_at ends (ring_number p i j)) x) (j : WorkerId) (both : Ends) (v : x ≡ found.At j both) where
+    (reads : Reads (λ j. ends_at ends (ring_number p i j)) x) (j : WorkerId) (both : Ends) (v : x ≡ Ok (Some (j, both))) where
   found_at : scan_of p k i pointer ends ≡ rules.at j.0
   found_at = sym hx ∙ ap found_of v
 
@@ -92,15 +88,15 @@ goes_on p k i pointer rings ends run h f hf m q = rw (hf, q, lt-ltb pointer p h)
 
 -- What comes after a scan.
 module _ (p k i n steps : ℕ) (rings run : List ℕ) (x : Found) where
-  pub found-unsound : x ≡ found.Unsound → PlansFound p k i n steps rings run x (Refused 8 0)
+  pub found-unsound : (d : word.Damaged) → x ≡ Err d → PlansFound p k i n steps rings run x (Err Damaged)
   unfolding PlansFound fetch_from
-  found-unsound v ends m e reads = rw v refl
+  found-unsound d v ends m e reads = rw v refl
 
-  pub found_none : x ≡ found.None → PlansFound p k i n steps rings run x (Refused 10 0)
+  pub found_none : x ≡ Ok None → PlansFound p k i n steps rings run x (Err NothingThere)
   unfolding PlansFound fetch_from
   found_none v ends m e reads = rw v refl
 
-  module _ (j : WorkerId) (both : Ends) (v : x ≡ found.At j both) where
+  module _ (j : WorkerId) (both : Ends) (v : x ≡ Ok (Some (j, both))) where
     pub found_inside : Reachable p k x → (j.0 < p) × Sound k both
     found_inside told = rw v at told
 
@@ -111,18 +107,18 @@ module _ (p k i n steps : ℕ) (rings run : List ℕ) (x : Found) where
 
       pub found-takes : (r : FetchPlan) → PlansTask n steps run j.0 both t r → PlansFound p k i n steps rings run x r
       unfolding PlansTask PlansFound fetch_from
-      found-takes (Refused number detail) plans =
+      found-takes (Err why) plans =
           λ ends m e reads. rw v (rw (← subst (Reads (λ j. ends_at ends (ring_number p i j))) v reads, ← task-at) (plans p k i rings ends m e))
-      found-takes (Take filler head tail count task accepted) (a, (b, (c, f))) =
+      found-takes (Ok head) (a, (b, (c, f))) =
           record {
-            is = v ∙ ap (λ (z : ℕ). found.At (record { 0 = z }) both) (sym a) ∙ ap (found.At filler) (sym b);
+            is = v ∙ ap (λ (z : ℕ). Ok (Some (record { 0 = z }, both))) (sym a) ∙ ap (λ (z : Ends). Ok (Some (head.filler, z))) (sym b);
             first = rw (a, ap (λ (z : Ends). z.head) b, c) task-at;
             task = f;
           }
 
 -- The whole rule, with the pointer of worker i.
 module _ (p k i n steps pointer : ℕ) (rings ends run : List ℕ) where
-  pub pointer-damaged : p ≤ pointer → PlansFetch p k i n steps pointer rings ends run (Refused 8 0)
+  pub pointer-damaged : p ≤ pointer → PlansFetch p k i n steps pointer rings ends run (Err Damaged)
   unfolding PlansFetch fetch_rule
   pointer-damaged h m e q = rw (q, le-ltb pointer p h)
 
@@ -136,20 +132,20 @@ module _ (p k i n steps pointer : ℕ) (rings ends run : List ℕ) where
       scan-reachable = go x refl
         where
           go : (y : Found) → x ≡ y → Reachable p k y
-          go found.Unsound v = tt
-          go found.None v = tt
-          go (found.At j both) v = let stops = scan-stops p k i pointer ends x hx reads j both v h in (stops.0, stops.1.0)
+          go (Err d) v = tt
+          go (Ok None) v = tt
+          go (Ok (Some (j, both))) v = let stops = scan-stops p k i pointer ends x hx reads j both v h in (stops.0, stops.1.0)
 
       pub scan-plans : (r : FetchPlan) → PlansFound p k i n steps rings run x r → PlansFetch p k i n steps pointer rings ends run r
       unfolding PlansFound PlansFetch
-      scan-plans (Refused number detail) plans = λ m e w. follows x refl m w ∙ plans ends m e reads
-      scan-plans (Take filler head tail count task accepted) f =
-          let stops = scan-stops p k i pointer ends x hx reads filler (record { head = head; tail = tail; count = count }) f.is h in
+      scan-plans (Err why) plans = λ m e w. follows x refl m w ∙ plans ends m e reads
+      scan-plans (Ok head) f =
+          let stops = scan-stops p k i pointer ends x hx reads head.filler head.ends f.is h in
           record {
             points = h;
-            found = found_at p k i pointer ends x hx reads filler (record { head = head; tail = tail; count = count }) f.is;
+            found = found_at p k i pointer ends x hx reads head.filler head.ends f.is;
             filler = stops.0;
-            reads = ends_found p k i pointer ends x hx reads filler (record { head = head; tail = tail; count = count }) f.is;
+            reads = ends_found p k i pointer ends x hx reads head.filler head.ends f.is;
             sound = stops.1.0;
             waits = stops.1.1;
             first = f.first;
@@ -173,7 +169,7 @@ ends-ready p k i ends run j both accepted s q h =
     (omega (arith, s.ready.all_ends, h.1), (rw h.0 s.reads, (s.sound, (s.ready.few_slots, s.waits))))
 
 pub row-taken : (p j : ℕ) (task : TaskId) (row : Row) (next : WorkerId) → next.0 ≡ after p j
-    → stepped.Taken (Fetched task) (with_pointer next.0 (with_hand row.phase task row)) ≡ stepped.Taken (Fetched task) (fetched_row p j task row)
+    → ◌≡◌ {A = Stepped} (Ok (Fetched task, with_pointer next.0 (with_hand row.phase task row))) (Ok (Fetched task, fetched_row p j task row))
 row-taken p j task row next e = rw e refl
 
 -- what is stored as the ends of ring q are those of the ring filled by j
@@ -221,11 +217,8 @@ module _ (p k i : ℕ) where
       refl
 
 -- A plan that takes.
-abbrev take_of : Head → FetchPlan
-take_of head = Take head.filler head.ends.head head.ends.tail head.ends.count head.task head.accepted
-
 module _ (p k i n steps pointer : ℕ) (rings ends run : List ℕ) (x : FetchPlan)
-    (hx : PlansFetch p k i n steps pointer rings ends run x) (head : Head) (v : x ≡ take_of head) where
+    (hx : PlansFetch p k i n steps pointer rings ends run x) (head : Head) (v : x ≡ Ok head) where
   takes_of : Takes p k i n steps pointer rings ends run head
   unfolding PlansFetch
   takes_of = subst (PlansFetch p k i n steps pointer rings ends run) v hx
@@ -252,14 +245,14 @@ module _ (p k i n steps : ℕ) (row : Row) (rings ends run : List ℕ) (x : Fetc
   points-at : (limits : Limits) (m : Mem) → Enters limits p k i Fetch (before m) row → pointer_in m i ≡ row.pointer.0
   points-at limits m enters = sym (ap (λ (r : Row). r.pointer.0) enters.leads)
 
-  pub fetch-refused : (number detail : ℕ) → x ≡ Refused number detail
-      → FetchesAdmitted n steps p k i row rings ends ends run run (stepped.Refused number detail)
+  pub fetch-refused : (why : Refusal) → x ≡ Err why
+      → FetchesAdmitted n steps p k i row rings ends ends run run (Err why)
   unfolding FetchesAdmitted PlansFetch rule_of
-  fetch-refused number detail v limits m e enters =
-      rule-refused limits p k i Fetch (before m) row enters number detail
+  fetch-refused why v limits m e enters =
+      rule-refused limits p k i Fetch (before m) row enters why
       (subst (PlansFetch p k i n steps row.pointer.0 rings ends run) v hx m e (points-at limits m enters))
 
-  module _ (head : Head) (v : x ≡ take_of head) where
+  module _ (head : Head) (v : x ≡ Ok head) where
     takes : Takes p k i n steps row.pointer.0 rings ends run head
     takes = takes_of p k i n steps row.pointer.0 rings ends run x hx head v
 
@@ -271,12 +264,12 @@ module _ (p k i n steps : ℕ) (row : Row) (rings ends run : List ℕ) (x : Fetc
 
     pub fetch-taken : (new-ends new-run : List ℕ) (r : Stepped)
         → (new-ends ≡ store_ends ends (ring_number p i head.filler.0) (head_on k head.ends)) × (new-run ≡ set run 1 (head.accepted + 1))
-        → r ≡ stepped.Taken (Fetched head.task) (fetched_row p head.filler.0 head.task row)
+        → r ≡ taken_by p head row
         → FetchesAdmitted n steps p k i row rings ends new-ends run new-run r × HandAndPointer row r
     unfolding FetchesAdmitted rule_of
     fetch-taken new-ends new-run r (a, b) f = (
       λ limits m e enters. rw (f, a, b)
-          (ap (result_of (answer.Accepted (Fetched head.task)))
+          (ap (result_of (Ok (Fetched head.task)))
           (head-taken p k i rings ends run head takes.reads takes.task.counts row m enters.leads)
           ∙ rule-accepted limits p k i Fetch (before m) row enters (Fetched head.task) (updates p k i head rings ends run m)
           (planned m e (points-at limits m enters))),
@@ -289,27 +282,27 @@ module _ (p k i n steps : ℕ) (row : Row) (rings ends run : List ℕ) (x : Foun
   scanned-reachable = go x scanned
     where
       go : (y : Found) → Scanned p k i ends y → Reachable p k y
-      go found.Unsound s = tt
-      go found.None s = tt
-      go (found.At j both) (h, (e, (f, w))) = (h, f)
+      go (Err d) s = tt
+      go (Ok None) s = tt
+      go (Ok (Some (j, both))) (h, (e, (f, w))) = (h, f)
 
   module _ (z : FetchPlan) (hz : PlansFound p k i n steps rings run x z) where
-    pub found-refused : (number detail : ℕ) → z ≡ Refused number detail
-        → FetchesFound n steps p k i row rings ends ends run run x (stepped.Refused number detail)
+    pub found-refused : (why : Refusal) → z ≡ Err why
+        → FetchesFound n steps p k i row rings ends ends run run x (Err why)
     unfolding FetchesFound PlansFound carried_out
-    found-refused number detail v m e l = rw (subst (PlansFound p k i n steps rings run x) v hz ends m e (reads x scanned)) refl
+    found-refused why v m e l = rw (subst (PlansFound p k i n steps rings run x) v hz ends m e (reads x scanned)) refl
       where
         reads : (y : Found) → Scanned p k i ends y → Reads (λ j. ends_at ends (ring_number p i j)) y
-        reads found.Unsound s = tt
-        reads found.None s = tt
-        reads (found.At j both) (h, (q, (f, w))) = q
+        reads (Err d) s = tt
+        reads (Ok None) s = tt
+        reads (Ok (Some (j, both))) (h, (q, (f, w))) = q
 
-    module _ (head : Head) (v : z ≡ take_of head) where
+    module _ (head : Head) (v : z ≡ Ok head) where
       finds : Finds p k i n steps rings run x head
       unfolding PlansFound
       finds = subst (PlansFound p k i n steps rings run x) v hz
 
-      there : Scanned p k i ends (found.At head.filler head.ends)
+      there : Scanned p k i ends (Ok (Some (head.filler, head.ends)))
       there = subst (Scanned p k i ends) finds.is scanned
 
       pub found-ready : Sized p k i rings ends run → steps ≤ 65535 → Takeable p k i ends run head.filler.0 head.ends head.accepted
@@ -325,19 +318,19 @@ module _ (p k i n steps : ℕ) (row : Row) (rings ends run : List ℕ) (x : Foun
 
       pub found-taken : (new-ends new-run : List ℕ) (r : Stepped)
           → (new-ends ≡ store_ends ends (ring_number p i head.filler.0) (head_on k head.ends)) × (new-run ≡ set run 1 (head.accepted + 1))
-          → r ≡ stepped.Taken (Fetched head.task) (fetched_row p head.filler.0 head.task row)
+          → r ≡ taken_by p head row
           → FetchesFound n steps p k i row rings ends new-ends run new-run x r × HandAndPointer row r
       unfolding FetchesFound carried_out
       found-taken new-ends new-run r (a, b) f = (
         λ m e l. rw (f, a, b, finds.is, head-planned p k i n steps rings ends run head there.1.0 finds.first finds.task m e)
-            (ap (result_of (answer.Accepted (Fetched head.task)))
+            (ap (result_of (Ok (Fetched head.task)))
             (head-taken p k i rings ends run head there.1.0 finds.task.counts row m l)),
         rw f refl,
       )
 
 -- What is known of the numbers and of the lengths, once the step is admitted.
-module _ (p k i : ℕ) (sizes : Sizes) (judged : Judged) (known : Knows p k i sizes judged) (row : Row) (x : Admitted)
-    (told : Admits row Fetch judged x) (row' : Row) (v : x ≡ admitted.To row') where
+module _ (p k i : ℕ) (sizes : Sizes) (judged : Answer) (known : Knows p k i sizes judged) (row : Row) (x : Admitted)
+    (told : Admits row Fetch judged x) (row' : Row) (v : x ≡ Ok row') where
   measured : Measured p k i sizes
   measured = admission-measured p k i sizes row Fetch judged known x told row' v
 
@@ -361,19 +354,19 @@ module _ (p k i : ℕ) (sizes : Sizes) (judged : Judged) (known : Knows p k i si
   )
 
 -- What the admission has told.
-module _ (p k i : ℕ) (sizes : Sizes) (judged : Judged) (row : Row) (rings ends run : List ℕ) (x : Admitted) (told : Admits row Fetch judged x) where
-  pub row-refused : (number detail : ℕ) → x ≡ admitted.Refused number detail
-      → Fetches p k i sizes judged row rings ends ends run run (stepped.Refused number detail)
+module _ (p k i : ℕ) (sizes : Sizes) (judged : Answer) (row : Row) (rings ends run : List ℕ) (x : Admitted) (told : Admits row Fetch judged x) where
+  pub row-refused : (why : Refusal) → x ≡ Err why
+      → Fetches p k i sizes judged row rings ends ends run run (Err why)
   unfolding Fetches
-  row-refused number detail v limits m judges e h =
-      refused-result limits p k i Fetch (old rings ends run m) number detail
-      (admission-refused p k i sizes row Fetch limits (old rings ends run m) e h judged judges x told number detail v)
+  row-refused why v limits m judges e h =
+      refused-result limits p k i Fetch (old rings ends run m) why
+      (admission-refused p k i sizes row Fetch limits (old rings ends run m) e h judged judges x told why v)
 
-  module _ (row' : Row) (v : x ≡ admitted.To row') where
+  module _ (row' : Row) (v : x ≡ Ok row') where
     -- what the rule keeps of the row in its new phase, it keeps of the worker's row
     kept : (r : Stepped) → HandAndPointer row' r → HandAndPointer row r
-    kept (stepped.Refused number detail) h = h
-    kept (stepped.Taken o after) h = h ∙ rw (admission-entered row Fetch judged x told row' v).1 refl
+    kept (Err why) h = h
+    kept (Ok (o, after)) h = h ∙ rw (admission-entered row Fetch judged x told row' v).1 refl
 
     pub row-fetches : (new-ends new-run : List ℕ) (r : Stepped)
         → FetchesAdmitted sizes.weights (3 * sizes.weights + sizes.preds) p k i row' rings ends new-ends run new-run r × HandAndPointer row' r

@@ -2,25 +2,27 @@
 #![tactic(auto)]
 
 ghost use Rattle.std.specs.Prelude.{◌≡◌, ◌+◌, ◌≤◌, length, set};
-ghost use Rattle.task.specs.declared.StepOutcome.{StepOutcome};
 ghost use Rattle.ring.specs.Ring.{store_ends, head_on};
 ghost use Rattle.rules.specs.Memory.{ring_number};
 ghost use Rattle.admission.specs.Admission.{Knows};
-ghost use Rattle.admission.specs.declared.Stepped.{Stepped};
 ghost use Rattle.fetch.specs.Fetch.{FetchesFound, FetchesAdmitted, Fetches, HandAndPointer};
-ghost use Rattle.fetch.specs.Plan.{Readable, Sized, Reachable, Scanned, PlansTask, PlansFound, PlansFetch, Takeable, fetched_row};
+ghost use Rattle.fetch.specs.Plan.{Readable, Sized, Reachable, Scanned, PlansTask, PlansFound, PlansFetch, Takeable, taken_by};
 
-use admission::{Admitted, Judged, Sizes, Stepped};
+use admission::{Sizes, Stepped};
 use searches::Found;
-use task::{Ends, Row, Step, StepOutcome, TaskId, WorkerId, refusal};
+use task::{Answer, Ends, Refusal, Row, Step, StepOutcome, TaskId, WorkerId};
 
-// What Fetch is to do: refused; or the head of the ring that this worker fills is taken, whose head, tail and count follow, with the task there
-// and the accepted word, each as read.
+// The head that is fetched: the filler of its ring, the ring's ends, the task there and the accepted word, each as read.
 #[derive(Clone, Copy)]
-pub enum FetchPlan {
-    Refused(u32, u32),
-    Take(WorkerId, u32, u32, u32, TaskId, u32),
+pub struct Head {
+    pub filler: WorkerId,
+    pub ends: Ends,
+    pub task: TaskId,
+    pub accepted: u32,
 }
+
+// What Fetch is to do: take the head of a ring; or it is refused.
+pub type FetchPlan = Result<Head, Refusal>;
 
 // What is read once the task is known: the accepted word.
 fn plan_task(
@@ -35,13 +37,18 @@ fn plan_task(
     ensures { PlansTask tasks steps run.now filler.0 ends task.0 result }
 {
     if tasks <= task.0 as usize {
-        return FetchPlan::Refused(refusal::DAMAGED, 0);
+        return Err(Refusal::Damaged);
     }
     let accepted = run[1];
     if steps <= accepted as usize {
-        return FetchPlan::Refused(refusal::DAMAGED, 0);
+        return Err(Refusal::Damaged);
     }
-    FetchPlan::Take(filler, ends.head, ends.tail, ends.count, task, accepted)
+    Ok(Head {
+        filler,
+        ends,
+        task,
+        accepted,
+    })
 }
 
 // What comes after a scan of the worker's rings: the head of the ring where it stopped.
@@ -58,14 +65,11 @@ pub fn plan_found(
     requires { Readable p k worker.0 rings.now run.now × Reachable p k found }
     ensures { PlansFound p k worker.0 tasks steps rings.now run.now found result }
 {
-    match found {
-        Found::Unsound => FetchPlan::Refused(refusal::DAMAGED, 0),
-        Found::None => FetchPlan::Refused(refusal::NOTHING_THERE, 0),
-        Found::At(filler, both) => {
-            let task = ring::head_of(rings, k, searches::ring_number(p, worker, filler), both);
-            plan_task(run, tasks, steps, filler, both, task)
-        }
-    }
+    let Some((filler, both)) = found? else {
+        return Err(Refusal::NothingThere);
+    };
+    let task = ring::head_of(rings, k, searches::ring_number(p, worker, filler), both);
+    plan_task(run, tasks, steps, filler, both, task)
 }
 
 // The pointer, the scan from there, and what comes after it.
@@ -84,29 +88,21 @@ pub fn plan_fetch(
     ensures { PlansFetch p k worker.0 tasks steps pointer.0 rings.now ends.now run.now result }
 {
     if p <= pointer.0 as usize {
-        return FetchPlan::Refused(refusal::DAMAGED, 0);
+        return Err(Refusal::Damaged);
     }
     let found = searches::find_task(ends, p, k, worker, pointer);
     plan_found(rings, run, p, k, worker, tasks, steps, found)
 }
 
-// The head of the filler's ring, whose ends are `both`, is taken, one step more is accepted.
-fn take_head(
-    ends: &mut [u32],
-    run: &mut [u32],
-    p: usize,
-    k: usize,
-    worker: WorkerId,
-    filler: WorkerId,
-    both: Ends,
-    accepted: u32,
-)
-    requires { Takeable p k worker.0 ends.old run.old filler.0 both accepted }
-    ensures ends_after { ends.new ≡ store_ends ends.old (ring_number p worker.0 filler.0) (head_on k both) }
-    ensures run_after { run.new ≡ set run.old 1 (accepted + 1) }
+// The head is taken from its ring, one step more is accepted.
+fn take_head(ends: &mut [u32], run: &mut [u32], p: usize, k: usize, worker: WorkerId, head: Head)
+    requires { Takeable p k worker.0 ends.old run.old head.filler.0 head.ends head.accepted }
+    ensures ends_after { ends.new ≡ store_ends ends.old (ring_number p worker.0 head.filler.0) (head_on k head.ends) }
+    ensures run_after { run.new ≡ set run.old 1 (head.accepted + 1) }
 {
-    ring::take_at(ends, k, searches::ring_number(p, worker, filler), both);
-    run[1] = accepted + 1;
+    let ring = searches::ring_number(p, worker, head.filler);
+    ring::take_at(ends, k, ring, head.ends);
+    run[1] = head.accepted + 1;
 }
 
 // The writes: the task leaves the filler's ring and is held; the pointer goes to the ring after.
@@ -116,30 +112,25 @@ pub fn write_fetch(
     p: usize,
     k: usize,
     worker: WorkerId,
-    filler: WorkerId,
-    both: Ends,
-    task: TaskId,
-    accepted: u32,
+    head: Head,
     row: Row,
 ) -> Stepped
-    requires { Takeable p k worker.0 ends.old run.old filler.0 both accepted }
-    ensures ends_after { (ends.new ≡ store_ends ends.old (ring_number p worker.0 filler.0) (head_on k both))
-        × (run.new ≡ set run.old 1 (accepted + 1)) }
-    ensures value { result ≡ Stepped.Taken (StepOutcome.Fetched task) (fetched_row p filler.0 task row) }
+    requires { Takeable p k worker.0 ends.old run.old head.filler.0 head.ends head.accepted }
+    ensures ends_after { (ends.new ≡ store_ends ends.old (ring_number p worker.0 head.filler.0) (head_on k head.ends))
+        × (run.new ≡ set run.old 1 (head.accepted + 1)) }
+    ensures value { result ≡ taken_by p head row }
 {
-    take_head(ends, run, p, k, worker, filler, both, accepted);
-    let pointer = searches::after_worker(p, filler);
-    Stepped::Taken(
-        StepOutcome::Fetched(task),
+    take_head(ends, run, p, k, worker, head);
+    let pointer = searches::after_worker(p, head.filler);
+    let held = head.task;
+    Ok((
+        StepOutcome::Fetched(held),
         Row {
-            phase: row.phase,
-            held: task,
+            held,
             pointer,
-            read: row.read,
-            write: row.write,
-            cursor: row.cursor,
+            ..row
         },
-    )
+    ))
 }
 
 // Fetch from the end of a scan on, for a worker whose row is in the phase that Fetch leads to.
@@ -160,14 +151,8 @@ pub fn fetch_found(
         run.old run.new found result }
     ensures hand_and_pointer { HandAndPointer row result }
 {
-    let plan = plan_found(rings, run, p, k, worker, tasks, steps, found);
-    match plan {
-        FetchPlan::Refused(number, detail) => Stepped::Refused(number, detail),
-        FetchPlan::Take(filler, head, tail, count, task, accepted) => {
-            let both = Ends { head, tail, count };
-            write_fetch(ends, run, p, k, worker, filler, both, task, accepted, row)
-        }
-    }
+    let head = plan_found(rings, run, p, k, worker, tasks, steps, found)?;
+    write_fetch(ends, run, p, k, worker, head, row)
 }
 
 // Fetch's rule, for a worker that may fetch; its row is in the phase that Fetch leads to.
@@ -187,21 +172,14 @@ fn fetch_admitted(
         run.old run.new result }
     ensures hand_and_pointer { HandAndPointer row result }
 {
-    let pointer = row.pointer;
-    let plan = plan_fetch(rings, ends, run, p, k, worker, tasks, steps, pointer);
-    match plan {
-        FetchPlan::Refused(number, detail) => Stepped::Refused(number, detail),
-        FetchPlan::Take(filler, head, tail, count, task, accepted) => {
-            let both = Ends { head, tail, count };
-            write_fetch(ends, run, p, k, worker, filler, both, task, accepted, row)
-        }
-    }
+    let head = plan_fetch(rings, ends, run, p, k, worker, tasks, steps, row.pointer)?;
+    write_fetch(ends, run, p, k, worker, head, row)
 }
 
 // Fetch by a worker with this row, after what was judged; `sizes` are the lengths of all lent lists.
 pub fn fetch_row(
     sizes: Sizes,
-    judged: Judged,
+    judged: Answer,
     p: usize,
     k: usize,
     worker: WorkerId,
@@ -216,13 +194,8 @@ pub fn fetch_row(
         run.old run.new result }
     ensures hand_and_pointer { HandAndPointer row result }
 {
-    let admitted = admission::admit(judged, row, Step::Fetch);
-    match admitted {
-        Admitted::Refused(number, detail) => Stepped::Refused(number, detail),
-        Admitted::To(after) => {
-            let tasks = sizes.weights;
-            let steps = 3 * tasks + sizes.preds;
-            fetch_admitted(tasks, steps, p, k, worker, after, rings, ends, run)
-        }
-    }
+    let after = admission::admit(judged, row, Step::Fetch)?;
+    let tasks = sizes.weights;
+    let steps = 3 * tasks + sizes.preds;
+    fetch_admitted(tasks, steps, p, k, worker, after, rings, ends, run)
 }

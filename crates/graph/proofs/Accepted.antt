@@ -7,17 +7,16 @@ use native.Mathlib.Decide.{ℕ_discrete, dec_le, dec_lt}
 use mathlib.Core.Bool.{true}
 use mathlib.Core.List.{List}
 use lib.ListN.{length, get_or}
+use Rattle.std.specs.Prelude.{Err, Ok}
 use Rattle.lists.specs.Decided.{tally, first_below, Smallest}
 use Rattle.lists.specs.Lists.{occ}
 use Rattle.lists.specs.Sums.{sum_to}
 use Rattle.lists.proofs.Decided.{stable, first-smallest, first-least, tally-le, tally-no, tally-yes}
 use Rattle.lists.proofs.Sums.{sum_lt}
-use Rattle.task.specs.Refusals.{answer_says, refused, accepted, cycle}
+use Rattle.task.specs.Refusals.{answer_says, refused, accepted, cycle, Answer}
 use Rattle.task.specs.Types.{capped}
 use Rattle.task.specs.declared.Limits.{Limits}
 use Rattle.task.specs.Rows.{Acceptance, Given, Clear}
-use Rattle.task.specs.declared.Answer.{Answer}
-use Rattle.task.specs.declared.Answer.TheVariants.{Refused, Accepted}
 use Rattle.graph.specs.Graph.{Graph, graph_of, edge_count, preds_of, Edge, edge}
 use Rattle.graph.specs.Conditions.{Twice, OnCycle, Acceptable, Sound, GraphFits}
 use Rattle.graph.specs.Decide.{bad?, good?, twice?, on_cycle?, leads?, leads-append}
@@ -35,8 +34,8 @@ none-smallest n {P} d f t h = go (dec_lt (first_below n d) n)
     go (no m) = first-least n d t (omega arith)
 
 pub said-accepted : (a : Answer) → (answer_says a ≡ accepted) ↔ Acceptance (answer_says a)
-said-accepted Accepted = (λ e. tt, λ u. refl)
-said-accepted (Refused n d) = (λ e. absurd (let z : ◌≡◌ {A = ℕ} 0 1 = cc in omega arith), λ h. absurd h)
+said-accepted (Ok v) = (λ e. tt, λ u. refl)
+said-accepted (Err why) = (λ e. absurd (let z : ◌≡◌ {A = ℕ} 0 1 = cc in omega arith), λ h. absurd h)
 
 module _ (g : Graph) where
   clear-acceptable : Clear (table_rows g) → Acceptable g

@@ -4,11 +4,10 @@ use mathlib.Core.Path.{◌≡◌, refl, ap, ◌∙◌}
 use mathlib.Core.Logic.{◌⊎◌, inl, inr}
 use mathlib.Core.List.{List}
 use lib.ListN.{length}
+use Rattle.std.specs.Prelude.{Err, Ok}
 use Rattle.lists.specs.Decided.{Smallest}
 use Rattle.lists.proofs.Decided.{smallest-unique}
-use Rattle.task.specs.Refusals.{cycle, refused, accepted, answer_says}
-use Rattle.task.specs.declared.Answer.{Answer}
-use Rattle.task.specs.declared.Answer.TheVariants.{Refused, Accepted}
+use Rattle.task.specs.Refusals.{cycle, refused, accepted, answer_says, Answer, refusal_detail}
 use Rattle.graph.specs.Graph.{Graph}
 use Rattle.graph.specs.Conditions.{OnCycle}
 use Rattle.graph.specs.Check.{tables_answer}
@@ -20,8 +19,8 @@ abbrev Either5 : Answer → Type 0
 Either5 a = (answer_says a ≡ accepted) ⊎ ((d : ℕ) × (answer_says a ≡ refused cycle d))
 
 either5 : (a : Answer) → Judges5 a → Either5 a
-either5 Accepted j = inl refl
-either5 (Refused n d) j = inr (d, ap (λ (k : ℕ). refused k d) j)
+either5 (Ok u) j = inl refl
+either5 (Err why) j = inr (refusal_detail why, ap (λ (k : ℕ). refused k (refusal_detail why)) j)
 
 module _ {g : Graph} {order : List ℕ} (s : Strips g order) (w : Whole g order) where
   pub judged-by : Judges5 (tables_answer g) → JudgedBy g order

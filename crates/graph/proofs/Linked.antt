@@ -5,10 +5,9 @@ use mathlib.Core.Path.{◌≡◌, refl}
 use mathlib.Core.List.{List}
 use native.Mathlib.Omega.{arith}
 use lib.ListN.{length}
-use Rattle.task.specs.Refusals.{answer_says, refused, accepted}
+use Rattle.std.specs.Prelude.{Err, Ok}
+use Rattle.task.specs.Refusals.{answer_says, refused, accepted, Answer}
 use Rattle.task.specs.Rows.{Follows}
-use Rattle.task.specs.declared.Answer.{Answer}
-use Rattle.task.specs.declared.Answer.TheVariants.{Refused, Accepted}
 use Rattle.task.specs.declared.Limits.{Limits}
 use Rattle.task.specs.declared.Side.{Side}
 use Rattle.graph.specs.Graph.{Graph, graph_of}
@@ -22,18 +21,18 @@ use Rattle.graph.proofs.Reversed.{table-lookup}
 -- the two ways to leave the lists
 module _ (g : Graph) (s w d : List ℕ) where
   fill-answer : (a : Answer) → (fill_if a g s w d).answer ≡ a
-  fill-answer Accepted = refl
-  fill-answer (Refused n x) = refl
+  fill-answer (Ok u) = refl
+  fill-answer (Err why) = refl
 
   fill-kept : (a : Answer) (n x : ℕ) → answer_says (fill_if a g s w d).answer ≡ refused n x
       → ((fill_if a g s w d).starts ≡ s) × (((fill_if a g s w d).succs ≡ w) × ((fill_if a g s w d).degrees ≡ d))
-  fill-kept Accepted n x e = absurd (let z : ◌≡◌ {A = ℕ} 0 1 = cc in omega arith)
-  fill-kept (Refused k y) n x e = (refl, (refl, refl))
+  fill-kept (Ok u) n x e = absurd (let z : ◌≡◌ {A = ℕ} 0 1 = cc in omega arith)
+  fill-kept (Err why) n x e = (refl, (refl, refl))
 
   fill_done : (a : Answer) → answer_says (fill_if a g s w d).answer ≡ accepted
       → ((fill_if a g s w d).starts ≡ succ_starts_of g) × (((fill_if a g s w d).succs ≡ succ_words g) × ((fill_if a g s w d).degrees ≡ degree_list g))
-  fill_done Accepted e = (refl, (refl, refl))
-  fill_done (Refused k y) e = absurd (let z : ◌≡◌ {A = ℕ} 0 1 = cc in omega arith)
+  fill_done (Ok u) e = (refl, (refl, refl))
+  fill_done (Err why) e = absurd (let z : ◌≡◌ {A = ℕ} 0 1 = cc in omega arith)
 
 module _ (limits : Limits) (weights starts preds s w d : List ℕ) where
   -- what the filling call leaves

@@ -7,12 +7,11 @@ use mathlib.Core.List.{[]}
 use native.Mathlib.Omega.{arith}
 use native.Mathlib.Decide.{ℕ_discrete, dec_le, dec_lt}
 use lib.ListN.{length}
+use Rattle.std.specs.Prelude.{Err, Ok}
 use Rattle.task.specs.Types.{capped, engine}
-use Rattle.task.specs.Refusals.{answer_says, accepted, number_of, detail_of}
+use Rattle.task.specs.Refusals.{answer_says, accepted, number_of, detail_of, Answer}
 use Rattle.task.specs.Rows.{Clear}
 use Rattle.task.proofs.Said.{zero-accepts}
-use Rattle.task.specs.declared.Answer.{Answer}
-use Rattle.task.specs.declared.Answer.TheVariants.{Refused, Accepted}
 use Rattle.task.specs.declared.Side.{Side}
 use Rattle.graph.specs.Graph.{part}
 use Rattle.graph.specs.Conditions.{Good}
@@ -59,12 +58,12 @@ module _ (side : Side) (l : Lent) (t : ℕ) where
     λ a. (said-accepted (judge_answer side l t)).1 ((judge-follows side l t).accepts.1 (fits-clear a)),
   )
 
-  judged-fits : LookupFits side l t → judge_answer side l t ≡ Accepted
+  judged-fits : LookupFits side l t → judge_answer side l t ≡ Ok tt
   judged-fits a = go (judge_answer side l t) (judge-accepts.1 a)
     where
-      go : (r : Answer) → answer_says r ≡ accepted → r ≡ Accepted
-      go Accepted e = refl
-      go (Refused n d) e = absurd (let z : ◌≡◌ {A = ℕ} 0 1 = cc in omega arith)
+      go : (r : Answer) → answer_says r ≡ accepted → r ≡ Ok tt
+      go (Ok u) e = refl
+      go (Err why) e = absurd (let z : ◌≡◌ {A = ℕ} 0 1 = cc in omega arith)
 
   -- "which answers 0 and 0 exactly if the lookup is accepted"
   pub judge-zero : ((number_of (answer_says (judge_answer side l t)) ≡ 0) × (detail_of (answer_says (judge_answer side l t)) ≡ 0)) ↔ LookupFits side l t
@@ -83,6 +82,6 @@ module _ (side : Side) (l : Lent) (t : ℕ) where
   unfolding neighbours_of
   lookup-empty n = go (judge_answer side l t) (λ e. n (judge-accepts.0 (rw e)))
     where
-      go : (a : Answer) → ¬ (a ≡ Accepted) → handed a (part (starts_on side l) (words_on side l) t) ≡ []
-      go Accepted m = absurd (m refl)
-      go (Refused k d) m = refl
+      go : (a : Answer) → ¬ (a ≡ (Ok tt)) → handed a (part (starts_on side l) (words_on side l) t) ≡ []
+      go (Ok u) m = absurd (m refl)
+      go (Err why) m = refl

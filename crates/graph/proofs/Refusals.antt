@@ -9,11 +9,12 @@ use native.Mathlib.Decide.{ℕ_discrete, dec_le, dec_lt}
 use lib.ListN.{length, get_or}
 use lib.Dec.{ltb, leb, eqb}
 use borrow.Author.Tests.{not-false}
+use Rattle.task.specs.declared.refusal.Refusal.TheVariants.{BadTable, BeyondLimit, Cycle, Duplicate, WrongLength}
 use Rattle.lists.specs.Decided.{holds, first_below}
 use Rattle.lists.proofs.Decided.{holds-yes, holds-no, first-smallest, first-least}
 use Rattle.lists.proofs.Told.{Told, told-true, told, le-told, lt-told, eq-told, dec-told, and-told, not-told, and-true}
 use Rattle.task.specs.Types.{capped, engine}
-use Rattle.task.specs.Refusals.{accepted, answer_says, wrong_length, beyond_limit, bad_table, duplicate, cycle}
+use Rattle.task.specs.Refusals.{accepted, answer_says, bad_table, duplicate, cycle}
 use Rattle.task.specs.Rows.{Follows}
 use Rattle.task.proofs.Rows.{follows-none, test-row, smallest-row}
 use Rattle.task.specs.declared.Limits.{Limits}
@@ -46,10 +47,10 @@ ends-told g = told (holds (ends_fit? g)) (λ e. fit (holds-yes (ends_fit? g) e))
 pub tables-follow : (g : Graph) → Follows (table_rows g) (answer_says (tables_answer g))
 unfolding tables_answer first_bad first_twice first_on_cycle
 tables-follow g =
-    smallest-row g.tasks (bad? g) (λ t. (t < g.tasks) × Bad g t) (λ t p. p) (λ t p. p) bad_table _ _ (λ _.
-    test-row (not (holds (ends_fit? g))) bad_table g.tasks _ _ (not-told (holds (ends_fit? g)) (ends-told g)) (λ _.
-    smallest-row g.tasks (twice? g) (λ t. (t < g.tasks) × Twice g t) (λ t p. p) (λ t p. p) duplicate _ _ (λ _.
-    smallest-row g.tasks (on_cycle? g) (OnCycle g) (λ t p. p.1) (λ t q. (leads-task g t t q, q)) cycle _ _ (λ _.
+    smallest-row g.tasks (bad? g) (λ t. (t < g.tasks) × Bad g t) (λ t p. p) (λ t p. p) BadTable bad_table (λ t. refl) _ _ (λ _.
+    test-row (not (holds (ends_fit? g))) (BadTable g.tasks) _ _ (not-told (holds (ends_fit? g)) (ends-told g)) (λ _.
+    smallest-row g.tasks (twice? g) (λ t. (t < g.tasks) × Twice g t) (λ t p. p) (λ t p. p) Duplicate duplicate (λ t. refl) _ _ (λ _.
+    smallest-row g.tasks (on_cycle? g) (OnCycle g) (λ t p. p.1) (λ t q. (leads-task g t t q, q)) Cycle cycle (λ t. refl) _ _ (λ _.
     (follows-none accepted tt)))))
 
 -- a number below n that lacks a property, where not all have it
@@ -79,8 +80,8 @@ pub check-follows : (limits : Limits) (within others : Bool) {Far Odd : Type 0} 
     → Follows (check_rows limits Far Odd weights starts preds) (answer_says (check_answer limits within others weights starts preds))
 unfolding check_answer
 check-follows limits within others f o weights starts preds =
-    test-row _ beyond_limit 0 _ _ (not-told _ (and-told (within && sizes_fit limits (length weights) (length preds)) (holds (light? weights)) (and-told within (sizes_fit limits (length weights) (length preds)) f (sizes-told limits (length weights) (length preds))) (weights-told weights))) (λ e.
-    test-row _ wrong_length 0 _ _ (not-told _ (and-told (eqb (length starts) (length weights + 1)) others (eq-told (length starts) (length weights + 1)) (o (passed e)))) (λ _.
+    test-row _ BeyondLimit _ _ (not-told _ (and-told (within && sizes_fit limits (length weights) (length preds)) (holds (light? weights)) (and-told within (sizes_fit limits (length weights) (length preds)) f (sizes-told limits (length weights) (length preds))) (weights-told weights))) (λ e.
+    test-row _ WrongLength _ _ (not-told _ (and-told (eqb (length starts) (length weights + 1)) others (eq-told (length starts) (length weights + 1)) (o (passed e)))) (λ _.
     tables-follow (graph_of (length weights) starts preds)))
   where
     -- where 2 was passed, the call's own numbers are within their limits
@@ -108,10 +109,10 @@ link-follows limits weights starts preds s w d =
 pub judge-follows : (side : Side) (l : Lent) (t : ℕ) → Follows (lookup_rows side l t) (answer_says (judge_answer side l t))
 unfolding judge_answer lengths_fit task_fits
 judge-follows side l t =
-    test-row _ beyond_limit 0 _ _ (not-told _ (sizes-told engine (length l.weights) (length l.preds))) (λ _.
-    test-row _ wrong_length 0 _ _
+    test-row _ BeyondLimit _ _ (not-told _ (sizes-told engine (length l.weights) (length l.preds))) (λ _.
+    test-row _ WrongLength _ _
     (not-told _ (and-told (eqb (length l.pred_starts) (length l.weights + 1)) _ (eq-told (length l.pred_starts) (length l.weights + 1))
     (and-told (eqb (length l.succ_starts) (length l.weights + 1)) (eqb (length l.succs) (length l.preds)) (eq-told (length l.succ_starts) (length l.weights + 1)) (eq-told (length l.succs) (length l.preds)))))
-    (λ _. test-row _ bad_table t _ _
+    (λ _. test-row _ (BadTable t) _ _
     (not-told _ (and-told (ltb t (length l.weights)) (holds (good? (length l.weights) (starts_on side l) (words_on side l) t)) (lt-told t (length l.weights)) (dec-told (good? (length l.weights) (starts_on side l) (words_on side l) t))))
     (λ _. follows-none accepted tt)))

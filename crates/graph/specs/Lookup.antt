@@ -1,11 +1,10 @@
 -- "Neighbour lookup: the neighbours of a task, on the side named, are handed back as that part of the predecessor or the
 -- successor table itself. A refused lookup hands back an empty part."
-use Rattle.std.specs.Prelude.{ℕ, ◌+◌, ◌≤◌, ◌<◌, ◌≡◌, Bool, not, ◌&&◌, List, [], length, ltb, eqb}
+use Rattle.task.specs.declared.refusal.Refusal.TheVariants.{BadTable, BeyondLimit, WrongLength}
+use Rattle.std.specs.Prelude.{ℕ, ◌+◌, ◌≤◌, ◌<◌, ◌≡◌, Bool, not, ◌&&◌, List, [], length, ltb, eqb, Err, Ok}
 use Rattle.lists.specs.Decided.{holds}
 use Rattle.task.specs.Types.{engine}
-use Rattle.task.specs.Refusals.{wrong_length, beyond_limit, bad_table, refused_if}
-use Rattle.task.specs.declared.Answer.{Answer}
-use Rattle.task.specs.declared.Answer.TheVariants.{Refused, Accepted}
+use Rattle.task.specs.Refusals.{refused_if, Answer}
 use Rattle.task.specs.declared.Side.{Side}
 use Rattle.task.specs.declared.Side.TheVariants.{Predecessors, Successors}
 use Rattle.graph.specs.Graph.{part}
@@ -55,14 +54,14 @@ task_fits side l t = ltb t (length l.weights) && holds (good? (length l.weights)
 -- "In lookup: 2, 1, 3"; the detail of 3 is "the task"
 unfoldable pub judge_answer : Side → Lent → ℕ → Answer
 judge_answer side l t =
-    refused_if (not (sizes_fit engine (length l.weights) (length l.preds))) beyond_limit 0
-    (refused_if (not (lengths_fit l)) wrong_length 0
-    (refused_if (not (task_fits side l t)) bad_table t
-    Accepted))
+    refused_if (not (sizes_fit engine (length l.weights) (length l.preds))) BeyondLimit
+    (refused_if (not (lengths_fit l)) WrongLength
+    (refused_if (not (task_fits side l t)) (BadTable t)
+    (Ok tt)))
 
 abbrev pub handed : Answer → List ℕ → List ℕ
-handed Accepted l = l
-handed (Refused n d) l = []
+handed (Ok u) l = l
+handed (Err why) l = []
 
 unfoldable pub neighbours_of : Side → Lent → ℕ → List ℕ
 neighbours_of side l t = handed (judge_answer side l t) (part (starts_on side l) (words_on side l) t)

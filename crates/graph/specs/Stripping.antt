@@ -1,10 +1,8 @@
 -- Stripping: "strip tasks without remaining successors, last to first".
-use Rattle.std.specs.Prelude.{ℕ, zero, suc, ◌≤◌, ◌<◌, ◌≡◌, ◌↔◌, List, [], ◌∷◌, ◌++◌, length, take, drop, get_or}
+use Rattle.std.specs.Prelude.{ℕ, zero, suc, ◌≤◌, ◌<◌, ◌≡◌, ◌↔◌, List, [], ◌∷◌, ◌++◌, length, take, drop, get_or, Err, Ok}
 use Rattle.lists.specs.Decided.{Smallest}
 use Rattle.lists.specs.Lists.{occ}
-use Rattle.task.specs.declared.Answer.{Answer}
-use Rattle.task.specs.declared.Answer.TheVariants.{Refused, Accepted}
-use Rattle.task.specs.Refusals.{cycle, refused, accepted, answer_says}
+use Rattle.task.specs.Refusals.{cycle, refused, accepted, answer_says, Answer, refusal_number}
 use Rattle.graph.specs.Graph.{Among, Graph, Edge}
 use Rattle.graph.specs.Conditions.{OnCycle}
 use Rattle.graph.specs.Check.{tables_answer}
@@ -51,8 +49,8 @@ pub record Stripped (g : Graph) (order : List ℕ) : Type 0 where
 
 -- a check that answers this has passed 1 to 4, and has judged 5
 abbrev pub Judges5 : Answer → Type 0
-Judges5 Accepted = Unit {0}
-Judges5 (Refused number detail) = number ≡ cycle
+Judges5 (Ok u) = Unit {0}
+Judges5 (Err why) = refusal_number why ≡ cycle
 
 -- 5 is judged on the tasks that an order leaves: it names the smallest of them on a cycle, and where none is left the tables are accepted
 pub record JudgedBy (g : Graph) (order : List ℕ) : Type 0 where

@@ -1,12 +1,11 @@
 -- The successor table, the degrees and the roots.
-use Rattle.std.specs.Prelude.{ℕ, ◌+◌, Bool, true, cond, ◌&&◌, List, [], ◌∷◌, length, replicate, eqb}
+use Rattle.task.specs.Refusals.{Answer}
+use Rattle.std.specs.Prelude.{ℕ, ◌+◌, Bool, true, cond, ◌&&◌, List, [], ◌∷◌, length, replicate, eqb, Err, Ok}
 use Rattle.std.proofs.Math.Decide.{ℕ_discrete}
 use Rattle.lists.specs.Decided.{holds}
 use Rattle.lists.specs.Lists.{occ, joined, tabulate}
 use Rattle.lists.specs.Sums.{sum_to}
 use Rattle.task.specs.declared.Limits.{Limits}
-use Rattle.task.specs.declared.Answer.{Answer}
-use Rattle.task.specs.declared.Answer.TheVariants.{Refused, Accepted}
 use Rattle.graph.specs.Graph.{Graph, graph_of, preds_of}
 use Rattle.graph.specs.Check.{check_answer}
 
@@ -49,8 +48,8 @@ linked_of a s w d = record { answer = a; starts = s; succs = w; degrees = d }
 
 -- a refusal leaves the lent lists; else they are filled
 abbrev pub fill_if : Answer → Graph → List ℕ → List ℕ → List ℕ → Linked
-fill_if Accepted g s w d = linked_of Accepted (succ_starts_of g) (succ_words g) (degree_list g)
-fill_if (Refused n x) g s w d = linked_of (Refused n x) s w d
+fill_if (Ok u) g s w d = linked_of (Ok tt) (succ_starts_of g) (succ_words g) (degree_list g)
+fill_if (Err why) g s w d = linked_of (Err why) s w d
 
 -- "Each length is exact": successor starts N+1, successors E, degrees N
 unfoldable pub lent_fit : List ℕ → List ℕ → List ℕ → List ℕ → List ℕ → Bool

@@ -7,32 +7,33 @@ use native.Mathlib.Omega.{arith}
 use lib.ListN.{length}
 use lib.Dec.{leb, eqb}
 use borrow.Author.Tests.{lt-ltb, le-ltb, leb-true, eqb-true, not-true, not-false}
+use Rattle.std.specs.Prelude.{Err, Ok}
+use Rattle.task.specs.declared.refusal.Refusal.{Refusal}
+use Rattle.task.specs.declared.refusal.Refusal.TheVariants.{BadTable, BeyondLimit, Cycle, Duplicate, WrongLength}
 use Rattle.lists.specs.Decided.{holds}
 use Rattle.lists.proofs.Decided.{stable, holds-yes, first-least}
 use Rattle.lists.proofs.Told.{and-true}
 use Rattle.task.specs.Types.{capped}
 use Rattle.task.specs.declared.Limits.{Limits}
-use Rattle.task.specs.declared.Answer.{Answer}
-use Rattle.task.specs.declared.Answer.TheVariants.{Refused, Accepted}
 use Rattle.graph.specs.Graph.{Graph, graph_of}
 use Rattle.graph.specs.Conditions.{Sized, Sound}
 use Rattle.graph.specs.Decide.{light?, good?, bad?, ends_fit?}
-use Rattle.task.specs.Refusals.{cycle}
+use Rattle.task.specs.Refusals.{cycle, Answer, refusal_number}
 use Rattle.graph.specs.Stripping.{Ordered}
 use Rattle.graph.specs.Check.{sizes_fit, first_bad, first_twice, first_on_cycle, tables_answer, check_answer}
 
 -- before 5 is judged there is no order to hand out
-pub early : {g : Graph} {a right : Answer} {number detail stripped : ℕ} {words : List ℕ} → (a ≡ Refused number detail) × (stripped ≡ 0) → ¬ (number ≡ cycle)
-    → Refused number detail ≡ right → (a ≡ right) × Ordered g a words words stripped
+pub early : {g : Graph} {a right : Answer} {why : Refusal} {stripped : ℕ} {words : List ℕ} → (a ≡ Err why) × (stripped ≡ 0) → ¬ (refusal_number why ≡ cycle)
+    → Err why ≡ right → (a ≡ right) × Ordered g a words words stripped
 early (e, z) n t = (e ∙ t, record { handed = λ j. absurd (n (rw e at j)); kept = λ _. (z, refl) })
 
 module _ (g : Graph) (bad : ℕ) (hb : bad ≡ first_bad g) where
-  pub tables-bad : bad < g.tasks → Refused 3 bad ≡ tables_answer g
+  pub tables-bad : bad < g.tasks → Err (BadTable bad) ≡ tables_answer g
   unfolding tables_answer
   tables-bad h = rw (← hb) (simp (lt-ltb _ _ h))
 
   module _ (b : g.tasks ≤ bad) (ends : Bool) (he : ends ≡ holds (ends_fit? g)) where
-    pub tables-ends : not ends ≡ true → Refused 3 g.tasks ≡ tables_answer g
+    pub tables-ends : not ends ≡ true → Err (BadTable g.tasks) ≡ tables_answer g
     unfolding tables_answer
     tables-ends e = rw (← hb, ← he) (simp (le-ltb _ _ b, not-true ends e))
 
@@ -48,31 +49,31 @@ module _ (g : Graph) (bad : ℕ) (hb : bad ≡ first_bad g) where
           }
 
       module _ (twice : ℕ) (ht : twice ≡ first_twice g) where
-        pub tables-twice : twice < g.tasks → Refused 4 twice ≡ tables_answer g
+        pub tables-twice : twice < g.tasks → Err (Duplicate twice) ≡ tables_answer g
         unfolding tables_answer
         tables-twice h = rw (← hb, ← he, ← ht) (simp (le-ltb _ _ b, not-false ends e, lt-ltb _ _ h))
 
         module _ (t : g.tasks ≤ twice) (on : ℕ) (ho : on ≡ first_on_cycle g) where
-          pub tables-cycle : on < g.tasks → Refused 5 on ≡ tables_answer g
+          pub tables-cycle : on < g.tasks → Err (Cycle on) ≡ tables_answer g
           unfolding tables_answer
           tables-cycle h = rw (← hb, ← he, ← ht, ← ho) (simp (le-ltb _ _ b, not-false ends e, le-ltb _ _ t, lt-ltb _ _ h))
 
-          pub tables-accepted : g.tasks ≤ on → Accepted ≡ tables_answer g
+          pub tables-accepted : g.tasks ≤ on → Ok tt ≡ tables_answer g
           unfolding tables_answer
           tables-accepted h = rw (← hb, ← he, ← ht, ← ho) (simp (le-ltb _ _ b, not-false ends e, le-ltb _ _ t, le-ltb _ _ h))
 
 module _ (limits : Limits) (within others : Bool) (weights starts preds : List ℕ) (fit : Bool) (hf : fit ≡ sizes_fit limits (length weights) (length preds)) where
-  pub check-beyond : not (within && fit) ≡ true → Refused 2 0 ≡ check_answer limits within others weights starts preds
+  pub check-beyond : not (within && fit) ≡ true → Err BeyondLimit ≡ check_answer limits within others weights starts preds
   unfolding check_answer
   check-beyond e = rw (← hf) (simp (not-true (within && fit) e))
 
   module _ (f : not (within && fit) ≡ false) (light : Bool) (hl : light ≡ holds (light? weights)) where
-    pub check-heavy : not light ≡ true → Refused 2 0 ≡ check_answer limits within others weights starts preds
+    pub check-heavy : not light ≡ true → Err BeyondLimit ≡ check_answer limits within others weights starts preds
     unfolding check_answer
     check-heavy e = rw (← hf, ← hl) (simp (not-false (within && fit) f, not-true light e))
 
     module _ (l : not light ≡ false) where
-      pub check-length : not (eqb (length starts) (length weights + 1) && others) ≡ true → Refused 1 0 ≡ check_answer limits within others weights starts preds
+      pub check-length : not (eqb (length starts) (length weights + 1) && others) ≡ true → Err WrongLength ≡ check_answer limits within others weights starts preds
       unfolding check_answer
       check-length n = rw (← hf, ← hl) (simp (not-false (within && fit) f, not-false light l, not-true (eqb (length starts) (length weights + 1) && others) n))
 

@@ -1,14 +1,13 @@
 // The graph check that every call on a graph shares: 2, 1, 3, 4, 5 in order.
 #![tactic(auto)]
 
-ghost use Rattle.std.specs.Prelude.{◌≡◌, true, length};
+ghost use Rattle.std.specs.Prelude.{◌≡◌, true, length, Err};
 ghost use Rattle.graph.specs.Graph.{graph_of};
 ghost use Rattle.graph.specs.Conditions.{Sized};
 ghost use Rattle.graph.specs.Check.{tables_answer, check_answer};
 ghost use Rattle.graph.specs.Stripping.{Ordered};
-ghost use Rattle.task.specs.declared.Answer.TheVariants.{Refused};
 
-use task::{Answer, Limits, refusal};
+use task::{Answer, Limits, Refusal};
 
 // The answer, and how many tasks were stripped where 5 was judged.
 #[derive(Clone, Copy)]
@@ -17,11 +16,11 @@ pub struct Checked {
     pub stripped: usize,
 }
 
-fn refused(number: u32, detail: u32) -> Checked
-    ensures { (result.answer ≡ Refused number detail) × (result.stripped ≡ 0) }
+fn refused(why: Refusal) -> Checked
+    ensures { (result.answer ≡ Err why) × (result.stripped ≡ 0) }
 {
     Checked {
-        answer: Answer::Refused(number, detail),
+        answer: Err(why),
         stripped: 0,
     }
 }
@@ -35,27 +34,27 @@ pub fn check_tables(n: usize, starts: &[u32], preds: &[u32], order: &mut [u32]) 
 {
     let bad = tables::first_bad(n, starts, preds);
     if bad < n {
-        return refused(refusal::BAD_TABLE, bad as u32);
+        return refused(Refusal::BadTable(bad as u32));
     }
     if !tables::ends_fit(n, starts, preds) {
-        return refused(refusal::BAD_TABLE, n as u32);
+        return refused(Refusal::BadTable(n as u32));
     }
     let mut left = [0u32; 1024];
     let twice = tables::first_twice(n, starts, preds, &mut left);
     if twice < n {
-        return refused(refusal::DUPLICATE, twice as u32);
+        return refused(Refusal::Duplicate(twice as u32));
     }
     let judged = cycles::first_on_cycle(n, starts, preds, &mut left, order);
     let looped = judged.first;
     let stripped = judged.stripped;
     if looped < n {
         return Checked {
-            answer: Answer::Refused(refusal::CYCLE, looped as u32),
+            answer: Err(Refusal::Cycle(looped as u32)),
             stripped: stripped,
         };
     }
     Checked {
-        answer: Answer::Accepted,
+        answer: Ok(()),
         stripped: stripped,
     }
 }
@@ -80,13 +79,13 @@ pub fn check_graph(
 {
     let n = weights.len();
     if !(within & tables::sizes_fit(limits, n, preds.len())) {
-        return refused(refusal::BEYOND_LIMIT, 0);
+        return refused(Refusal::BeyondLimit);
     }
     if !tables::weights_fit(weights) {
-        return refused(refusal::BEYOND_LIMIT, 0);
+        return refused(Refusal::BeyondLimit);
     }
     if !((starts.len() == n + 1) & others) {
-        return refused(refusal::WRONG_LENGTH, 0);
+        return refused(Refusal::WrongLength);
     }
     check_tables(n, starts, preds, order)
 }

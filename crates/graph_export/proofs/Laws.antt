@@ -5,8 +5,9 @@ use mathlib.Core.Bool.{true}
 use mathlib.Core.List.{List}
 use lib.ListN.{length, get_or, take, drop}
 use borrow.Author.Tests.{eq-eqb, ne_eqb}
-use Rattle.task.specs.declared.Answer.{Answer}
-use Rattle.task.specs.declared.Answer.TheVariants.{Refused, Accepted}
+use Rattle.std.specs.Prelude.{Err, Ok}
+use Rattle.task.specs.declared.refusal.Refusal.{Refusal}
+use Rattle.task.specs.Refusals.{Answer}
 use Rattle.task.specs.declared.Limits.{Limits}
 use Rattle.task.specs.declared.Side.{Side}
 use Rattle.task.specs.declared.Side.TheVariants.{Predecessors, Successors}
@@ -45,18 +46,18 @@ module _ (side on : Side) (l : Lent) (t u : ℕ) (a : Answer) (p : on ≡ side) 
   judged : a ≡ judge_answer side l t
   judged = q ∙ ap (λ (x : Side). judge_answer x l u) p ∙ ap (judge_answer side l) z
 
-  pub part-refused : (n d : ℕ) → a ≡ Refused n d → record { place = 0; count = 0 } ≡ part_in side l t
+  pub part-refused : (why : Refusal) → a ≡ Err why → record { place = 0; count = 0 } ≡ part_in side l t
   unfolding part_in
-  part-refused n d e = rw (sym judged ∙ e)
+  part-refused why e = rw (sym judged ∙ e)
 
-  module _ (e : a ≡ Accepted) (d : Side) (o : on ≡ d) where
+  module _ (e : a ≡ Ok tt) (d : Side) (o : on ≡ d) where
     pub part-range : (t + 1 < length (starts_on d l)) × (get_or (starts_on d l) t 0 ≤ get_or (starts_on d l) (t + 1) 0)
     part-range = let r = range-on side l t a judged e d (sym p ∙ o) in (r.0, r.1.0)
 
     pub part-accepted : (r : Part) → (r.place ≡ get_or (starts_on d l) t 0) × (r.count ≡ get_or (starts_on d l) (t + 1) 0 - get_or (starts_on d l) t 0)
         → r ≡ part_in side l t
     unfolding part_in
-    part-accepted r f = rw (sym judged ∙ e) (part-made r _ _ f.0 f.1 ∙ ap (λ (x : Side). part_for Accepted x l t) (sym o ∙ p))
+    part-accepted r f = rw (sym judged ∙ e) (part-made r _ _ f.0 f.1 ∙ ap (λ (x : Side). part_for (Ok tt) x l t) (sym o ∙ p))
 
 -- the part is the neighbours
 pub part-is : (side : Side) (l : Lent) (t : ℕ) → neighbours_of side l t ≡ take (part_in side l t).count (drop (part_in side l t).place (words_on side l))
@@ -64,5 +65,5 @@ unfolding part_in neighbours_of part
 part-is side l t = go (judge_answer side l t)
   where
     go : (a : Answer) → handed a (part (starts_on side l) (words_on side l) t) ≡ take (part_for a side l t).count (drop (part_for a side l t).place (words_on side l))
-    go (Refused n d) = refl
-    go Accepted = refl
+    go (Err why) = refl
+    go (Ok u) = refl

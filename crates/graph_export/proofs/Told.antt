@@ -6,11 +6,10 @@ use native.Mathlib.Omega.{arith}
 use mathlib.Core.Bool.{true}
 use mathlib.Core.Logic.{◌↔◌}
 use mathlib.Core.List.{List}
-use Rattle.task.specs.Refusals.{answer_says}
+use Rattle.std.specs.Prelude.{Err, Ok}
+use Rattle.task.specs.Refusals.{answer_says, Answer}
 use Rattle.task.specs.Rows.{Given, Acceptance}
 use Rattle.task.proofs.Said.{zero-accepts}
-use Rattle.task.specs.declared.Answer.{Answer}
-use Rattle.task.specs.declared.Answer.TheVariants.{Refused, Accepted}
 use Rattle.task.specs.declared.Limits.{Limits}
 use Rattle.task.specs.declared.Side.{Side}
 use Rattle.task.specs.declared.Side.TheVariants.{Predecessors, Successors}
@@ -54,8 +53,8 @@ module _ (limits : Limits) (weights starts preds : List ℕ) where
       go : (a : Answer) → (linked limits weights starts preds s w d).answer ≡ a → 1 ≤ (replied (linked limits weights starts preds s w d)).reply.number
           → ((linked limits weights starts preds s w d).starts ≡ s)
           × (((linked limits weights starts preds s w d).succs ≡ w) × ((linked limits weights starts preds s w d).degrees ≡ d))
-      go (Refused n x) e h = linked-refused limits weights starts preds s w d n x (ap answer_says e)
-      go Accepted e h = absurd (omega (arith, rw e at h))
+      go (Err why) e h = linked-refused limits weights starts preds s w d _ _ (ap answer_says e)
+      go (Ok u) e h = absurd (omega (arith, rw e at h))
 
 pub judge-tells : (side : Side) (l : Lent) (t n d : ℕ) → 1 ≤ n
     → (((reply_of (judge_answer side l t)).number ≡ n) × ((reply_of (judge_answer side l t)).detail ≡ d)) ↔ Given (lookup_rows side l t) n d

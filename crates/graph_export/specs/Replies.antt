@@ -1,8 +1,7 @@
 -- What the exported calls answer, beside the lists that they leave.
-use Rattle.std.specs.Prelude.{ℕ, ◌+◌, ◌-◌, cond, List, get_or, eqb}
+use Rattle.task.specs.Refusals.{Answer}
+use Rattle.std.specs.Prelude.{ℕ, ◌+◌, ◌-◌, cond, List, get_or, eqb, Err, Ok}
 use Rattle.task.specs.Types.{engine}
-use Rattle.task.specs.declared.Answer.{Answer}
-use Rattle.task.specs.declared.Answer.TheVariants as answer
 use Rattle.task.specs.declared.Limits.{Limits}
 use Rattle.task.specs.declared.Side.{Side}
 use Rattle.task.specs.declared.Side.TheVariants.{Predecessors, Successors}
@@ -35,8 +34,8 @@ replied l = replied_of (reply_of l.answer) l.starts l.succs l.degrees
 
 -- where a lookup's part stands in the table on the side named, and how many neighbours it has; 0 and 0 where it is refused
 abbrev pub part_for : Answer → Side → Lent → ℕ → Part
-part_for (answer.Refused n d) side l t = record { place = 0; count = 0 }
-part_for answer.Accepted side l t =
+part_for (Err why) side l t = record { place = 0; count = 0 }
+part_for (Ok tt) side l t =
     record { place = get_or (starts_on side l) t 0; count = get_or (starts_on side l) (t + 1) 0 - get_or (starts_on side l) t 0 }
 
 unfoldable pub part_in : Side → Lent → ℕ → Part

@@ -10,7 +10,7 @@ ghost use Rattle.replies.specs.Replies.{reply_of};
 ghost use Rattle.graph_export.specs.Replies.{limits_of, side_of, replied, replied_of, part_in};
 
 use replies::Reply;
-use task::{Answer, Limits, Side, TaskId};
+use task::{Limits, Side, TaskId};
 
 // Limits on N and E; the others are the engine's.
 fn limits(tasks: usize, edges: usize) -> Limits
@@ -125,7 +125,7 @@ pub extern "C" fn yolluvek_lookup(
     let on = side_of(side);
     let named = TaskId::new(task);
     let answer = lookup::judge(weights, pred_starts, preds, succ_starts, succs, on, named);
-    let Answer::Accepted = answer else {
+    let Ok(()) = answer else {
         return Part { place: 0, count: 0 };
     };
     match on {

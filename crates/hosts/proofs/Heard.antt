@@ -3,12 +3,9 @@ use Prim.Native.Nat.{ℕ, ◌≤◌}
 use mathlib.Core.Path.{◌≡◌, refl}
 use native.Mathlib.Omega.{arith}
 use borrow.Author.Tests.{ne_eqb}
-use Rattle.task.specs.Refusals.{refused, accepted, answer_says, step_says, number_of}
+use Rattle.std.specs.Prelude.{Err, Ok}
+use Rattle.task.specs.Refusals.{Answer, StepAnswer, refusal_number, refused, accepted, answer_says, step_says, number_of}
 use Rattle.task.specs.Rows.{Acceptance}
-use Rattle.task.specs.declared.Answer.{Answer}
-use Rattle.task.specs.declared.Answer.TheVariants as answer
-use Rattle.task.specs.declared.StepAnswer.{StepAnswer}
-use Rattle.task.specs.declared.StepAnswer.TheVariants.{Refused, Accepted}
 use Rattle.task.specs.declared.StepOutcome.TheVariants.{Moved, Fetched, Released}
 use Rattle.task.specs.declared.ReleaseOutcome.TheVariants.{DegreeLeft, Placed}
 use Rattle.replies.specs.declared.Reply.{Reply}
@@ -32,13 +29,13 @@ step-heard-refused r h = rw (ne_eqb r.number 0 (λ e. omega (arith, h, e))) refl
 
 pub heard-said : (a : Answer) → (number_of (answer_says a) ≡ 0 → Acceptance (answer_says a)) → heard (reply_of a) ≡ answer_says a
 unfolding heard
-heard-said (answer.Refused n d) zero-accepts = rw (ne_eqb n 0 zero-accepts) refl
-heard-said answer.Accepted zero-accepts = refl
+heard-said (Err why) zero-accepts = rw (ne_eqb (refusal_number why) 0 zero-accepts) refl
+heard-said (Ok u) zero-accepts = refl
 
 pub step-heard-said : (a : StepAnswer) → (number_of (step_says a) ≡ 0 → Acceptance (step_says a)) → step_heard (step_reply_of a) ≡ step_says a
 unfolding step_heard outcome_heard
-step-heard-said (Refused n d) zero-accepts = rw (ne_eqb n 0 zero-accepts) refl
-step-heard-said (Accepted Moved) zero-accepts = refl
-step-heard-said (Accepted (Fetched t)) zero-accepts = refl
-step-heard-said (Accepted (Released (DegreeLeft d))) zero-accepts = refl
-step-heard-said (Accepted (Released (Placed t w))) zero-accepts = refl
+step-heard-said (Err why) zero-accepts = rw (ne_eqb (refusal_number why) 0 zero-accepts) refl
+step-heard-said (Ok Moved) zero-accepts = refl
+step-heard-said (Ok (Fetched t)) zero-accepts = refl
+step-heard-said (Ok (Released (DegreeLeft d))) zero-accepts = refl
+step-heard-said (Ok (Released (Placed t w))) zero-accepts = refl

@@ -5,9 +5,10 @@ use mathlib.Core.Logic.{inl, inr}
 use mathlib.Core.List.{List}
 use native.Mathlib.Omega.{arith}
 use lib.ListN.{length}
+use Rattle.std.specs.Prelude.{Err, Ok}
+use Rattle.task.specs.declared.refusal.Refusal.{Refusal}
 use Rattle.lists.proofs.Apart.{unequal}
-use Rattle.task.specs.Refusals.{wrong_length, beyond_limit, broken_layout}
-use Rattle.task.specs.declared.ReadAnswer.TheVariants.{Refused, Accepted}
+use Rattle.task.specs.declared.refusal.Refusal.TheVariants.{BeyondLimit, BrokenLayout, WrongLength}
 use Rattle.layout.specs.Marks.{Line}
 use Rattle.layout.specs.Tasks.{Task, edges_of, Tables, tables_of}
 use Rattle.layout.specs.Layout.{Keeps, Spells}
@@ -32,7 +33,7 @@ keeps-within ls xs k few edges l h = pre-within (at_last ls k.content) within l 
 -- the graph is read: N and E are answered, and the lists start with its tables and end as they did
 abbrev pub ReadAs : (text w s p : List ℕ) → Tables → Type 0
 ReadAs text w s p g =
-    read_text text w s p ≡ read_as (Accepted (length g.weights) (length g.preds)) (onto g.weights w) (onto g.starts s) (onto g.preds p)
+    read_text text w s p ≡ read_as (Ok (length g.weights, length g.preds)) (onto g.weights w) (onto g.starts s) (onto g.preds p)
 
 -- the verdict on lines that keep the layout within the limits
 verdict-spelled : (text : List ℕ) (xs : List Task) → Keeps (lines text) xs → length xs ≤ 1024 → edges_of xs ≤ 8192 → verdict text ≡ spelled xs
@@ -75,13 +76,13 @@ spells-verdict text xs q = go (judged text)
     go (as-over m v h) = unequal cc
 
 -- and every accepted text is such a one
-pub read-accepted : (text w s p : List ℕ) (n e : ℕ) → (read_text text w s p).answer ≡ Accepted n e
+pub read-accepted : (text w s p : List ℕ) (n e : ℕ) → (read_text text w s p).answer ≡ Ok (n, e)
     → (g : Tables) × Lent text w s p × Spells text g × Within g × ReadAs text w s p g
 read-accepted text w s p n e a = go (answered text w s p)
   where
     -- a refusal is no acceptance
-    not-refused : (m d : ℕ) → ¬ (read_text text w s p ≡ read_as (Refused m d) w s p)
-    not-refused m d q = unequal (cc (ap (λ r. r.answer) q))
+    not-refused : (why : Refusal) → ¬ (read_text text w s p ≡ read_as (Err why) w s p)
+    not-refused why q = unequal (cc (ap (λ r. r.answer) q))
 
     tasks : Lent text w s p → read_text text w s p ≡ laid (verdict text) w s p → Judged (lines text) (verdict text)
         → (g : Tables) × Lent text w s p × Spells text g × Within g × ReadAs text w s p g
@@ -92,10 +93,10 @@ read-accepted text w s p n e a = go (answered text w s p)
       (omega (arith, weights-length xs), edges),
       read-tasks text w s p xs l k few edges,
     )
-    tasks l q (as-broken k v f h m) = absurd (not-refused broken_layout (suc k) (q ∙ rw v (laid-broken w s p (suc k))))
-    tasks l q (as-over m v h) = absurd (not-refused beyond_limit 0 (q ∙ rw v (laid-over w s p)))
+    tasks l q (as-broken k v f h m) = absurd (not-refused (BrokenLayout (suc k)) (q ∙ rw v (laid-broken w s p (suc k))))
+    tasks l q (as-over m v h) = absurd (not-refused BeyondLimit (q ∙ rw v (laid-over w s p)))
 
     go : Answered text w s p → (g : Tables) × Lent text w s p × Spells text g × Within g × ReadAs text w s p g
-    go (wrong-length h q) = absurd (not-refused wrong_length 0 q)
-    go (too_long h l q) = absurd (not-refused beyond_limit 0 q)
+    go (wrong-length h q) = absurd (not-refused WrongLength q)
+    go (too_long h l q) = absurd (not-refused BeyondLimit q)
     go (as-judged l q) = tasks l q (judged text)

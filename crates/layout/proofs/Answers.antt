@@ -8,31 +8,31 @@ use native.Mathlib.Omega.{arith}
 use lib.ListN.{length}
 use lib.Dec.{eqb, leb}
 use borrow.Author.Tests.{eqb-true}
+use Rattle.std.specs.Prelude.{Err, Ok}
+use Rattle.task.specs.declared.refusal.Refusal.TheVariants.{BeyondLimit, BrokenLayout, WrongLength}
 use Rattle.lists.proofs.Told.{Told, told-true, told-false, eq-told, le-told, and-told, and-true}
-use Rattle.task.specs.Refusals.{wrong_length, beyond_limit, broken_layout}
-use Rattle.task.specs.declared.ReadAnswer.TheVariants.{Refused, Accepted}
 use Rattle.layout.specs.Tasks.{Task, weights_of, starts_of, preds_of, edges_of}
 use Rattle.layout.specs.Reader.{Verdict, spelled, broken, over, verdict, read_as, onto, laid, lent_fit, read_text}
 use Rattle.layout.specs.Tables.{LentWrong, Lent}
 
 module _ (w s p : List ℕ) where
   pub laid-spelled : (xs : List Task)
-      → laid (spelled xs) w s p ≡ read_as (Accepted (length xs) (edges_of xs)) (onto (weights_of xs) w) (onto (starts_of xs) s) (onto (preds_of xs) p)
+      → laid (spelled xs) w s p ≡ read_as (Ok (length xs, edges_of xs)) (onto (weights_of xs) w) (onto (starts_of xs) s) (onto (preds_of xs) p)
   unfolding laid
   laid-spelled xs = refl
 
-  pub laid-broken : (l : ℕ) → laid (broken l) w s p ≡ read_as (Refused broken_layout l) w s p
+  pub laid-broken : (l : ℕ) → laid (broken l) w s p ≡ read_as (Err (BrokenLayout l)) w s p
   unfolding laid
   laid-broken l = refl
 
-  pub laid-over : laid over w s p ≡ read_as (Refused beyond_limit 0) w s p
+  pub laid-over : laid over w s p ≡ read_as (Err BeyondLimit) w s p
   unfolding laid
   laid-over = refl
 
 -- a test of lengths refuses, or the verdict decides
 pub data Answered (text w s p : List ℕ) : Type 0 where
-  wrong-length : LentWrong w s p → read_text text w s p ≡ read_as (Refused wrong_length 0) w s p → Answered text w s p
-  too_long : ¬ (LentWrong w s p) → 65536 < length text → read_text text w s p ≡ read_as (Refused beyond_limit 0) w s p → Answered text w s p
+  wrong-length : LentWrong w s p → read_text text w s p ≡ read_as (Err WrongLength) w s p → Answered text w s p
+  too_long : ¬ (LentWrong w s p) → 65536 < length text → read_text text w s p ≡ read_as (Err BeyondLimit) w s p → Answered text w s p
   as-judged : Lent text w s p → read_text text w s p ≡ laid (verdict text) w s p → Answered text w s p
 
 -- what is lent is as stated
@@ -48,11 +48,11 @@ lent-right text w s p l (inr (inl n)) = n l.starts
 lent-right text w s p l (inr (inr n)) = n l.preds
 
 module _ (text w s p : List ℕ) where
-  pub read-wrong : lent_fit w s p ≡ false → read_text text w s p ≡ read_as (Refused wrong_length 0) w s p
+  pub read-wrong : lent_fit w s p ≡ false → read_text text w s p ≡ read_as (Err WrongLength) w s p
   unfolding read_text
   read-wrong e = rw e refl
 
-  pub read-long : lent_fit w s p ≡ true → leb (length text) 65536 ≡ false → read_text text w s p ≡ read_as (Refused beyond_limit 0) w s p
+  pub read-long : lent_fit w s p ≡ true → leb (length text) 65536 ≡ false → read_text text w s p ≡ read_as (Err BeyondLimit) w s p
   unfolding read_text
   read-long e f = rw (e, f) refl
 

@@ -6,11 +6,11 @@ use mathlib.Core.List.{List}
 use native.Mathlib.Omega.{arith}
 use lib.ListN.{length, get_or, drop, length-append, length-drop, get_or-append}
 use lib.Seq.{get_or-append-add, get_or-drop, ext_get_or}
+use Rattle.std.specs.Prelude.{Err, Ok}
+use Rattle.task.specs.declared.refusal.Refusal.{Refusal}
 use Rattle.lists.proofs.Apart.{unequal}
-use Rattle.task.specs.Refusals.{refused, graph_read, read_says}
+use Rattle.task.specs.Refusals.{refused, graph_read, read_says, ReadAnswer}
 use Rattle.task.specs.Rows.{Acceptance}
-use Rattle.task.specs.declared.ReadAnswer.{ReadAnswer}
-use Rattle.task.specs.declared.ReadAnswer.TheVariants.{Refused, Accepted}
 use Rattle.layout.specs.Tasks.{Tables, tables}
 use Rattle.layout.specs.Layout.{Spells}
 use Rattle.layout.specs.Reader.{broken, over, verdict, Read, read_as, onto, read_text}
@@ -21,13 +21,13 @@ use Rattle.layout.proofs.Accepted.{ReadAs, read-spelled, read-accepted}
 use Rattle.layout.proofs.Refusals.{refused-same}
 
 -- what an answer says, back to the answer
-said_read : (a : ReadAnswer) (n e : ℕ) → read_says a ≡ graph_read n e → a ≡ Accepted n e
-said_read (Refused m d) n e q = unequal cc
-said_read (Accepted m d) n e q = cc
+said_read : (a : ReadAnswer) (n e : ℕ) → read_says a ≡ graph_read n e → a ≡ Ok (n, e)
+said_read (Err why) n e q = unequal cc
+said_read (Ok (m, d)) n e q = cc
 
-said-refused : (a : ReadAnswer) (n d : ℕ) → read_says a ≡ refused n d → a ≡ Refused n d
-said-refused (Refused m e) n d q = cc
-said-refused (Accepted m e) n d q = unequal cc
+said-refused : (a : ReadAnswer) (n d : ℕ) → read_says a ≡ refused n d → (why : Refusal) × (a ≡ Err why)
+said-refused (Err why) n d q = (why, refl)
+said-refused (Ok (m, e)) n d q = unequal cc
 
 -- words onto a list
 module _ (words old : List ℕ) where
@@ -107,13 +107,14 @@ acceptance-iff text w s p = (forth (read_text text w s p).answer refl, λ h. sub
     found (g, l, sp, m, r) = (g, accepts text w s p g l sp m r)
 
     forth : (a : ReadAnswer) → (read_text text w s p).answer ≡ a → Acceptance (read_says a) → (g : Tables) × Accepts text w s p g
-    forth (Refused n d) e h = absurd h
-    forth (Accepted n d) e h = found (read-accepted text w s p n d e)
+    forth (Err why) e h = absurd h
+    forth (Ok (n, d)) e h = found (read-accepted text w s p n d e)
 
 -- a refused text leaves the lists
 pub refused-leaves : (text w s p : List ℕ) (n d : ℕ) → read_says (read_text text w s p).answer ≡ refused n d → Leaves text w s p
 refused-leaves text w s p n d e =
-    let q : read_text text w s p ≡ read_as (Refused n d) w s p = refused-same text w s p n d (said-refused (read_text text w s p).answer n d e) in
+    let (why, a) = said-refused (read_text text w s p).answer n d e in
+    let q : read_text text w s p ≡ read_as (Err why) w s p = refused-same text w s p why a in
     record { weights = ap (λ (x : Read). x.weights) q; starts = ap (λ (x : Read). x.starts) q; preds = ap (λ (x : Read). x.preds) q }
 
 -- What the reader says, by its tests and the verdict.

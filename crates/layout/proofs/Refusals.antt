@@ -6,12 +6,13 @@ use mathlib.Core.List.{List, [], ◌∷◌}
 use native.Mathlib.Omega.{arith}
 use native.Mathlib.Decide.{ℕ_discrete, dec_lt}
 use lib.ListN.{length, get_or, take}
+use Rattle.std.specs.Prelude.{Err}
+use Rattle.task.specs.declared.refusal.Refusal as why
+use Rattle.task.specs.declared.refusal.Refusal.TheVariants.{BeyondLimit, BrokenLayout, WrongLength}
 use Rattle.lists.proofs.Apart.{unequal}
 use Rattle.lists.proofs.Decided.{stable}
-use Rattle.task.specs.Refusals.{Said, refused, graph_read, wrong_length, beyond_limit, broken_layout, read_says}
+use Rattle.task.specs.Refusals.{Said, refused, graph_read, wrong_length, beyond_limit, broken_layout, read_says, ReadAnswer}
 use Rattle.task.specs.Rows.{Refusal, row, only, Follows}
-use Rattle.task.specs.declared.ReadAnswer.{ReadAnswer}
-use Rattle.task.specs.declared.ReadAnswer.TheVariants.{Refused}
 use Rattle.task.proofs.Rows.{follows-none, follows-given, follows-passed}
 use Rattle.layout.specs.Marks.{Line, Numbers}
 use Rattle.layout.specs.Tasks.{Task, Tables, edges_of, tables_of}
@@ -156,19 +157,19 @@ read-follows text ls w s p h = go (answered text w s p)
         (follows-passed long later said (λ d x. omega (arith, x.1, l.short)) (verdict-follows text ls h w s p (verdict text) j)))
 
 -- a refused text leaves the lists
-pub refused-same : (text w s p : List ℕ) (n d : ℕ) → (read_text text w s p).answer ≡ Refused n d
-    → read_text text w s p ≡ read_as (Refused n d) w s p
-refused-same text w s p n d e = go (answered text w s p)
+pub refused-same : (text w s p : List ℕ) (why : why.Refusal) → (read_text text w s p).answer ≡ Err why
+    → read_text text w s p ≡ read_as (Err why) w s p
+refused-same text w s p why e = go (answered text w s p)
   where
-    left : (a : ReadAnswer) → read_text text w s p ≡ read_as a w s p → read_text text w s p ≡ read_as (Refused n d) w s p
+    left : (a : ReadAnswer) → read_text text w s p ≡ read_as a w s p → read_text text w s p ≡ read_as (Err why) w s p
     left a q = q ∙ ap (λ (b : ReadAnswer). read_as b w s p) (sym (ap (λ (r : Read). r.answer) q) ∙ e)
 
-    judging : (v : Verdict) → read_text text w s p ≡ laid v w s p → read_text text w s p ≡ read_as (Refused n d) w s p
+    judging : (v : Verdict) → read_text text w s p ≡ laid v w s p → read_text text w s p ≡ read_as (Err why) w s p
     judging (spelled xs) q = unequal (cc (ap (λ (r : Read). r.answer) (q ∙ laid-spelled w s p xs)))
-    judging (broken l) q = left (Refused broken_layout l) (q ∙ laid-broken w s p l)
-    judging over q = left (Refused beyond_limit 0) (q ∙ laid-over w s p)
+    judging (broken l) q = left (Err (BrokenLayout l)) (q ∙ laid-broken w s p l)
+    judging over q = left (Err BeyondLimit) (q ∙ laid-over w s p)
 
-    go : Answered text w s p → read_text text w s p ≡ read_as (Refused n d) w s p
-    go (wrong-length c q) = left (Refused wrong_length 0) q
-    go (too_long c l q) = left (Refused beyond_limit 0) q
+    go : Answered text w s p → read_text text w s p ≡ read_as (Err why) w s p
+    go (wrong-length c q) = left (Err WrongLength) q
+    go (too_long c l q) = left (Err BeyondLimit) q
     go (as-judged l q) = judging (verdict text) q

@@ -51,7 +51,7 @@ module _ (w s p text : List ℕ) where
       unsaid e = absurd (subst Acceptance (sym e) tt)
 
       go : Ways w s p text → Taken w s p text b
-      go (checked n d _ q) = unsaid (rw q at said)
+      go (checked _ _ q) = unsaid (rw q at said)
       go (undummied _ q) = unsaid (rw q at said)
       go (crowded _ _ q) = unsaid (rw q at said)
       go (put f d r q) =
@@ -89,7 +89,7 @@ module _ (w s p text : List ℕ) where
       of-starts (inr (_, inr (_, inr (_, inr (_, inr (_, inr (_, h))))))) = h
 
       go : Ways w s p text → ⊥
-      go (checked n x e q) = of-starts (((graph-follows engine w s p).refuses wrong_length d).0 (ap answer_says e ∙ (rw q at said)))
+      go (checked why e q) = of-starts (((graph-follows engine w s p).refuses wrong_length d).0 (ap answer_says e ∙ (rw q at said)))
       go (undummied _ q) = let same : refused no_dummies 0 ≡ refused wrong_length d = rw q at said in let number : no_dummies ≡ wrong_length = cc in omega (arith, number)
       go (crowded f l q) = omega (arith, l, room, text-short w s p (fits-sound f) f.light)
       go (put _ _ _ q) = absurd (subst Acceptance (rw q at said) tt)
@@ -104,7 +104,7 @@ fitting-written : (w s p text : List ℕ) → GraphFits engine w s p → dummies
 fitting-written w s p text f d r = go (ways w s p text)
   where
     go : Ways w s p text → write_says (write_text w s p text).answer ≡ bytes_used (length (text_of (tables w s p)))
-    go (checked n x e q) = absurd (subst Acceptance (sym ((graph-accepted-iff engine w s p).1 f) ∙ ap answer_says e) tt)
+    go (checked why e q) = absurd (subst Acceptance (sym ((graph-accepted-iff engine w s p).1 f) ∙ ap answer_says e) tt)
     go (undummied n q) = true-and-false d n
     go (crowded _ l q) = absurd (omega (arith, l, r))
     go (put _ _ _ q) = ap (λ (x : Saved). write_says x.answer) q
@@ -200,7 +200,7 @@ module _ (text w s p : List ℕ) (g : Tables) (read : Accepts text w s p g) (buf
       go : Ways g.weights g.starts g.preds buffer
           → Given (table_rows (graph_of (length g.weights) g.starts g.preds)) n d
           ⊎ ((n ≡ wrong_length) × (d ≡ 0) × (length buffer < length (text_of g)))
-      go (checked m x e q) = inl (of-tables (((graph-follows engine g.weights g.starts g.preds).refuses n d).0 (ap answer_says e ∙ (rw q at said))))
+      go (checked why e q) = inl (of-tables (((graph-follows engine g.weights g.starts g.preds).refuses n d).0 (ap answer_says e ∙ (rw q at said))))
       go (undummied f q) = true-and-false (read-dummies text w s p g read) f
       go (crowded _ l q) = let same : refused wrong_length 0 ≡ refused n d = rw q at said in inr (cc, cc, l)
       go (put _ _ _ q) = absurd (subst Acceptance (rw q at said) tt)

@@ -10,16 +10,14 @@ use lib.ListN.{length, get_or, set, take, drop, length-append, length-set}
 use lib.Seq.{length-take-le}
 use lib.Dec.{eqb, leb}
 use borrow.Author.Tests.{eq-eqb, ne_eqb, le-leb, lt-leb}
+use Rattle.std.specs.Prelude.{Err, Ok}
+use Rattle.task.specs.declared.refusal.Refusal.{Refusal}
+use Rattle.task.specs.declared.refusal.Refusal.TheVariants.{BeyondLimit, WrongLength}
 use Rattle.lists.proofs.Prefixes.{take_more, take-store}
-use Rattle.task.specs.Refusals.{wrong_length, beyond_limit}
-use Rattle.task.specs.declared.ReadAnswer.{ReadAnswer}
-use Rattle.task.specs.declared.ReadAnswer.TheVariants.{Refused, Accepted}
+use Rattle.task.specs.Refusals.{ReadAnswer}
 use Rattle.layout.specs.Tasks.{Task, weights_of, starts_from, starts_of, preds_of, edges_of}
-use Rattle.layout.specs.Reader.{lines, row_of, task_of, numbered, contents, Verdict}
-use Rattle.layout.specs.Reader.{broken, over, more, headed, verdict}
-use Rattle.layout.specs.Reader.{read_as, onto, laid, lent_fit, read_text}
-use Rattle.layout.specs.Scan.{row_at, rest_at, NextLine, NextContent, content, no-content, FirstFound}
-use Rattle.layout.specs.Scan.{first, not_first, Outcome, tasks-read, line-broken, limit-passed, weight_count, start_count, pred_count, due_from}
+use Rattle.layout.specs.Reader.{lines, row_of, task_of, numbered, contents, Verdict, broken, over, more, headed, verdict, read_as, onto, laid, lent_fit, read_text}
+use Rattle.layout.specs.Scan.{row_at, rest_at, NextLine, NextContent, content, no-content, FirstFound, first, not_first, Outcome, tasks-read, line-broken, limit-passed, weight_count, start_count, pred_count, due_from}
 use Rattle.layout.proofs.Clauses.{all_read, line_after, ends-early, one_more, not-headed, verdict-is}
 use Rattle.layout.proofs.Tables.{weights-snoc, preds-snoc, edges-snoc, starts-snoc}
 use Rattle.layout.proofs.Answers.{lent-room, laid-spelled, laid-broken, laid-over, read-wrong, read-long, read-judged}
@@ -115,7 +113,7 @@ module _ {v : Verdict} {text : List ℕ} {n : ℕ} {w s p : List ℕ} {at line t
     late (no-content h l q k) a b = absurd (omega (arith, a, h))
 
     -- nothing follows it
-    pub all_done : NextContent text at line place number → length text ≤ place → n ≤ t → Outcome v (Accepted n e) w s p
+    pub all_done : NextContent text at line place number → length text ≤ place → n ≤ t → Outcome v (Ok (n, e)) w s p
     all_done (content c h l r q k) a b = absurd (omega (arith, a, h))
     all_done (no-content h l q k) a b =
         let same : n ≡ t = omega (arith, f.due) in
@@ -235,10 +233,10 @@ copied words from old n e h = rw (e, size) refl
 abbrev pub Counted : ReadAnswer → ℕ → ℕ → ℕ → Type 0
 Counted r k l m = (k ≡ weight_count r) × ((l ≡ start_count r) × (m ≡ pred_count r))
 
-pub sizes-refused : (r : ReadAnswer) (n d : ℕ) → r ≡ Refused n d → Counted r 0 0 0
-sizes-refused r n d q = rw q (refl, (refl, refl))
+pub sizes-refused : (r : ReadAnswer) (why : Refusal) → r ≡ Err why → Counted r 0 0 0
+sizes-refused r why q = rw q (refl, (refl, refl))
 
-pub sizes-accepted : (r : ReadAnswer) (n e : ℕ) → r ≡ Accepted n e → Counted r n (n + 1) e
+pub sizes-accepted : (r : ReadAnswer) (n e : ℕ) → r ≡ Ok (n, e) → Counted r n (n + 1) e
 sizes-accepted r n e q = rw q (refl, (refl, refl))
 
 -- the scratch lists and the lent ones hold them
@@ -254,11 +252,11 @@ copy-room w s p f (line-broken l v q) (d, (e, g)) = rw (d, e, g, q) (omega arith
 copy-room w s p f (limit-passed v q) (d, (e, g)) = rw (d, e, g, q) (omega arith)
 
 module _ (text w s p : List ℕ) where
-  pub read-unfit : lent_fit w s p ≡ false → read_as (Refused wrong_length 0) w s p ≡ read_text text w s p
+  pub read-unfit : lent_fit w s p ≡ false → read_as (Err WrongLength) w s p ≡ read_text text w s p
   read-unfit f = sym (read-wrong text w s p f)
 
   module _ (f : lent_fit w s p ≡ true) where
-    pub read-over : 65536 < length text → read_as (Refused beyond_limit 0) w s p ≡ read_text text w s p
+    pub read-over : 65536 < length text → read_as (Err BeyondLimit) w s p ≡ read_text text w s p
     read-over h = sym (read-long text w s p f (lt-leb (length text) 65536 h))
 
     module _ (short : length text ≤ 65536) where

@@ -9,15 +9,15 @@ use native.Mathlib.Nat.{sub-zero}
 use lib.ListN.{length, get_or, take}
 use lib.Dec.{ltb, leb, eqb}
 use borrow.Author.Tests.{ltb-true, ltb-false, eqb-true, eqb-false, not-false}
+use Rattle.std.specs.Prelude.{Err, Ok}
+use Rattle.task.specs.declared.refusal.Refusal.{Refusal}
+use Rattle.task.specs.declared.refusal.Refusal.TheVariants as why
 use Rattle.lists.proofs.Told.{Told, told, le-told, eq-told, and-told, not-told}
 use Rattle.lists.proofs.Occurrences.{occ-nil}
 use Rattle.lists.proofs.Prefixes.{occ-early, inside}
 use Rattle.task.specs.Types.{engine}
-use Rattle.task.specs.Refusals.{refused, accepted, answer_says, write_says, refused_if, wrong_length, no_dummies}
+use Rattle.task.specs.Refusals.{refused, accepted, answer_says, write_says, refused_if, wrong_length, no_dummies, Answer}
 use Rattle.task.specs.Rows.{row, only, Acceptance, Follows}
-use Rattle.task.specs.declared.Answer.{Answer}
-use Rattle.task.specs.declared.Answer.TheVariants.{Refused, Accepted}
-use Rattle.task.specs.declared.WriteAnswer.TheVariants as write-answer
 use Rattle.task.proofs.Rows.{follows-none, test-row, follows_then, follows_values}
 use Rattle.graph.specs.Graph.{part, graph_of, Edge}
 use Rattle.graph.specs.Conditions.{GraphFits}
@@ -76,13 +76,13 @@ module _ (w s p : List ℕ) (fits : GraphFits engine w s p) where
 
 module _ (w s p text : List ℕ) where
   -- the two rows of the writer's own
-  own-follows : check_answer engine true true w s p ≡ Accepted
+  own-follows : check_answer engine true true w s p ≡ Ok tt
       → Follows (row no_dummies (only 0 (NoDummies w s p)) ∷ row wrong_length (only 0 (TooSmall w s p text)) ∷ [])
-      (answer_says (refused_if (not (dummies_fit w s)) no_dummies 0 (refused_if (ltb (length text) (length (text_of (tables w s p)))) wrong_length 0 Accepted)))
+      (answer_says (refused_if (not (dummies_fit w s)) why.NoDummies (refused_if (ltb (length text) (length (text_of (tables w s p)))) why.WrongLength (Ok tt))))
   own-follows e =
       let fits = (graph-accepted-iff engine w s p).0 (ap answer_says e) in
-      test-row (not (dummies_fit w s)) no_dummies 0 _ _ (not-told (dummies_fit w s) (dummies-told w s p fits)) (λ d.
-      test-row (ltb (length text) (length (text_of (tables w s p)))) wrong_length 0 _ _ (room-told w s p fits text (not-false (dummies_fit w s) d)) (λ _.
+      test-row (not (dummies_fit w s)) why.NoDummies _ _ (not-told (dummies_fit w s) (dummies-told w s p fits)) (λ d.
+      test-row (ltb (length text) (length (text_of (tables w s p)))) why.WrongLength _ _ (room-told w s p fits text (not-false (dummies_fit w s) d)) (λ _.
       follows-none accepted tt))
 
   answer-follows : Follows (writer_rows w s p text) (answer_says (write_answer w s p (length text)))
@@ -96,17 +96,17 @@ module _ (w s p text : List ℕ) where
     where
       go : (a : Answer) → Follows (writer_rows w s p text) (answer_says a)
           → Follows (writer_rows w s p text) (write_says (saved a (text_of (tables w s p)) text).answer)
-      go (Refused n d) f = f
-      go Accepted f = follows_values (writer_rows w s p text) _ _ f
+      go (Err why) f = f
+      go (Ok u) f = follows_values (writer_rows w s p text) _ _ f
 
   -- the four ways that a call can go
   pub data Ways : Type 0 where
-    checked : (n d : ℕ) → check_answer engine true true w s p ≡ Refused n d → write_text w s p text ≡ saved_as (write-answer.Refused n d) text → Ways
-    undummied : dummies_fit w s ≡ false → write_text w s p text ≡ saved_as (write-answer.Refused no_dummies 0) text → Ways
+    checked : (why : Refusal) → check_answer engine true true w s p ≡ Err why → write_text w s p text ≡ saved_as (Err why) text → Ways
+    undummied : dummies_fit w s ≡ false → write_text w s p text ≡ saved_as (Err why.NoDummies) text → Ways
     crowded : GraphFits engine w s p → length text < length (text_of (tables w s p))
-        → write_text w s p text ≡ saved_as (write-answer.Refused wrong_length 0) text → Ways
+        → write_text w s p text ≡ saved_as (Err why.WrongLength) text → Ways
     put : GraphFits engine w s p → dummies_fit w s ≡ true → length (text_of (tables w s p)) ≤ length text
-        → write_text w s p text ≡ saved_as (write-answer.Accepted (length (text_of (tables w s p)))) (onto (text_of (tables w s p)) text) → Ways
+        → write_text w s p text ≡ saved_as (Ok (length (text_of (tables w s p)))) (onto (text_of (tables w s p)) text) → Ways
 
   pub ways : Ways
   unfolding write_text write_answer
@@ -114,11 +114,11 @@ module _ (w s p text : List ℕ) where
     where
       go : (c : Answer) → check_answer engine true true w s p ≡ c → (d : Bool) → dummies_fit w s ≡ d → (r : Bool)
           → ltb (length text) (length (text_of (tables w s p))) ≡ r → Ways
-      go (Refused n x) e d f r g = checked n x e (rw e refl)
-      go Accepted e false f r g = undummied f (rw (e, f) refl)
-      go Accepted e true f true g =
+      go (Err why) e d f r g = checked why e (rw e refl)
+      go (Ok u) e false f r g = undummied f (rw (e, f) refl)
+      go (Ok tt) e true f true g =
           crowded ((graph-accepted-iff engine w s p).0 (ap answer_says e)) (ltb-true (length text) (length (text_of (tables w s p))) g) (rw (e, f, g) refl)
-      go Accepted e true f false g =
+      go (Ok tt) e true f false g =
           put ((graph-accepted-iff engine w s p).0 (ap answer_says e)) f (ltb-false (length text) (length (text_of (tables w s p))) g) (rw (e, f, g) refl)
 
   -- PROMISE: "all lent memory keeps its words": the tables are lent shared, and the buffer is what it was
@@ -126,7 +126,7 @@ module _ (w s p text : List ℕ) where
   write-leaves n d e = go ways
     where
       go : Ways → (write_text w s p text).text ≡ text
-      go (checked _ _ _ q) = ap (λ x. x.text) q
+      go (checked _ _ q) = ap (λ x. x.text) q
       go (undummied _ q) = ap (λ x. x.text) q
       go (crowded _ _ q) = ap (λ x. x.text) q
       go (put _ _ _ q) = absurd (subst Acceptance (rw q at e) tt)

@@ -1,9 +1,8 @@
 -- What the reader answers and writes: "In the reader: 1, text length, then line by line 13, or after it in that line 2".
-use Rattle.std.specs.Prelude.{ℕ, zero, suc, ◌+◌, Bool, true, false, cond, not, ◌&&◌, ◌||◌, List, [], ◌∷◌, ◌++◌, length, drop, eqb, leb}
+use Rattle.task.specs.declared.refusal.Refusal.TheVariants.{BeyondLimit, BrokenLayout, WrongLength}
+use Rattle.std.specs.Prelude.{ℕ, zero, suc, ◌+◌, Bool, true, false, cond, not, ◌&&◌, ◌||◌, List, [], ◌∷◌, ◌++◌, length, drop, eqb, leb, Err, Ok}
 use Rattle.std.proofs.Math.Option.{Option, none, some}
-use Rattle.task.specs.Refusals.{wrong_length, beyond_limit, broken_layout}
-use Rattle.task.specs.declared.ReadAnswer.{ReadAnswer}
-use Rattle.task.specs.declared.ReadAnswer.TheVariants.{Refused, Accepted}
+use Rattle.task.specs.Refusals.{ReadAnswer}
 use Rattle.layout.specs.Marks.{tab, lf, cr, space, hash, digit0, digit9, Line, Numbers}
 use Rattle.layout.specs.Tasks.{Task, weights_of, starts_of, preds_of, edges_of}
 use Rattle.layout.specs.Layout.{decimal}
@@ -161,9 +160,9 @@ abbrev pub onto : List ℕ → List ℕ → List ℕ
 onto words old = words ++ drop (length words) old
 
 unfoldable pub laid : Verdict → List ℕ → List ℕ → List ℕ → Read
-laid (spelled xs) w s p = read_as (Accepted (length xs) (edges_of xs)) (onto (weights_of xs) w) (onto (starts_of xs) s) (onto (preds_of xs) p)
-laid (broken l) w s p = read_as (Refused broken_layout l) w s p
-laid over w s p = read_as (Refused beyond_limit 0) w s p
+laid (spelled xs) w s p = read_as (Ok (length xs, edges_of xs)) (onto (weights_of xs) w) (onto (starts_of xs) s) (onto (preds_of xs) p)
+laid (broken l) w s p = read_as (Err (BrokenLayout l)) w s p
+laid over w s p = read_as (Err BeyondLimit) w s p
 
 -- "The reader is lent 1,024, 1,025 and 8,192 words"
 abbrev pub lent_fit : List ℕ → List ℕ → List ℕ → Bool
@@ -173,5 +172,5 @@ lent_fit w s p = eqb (length w) 1024 && (eqb (length s) 1025 && eqb (length p) 8
 unfoldable pub read_text : List ℕ → List ℕ → List ℕ → List ℕ → Read
 read_text text w s p =
     cond (lent_fit w s p)
-    (cond (leb (length text) 65536) (laid (verdict text) w s p) (read_as (Refused beyond_limit 0) w s p))
-    (read_as (Refused wrong_length 0) w s p)
+    (cond (leb (length text) 65536) (laid (verdict text) w s p) (read_as (Err BeyondLimit) w s p))
+    (read_as (Err WrongLength) w s p)

@@ -1,10 +1,9 @@
 -- A text from a place on, as the reader's functions see it: the line that stands there, the text after that line's end, and the numbers of
 -- the line.
-use Rattle.std.specs.Prelude.{ℕ, suc, ◌+◌, ◌≤◌, ◌<◌, ◌≡◌, Bool, true, false, cond, ◌&&◌, ◌||◌, List, [], ◌∷◌, ◌++◌, length, take, drop, eqb}
+use Rattle.task.specs.declared.refusal.Refusal.TheVariants.{BeyondLimit, BrokenLayout}
+use Rattle.std.specs.Prelude.{ℕ, suc, ◌+◌, ◌≤◌, ◌<◌, ◌≡◌, Bool, true, false, cond, ◌&&◌, ◌||◌, List, [], ◌∷◌, ◌++◌, length, take, drop, eqb, Err, Ok}
 use Rattle.std.proofs.Math.Option.{Option, none, some}
-use Rattle.task.specs.Refusals.{beyond_limit, broken_layout}
-use Rattle.task.specs.declared.ReadAnswer.{ReadAnswer}
-use Rattle.task.specs.declared.ReadAnswer.TheVariants.{Refused, Accepted}
+use Rattle.task.specs.Refusals.{ReadAnswer}
 use Rattle.layout.specs.Marks.{lf, cr, Line, Numbers}
 use Rattle.layout.specs.Tasks.{Task, weights_of, starts_of, preds_of, edges_of}
 use Rattle.layout.specs.Reader.{starts_lf, lines, blank, trim, row_of, dummy_fits, task_of, numbered, contents, Verdict, spelled, broken, over, tasks_from}
@@ -131,19 +130,19 @@ pub record TablesIn (xs : List Task) (w s p : List ℕ) : Type 0 where
   pub room-p : length p ≡ 8193
 
 pub data Outcome (v : Verdict) (r : ReadAnswer) (w s p : List ℕ) : Type 0 where
-  tasks-read : (xs : List Task) → v ≡ spelled xs → r ≡ Accepted (length xs) (edges_of xs) → TablesIn xs w s p → Outcome v r w s p
-  line-broken : (l : ℕ) → v ≡ broken l → r ≡ Refused broken_layout l → Outcome v r w s p
-  limit-passed : v ≡ over → r ≡ Refused beyond_limit 0 → Outcome v r w s p
+  tasks-read : (xs : List Task) → v ≡ spelled xs → r ≡ Ok (length xs, edges_of xs) → TablesIn xs w s p → Outcome v r w s p
+  line-broken : (l : ℕ) → v ≡ broken l → r ≡ Err (BrokenLayout l) → Outcome v r w s p
+  limit-passed : v ≡ over → r ≡ Err BeyondLimit → Outcome v r w s p
 
 -- how many words of each list an answer writes: none where the text is refused
 abbrev pub weight_count : ReadAnswer → ℕ
-weight_count (Refused n d) = 0
-weight_count (Accepted n e) = n
+weight_count (Err why) = 0
+weight_count (Ok (n, e)) = n
 
 abbrev pub start_count : ReadAnswer → ℕ
-start_count (Refused n d) = 0
-start_count (Accepted n e) = n + 1
+start_count (Err why) = 0
+start_count (Ok (n, e)) = n + 1
 
 abbrev pub pred_count : ReadAnswer → ℕ
-pred_count (Refused n d) = 0
-pred_count (Accepted n e) = e
+pred_count (Err why) = 0
+pred_count (Ok (n, e)) = e

@@ -1,13 +1,10 @@
 -- "Save the job as a task text": what the writer answers and leaves. "It checks as begin does up to cycles first. Refused: 14, after 5, ..; a
 -- buffer too small is 1, last of all."
-use Rattle.std.specs.Prelude.{ℕ, ◌-◌, ◌<◌, ◌≤◌, ◌≡◌, Bool, true, not, ◌&&◌, ◌⊎◌, List, [], ◌∷◌, ◌++◌, length, get_or, take, drop, ltb, leb, eqb}
+use Rattle.task.specs.declared.refusal.Refusal.TheVariants as why
+use Rattle.std.specs.Prelude.{ℕ, ◌-◌, ◌<◌, ◌≤◌, ◌≡◌, Bool, true, not, ◌&&◌, ◌⊎◌, List, [], ◌∷◌, ◌++◌, length, get_or, take, drop, ltb, leb, eqb, Err, Ok}
 use Rattle.task.specs.Types.{engine}
-use Rattle.task.specs.Refusals.{wrong_length, no_dummies, refused_if, and_then}
+use Rattle.task.specs.Refusals.{wrong_length, no_dummies, refused_if, and_then, Answer, WriteAnswer}
 use Rattle.task.specs.Rows.{Refusal, row, only}
-use Rattle.task.specs.declared.Answer.{Answer}
-use Rattle.task.specs.declared.Answer.TheVariants as answer
-use Rattle.task.specs.declared.WriteAnswer.{WriteAnswer}
-use Rattle.task.specs.declared.WriteAnswer.TheVariants as write-answer
 use Rattle.graph.specs.Graph.{graph_of, Edge}
 use Rattle.graph.specs.Check.{check_answer}
 use Rattle.graph.specs.Tables.{check_rows}
@@ -24,9 +21,9 @@ dummies_fit w s = leb 2 (length w) && (eqb (get_or w 0 0) 0 && (eqb (get_or s 1 
 unfoldable pub write_answer : (weights starts preds : List ℕ) → (room : ℕ) → Answer
 write_answer w s p room =
     and_then (check_answer engine true true w s p)
-    (refused_if (not (dummies_fit w s)) no_dummies 0
-    (refused_if (ltb room (length (text_of (tables w s p)))) wrong_length 0
-    answer.Accepted))
+    (refused_if (not (dummies_fit w s)) why.NoDummies
+    (refused_if (ltb room (length (text_of (tables w s p)))) why.WrongLength
+    (Ok tt)))
 
 -- the writer's answer and the buffer
 pub record Saved : Type 0 where
@@ -38,8 +35,8 @@ saved_as a t = record { answer = a; text = t }
 
 -- "says how many bytes it used; bytes beyond stay"
 abbrev pub saved : Answer → (bytes old : List ℕ) → Saved
-saved (answer.Refused n d) bytes old = saved_as (write-answer.Refused n d) old
-saved answer.Accepted bytes old = saved_as (write-answer.Accepted (length bytes)) (onto bytes old)
+saved (Err why) bytes old = saved_as (Err why) old
+saved (Ok u) bytes old = saved_as (Ok (length bytes)) (onto bytes old)
 
 unfoldable pub write_text : (weights starts preds text : List ℕ) → Saved
 write_text w s p text = saved (write_answer w s p (length text)) (text_of (tables w s p)) text

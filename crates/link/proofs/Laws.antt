@@ -6,11 +6,11 @@ use mathlib.Core.Logic.{inl, inr}
 use mathlib.Core.List.{List}
 use native.Mathlib.Decide.{ℕ_discrete}
 use lib.ListN.{length}
+use Rattle.std.specs.Prelude.{Err, Ok}
+use Rattle.task.specs.declared.refusal.Refusal.{Refusal}
 use Rattle.lists.proofs.Decided.{stable}
-use Rattle.task.specs.Refusals.{answer_says}
+use Rattle.task.specs.Refusals.{answer_says, Answer}
 use Rattle.task.specs.declared.Limits.{Limits}
-use Rattle.task.specs.declared.Answer.{Answer}
-use Rattle.task.specs.declared.Answer.TheVariants.{Refused, Accepted}
 use Rattle.graph.specs.Graph.{graph_of}
 use Rattle.graph.specs.Conditions.{Sound, GraphFits}
 use Rattle.graph.specs.Check.{check_answer}
@@ -23,11 +23,11 @@ module _ (limits : Limits) (weights starts preds s w d : List ℕ) (a : Answer) 
   unfolding link_answer
   answers = sym ha
 
-  pub link-refused : (n x : ℕ) → a ≡ Refused n x → linked_of a s w d ≡ linked limits weights starts preds s w d
+  pub link-refused : (why : Refusal) → a ≡ Err why → linked_of (Err why) s w d ≡ linked limits weights starts preds s w d
   unfolding linked
-  link-refused n x e = rw (answers, e)
+  link-refused why e = rw (answers, e)
 
-  module _ (e : a ≡ Accepted) where
+  module _ (e : a ≡ Ok tt) where
     fits : (¬ (Unfit weights preds s w d)) × GraphFits limits weights starts preds
     fits = (link-accepted-iff limits weights starts preds s w d).0 (ap answer_says (answers ∙ e))
 
@@ -45,6 +45,6 @@ module _ (limits : Limits) (weights starts preds s w d : List ℕ) (a : Answer) 
     )
 
     pub link-filled : (s' w' d' : List ℕ) → s' ≡ succ_starts_of (graph_of (length weights) starts preds) → w' ≡ succ_words (graph_of (length weights) starts preds) → d' ≡ degree_list (graph_of (length weights) starts preds)
-        → linked_of a s' w' d' ≡ linked limits weights starts preds s w d
+        → linked_of (Ok tt) s' w' d' ≡ linked limits weights starts preds s w d
     unfolding linked
     link-filled s' w' d' p q r = rw (answers, e, p, q, r)

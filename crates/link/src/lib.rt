@@ -24,10 +24,7 @@ pub fn link_graph(
     let fit = (succ_starts.len() == n + 1) & ((succs.len() == preds.len()) & (degrees.len() == n));
     let mut order = [0u32; 1024];
     let check = graph_check::check_graph(limits, true, fit, weights, starts, preds, &mut order);
-    let answer = check.answer;
-    let Answer::Accepted = answer else {
-        return answer;
-    };
+    check.answer?;
     successors::fill(n, starts, preds, succ_starts, succs, degrees);
-    answer
+    Ok(())
 }

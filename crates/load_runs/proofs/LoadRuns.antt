@@ -8,6 +8,7 @@ use native.Mathlib.Omega.{arith}
 use native.Mathlib.Decide.{ℕ_discrete, dec_lt}
 use lib.ListN.{length, get_or, take, drop, replicate, length-drop}
 use lib.Seq.{take-suc, get_or-drop}
+use Rattle.std.specs.Prelude.{Err, Ok}
 use Rattle.lists.specs.Lists.{occ, tabulate}
 use Rattle.lists.specs.Sums.{sum_to, sum_of}
 use Rattle.lists.proofs.Blocks.{get_d_tabulate, tabulate-snoc}
@@ -16,10 +17,8 @@ use Rattle.lists.proofs.Occurrences.{at-occ}
 use Rattle.lists.proofs.Sums.{sum_same, sum_of-snoc, sum_of-all}
 use Rattle.task.specs.Types.{nil, capped}
 use Rattle.task.specs.Entries.{Entry}
-use Rattle.task.specs.Refusals.{Said, refused, accepted, damaged, answer_says}
+use Rattle.task.specs.Refusals.{Said, refused, accepted, damaged, answer_says, Answer}
 use Rattle.task.specs.Rows.{Given, Acceptance, Follows}
-use Rattle.task.specs.declared.Answer.{Answer}
-use Rattle.task.specs.declared.Answer.TheVariants.{Refused, Accepted}
 use Rattle.task.specs.declared.Limits.{Limits}
 use Rattle.system.specs.Stages.{places}
 use Rattle.rules.specs.Memory.{Mem, tasks, weight_in, entries_in}
@@ -75,8 +74,8 @@ words-at (e ∷ es) rest (suc x) h =
     two-more-one x = omega arith
 
 accepted-said : (a : Answer) → Acceptance (answer_says a) → answer_says a ≡ accepted
-accepted-said (Refused n d) h = absurd h
-accepted-said Accepted h = refl
+accepted-said (Err why) h = absurd h
+accepted-said (Ok u) h = refl
 
 module _ (r : Run) where
   abbrev now : Mem

@@ -11,6 +11,8 @@ use lib.ListN.{length, get_or, drop, length-append, get_or-append}
 use lib.Seq.{get_or-take, get_or-drop, get_or_at}
 use lib.Dec.{ltb}
 use borrow.Author.Tests.{ltb-true, ltb-false}
+use Rattle.std.specs.Prelude.{Err, Ok}
+use Rattle.task.specs.declared.refusal.Refusal.TheVariants.{BadWindow, BeyondLimit, Damaged, WrongLength}
 use Rattle.lists.specs.Lists.{joined}
 use Rattle.lists.specs.Sums.{sum_to}
 use Rattle.lists.proofs.Blocks.{length-tabulate, get_d_tabulate, block_at}
@@ -18,11 +20,9 @@ use Rattle.lists.proofs.Decided.{stable}
 use Rattle.lists.proofs.Sums.{length-joined, sum_same}
 use Rattle.lists.proofs.Told.{Told, told, told-true, told-false, lt-told, le-told, eq-told, and-told, not-told, and-true}
 use Rattle.task.specs.Types.{capped}
-use Rattle.task.specs.Refusals.{refused, accepted, answer_says, wrong_length, beyond_limit, damaged, bad_window}
+use Rattle.task.specs.Refusals.{refused, accepted, answer_says, Answer}
 use Rattle.task.specs.Rows.{Acceptance, Follows}
 use Rattle.task.specs.declared.Limits.{Limits}
-use Rattle.task.specs.declared.Answer.{Answer}
-use Rattle.task.specs.declared.Answer.TheVariants.{Refused, Accepted}
 use Rattle.task.proofs.Rows.{follows-none, test-row}
 use Rattle.loads.specs.Windows.{task_at, worker_at, weight_at, entries_word, load_in, window_sums, spread_of, with_spread, window_words, window_count, windows, counts_fit, entry_fits, record_fits, Recorded, Spans, windows_answer, shown, window_loads, BadEntry, window_rows, Spread, ShowsLoads, ShowsWhole}
 use Rattle.loads.proofs.Sums.{load-most, load-whole, window-adds}
@@ -201,14 +201,14 @@ module _ (limits : Limits) (p m : ℕ) (weights executed run results : List ℕ)
       (answer_says (windows_answer limits p m weights executed run (length results)))
   unfolding windows_answer counts_fit
   answer-follows =
-      test-row _ beyond_limit 0 _ _
+      test-row _ BeyondLimit _ _
       (not-told _ (and-told _ _ (le-told (length weights) (capped limits).tasks) (and-told _ _ (le-told 1 p) (le-told p (capped limits).workers))))
       (λ _.
-      test-row _ wrong_length 0 _ _ (not-told _ (and-told _ _ (eq-told (length executed) (2 * length weights)) (eq-told (length run) 2))) (λ _.
-      test-row _ damaged 0 _ _ (over-told (length weights) (entries_word run)) (λ _.
-      test-row _ bad_window 0 _ _ (not-told _ (and-told _ _ (le-told 1 m) (le-told m (entries_word run)))) (λ _.
-      test-row _ wrong_length 0 _ _ (not-told _ (eq-told (length results) (window_count (entries_word run) m * (p + 1)))) (λ _.
-      test-row _ damaged 0 _ _ (not-told _ (record-told p weights executed (entries_word run))) (λ _.
+      test-row _ WrongLength _ _ (not-told _ (and-told _ _ (eq-told (length executed) (2 * length weights)) (eq-told (length run) 2))) (λ _.
+      test-row _ Damaged _ _ (over-told (length weights) (entries_word run)) (λ _.
+      test-row _ BadWindow _ _ (not-told _ (and-told _ _ (le-told 1 m) (le-told m (entries_word run)))) (λ _.
+      test-row _ WrongLength _ _ (not-told _ (eq-told (length results) (window_count (entries_word run) m * (p + 1)))) (λ _.
+      test-row _ Damaged _ _ (not-told _ (record-told p weights executed (entries_word run))) (λ _.
       follows-none accepted tt))))))
 
   -- what an accepted answer says of the lent lists
@@ -217,7 +217,7 @@ module _ (limits : Limits) (p m : ℕ) (weights executed run results : List ℕ)
     pub words : length run ≡ 2
     pub room : length results ≡ window_count (entries_word run) m * (p + 1)
 
-  pub admitted : windows_answer limits p m weights executed run (length results) ≡ Accepted → Admitted
+  pub admitted : windows_answer limits p m weights executed run (length results) ≡ Ok tt → Admitted
   unfolding capped
   admitted e =
       let (far, (long, (over, (odd, (short, (bad, end)))))) = answer-follows.accepts.0 (subst Acceptance (ap answer_says (sym e)) tt) in
@@ -248,8 +248,8 @@ module _ (limits : Limits) (p m : ℕ) (weights executed run results : List ℕ)
       go : (a : Answer) → Follows (window_rows limits p m weights executed run results) (answer_says a)
           → Follows (window_rows limits p m weights executed run results)
           (answer_says (shown a (windows p weights executed (entries_word run) m) results).answer)
-      go (Refused n d) f = f
-      go Accepted f = f
+      go (Err why) f = f
+      go (Ok u) f = f
 
   -- what the call comes to, by its answer
   pub call-is : (a : Answer) → windows_answer limits p m weights executed run (length results) ≡ a
@@ -264,8 +264,8 @@ module _ (limits : Limits) (p m : ℕ) (weights executed run results : List ℕ)
     where
       go : (a : Answer) → window_loads limits p m weights executed run results ≡ shown a (windows p weights executed (entries_word run) m) results
           → (window_loads limits p m weights executed run results).results ≡ results
-      go (Refused x y) q = ap (λ l. l.results) q
-      go Accepted q = absurd (subst Acceptance (rw q at e) tt)
+      go (Err why) q = ap (λ l. l.results) q
+      go (Ok u) q = absurd (subst Acceptance (rw q at e) tt)
 
   -- PROMISE: an accepted call shows the loads of every window in order
   pub windows-shown : answer_says (window_loads limits p m weights executed run results).answer ≡ accepted
@@ -275,8 +275,8 @@ module _ (limits : Limits) (p m : ℕ) (weights executed run results : List ℕ)
       go : (a : Answer) → windows_answer limits p m weights executed run (length results) ≡ a
           → window_loads limits p m weights executed run results ≡ shown a (windows p weights executed (entries_word run) m) results
           → ShowsLoads p m weights executed run (window_loads limits p m weights executed run results).results
-      go (Refused x y) f q = absurd (subst Acceptance (sym (rw q at e)) tt)
-      go Accepted f q = rw q (windows-show p m weights executed run (admitted f).spans)
+      go (Err why) f q = absurd (subst Acceptance (sym (rw q at e)) tt)
+      go (Ok u) f q = rw q (windows-show p m weights executed run (admitted f).spans)
 
 -- PROMISE: with m = entries the loads are each worker's whole; without entries m is refused, so no such call is accepted
 pub windows-whole : (limits : Limits) (p : ℕ) (weights executed run results : List ℕ)

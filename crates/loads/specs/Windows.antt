@@ -1,14 +1,13 @@
 -- "Load over the last tiles": "for every run of m neighbouring record entries, the weight each worker finished and the spread from smallest to
 -- largest."
-use Rattle.std.specs.Prelude.{ℕ, zero, suc, ◌+◌, ◌-◌, ◌*◌, ◌≤◌, ◌<◌, min, max, ◌≡◌, Bool, true, cond, not, ◌&&◌, ◌⊎◌, List, [], ◌∷◌, ◌++◌, length, get_or, ltb, leb, eqb}
+use Rattle.task.specs.declared.refusal.Refusal.TheVariants.{BadWindow, BeyondLimit, Damaged, WrongLength}
+use Rattle.std.specs.Prelude.{ℕ, zero, suc, ◌+◌, ◌-◌, ◌*◌, ◌≤◌, ◌<◌, min, max, ◌≡◌, Bool, true, cond, not, ◌&&◌, ◌⊎◌, List, [], ◌∷◌, ◌++◌, length, get_or, ltb, leb, eqb, Err, Ok}
 use Rattle.lists.specs.Lists.{joined, tabulate}
 use Rattle.lists.specs.Sums.{sum_to}
 use Rattle.task.specs.Types.{capped}
-use Rattle.task.specs.Refusals.{wrong_length, beyond_limit, damaged, bad_window, refused_if}
+use Rattle.task.specs.Refusals.{wrong_length, beyond_limit, damaged, bad_window, refused_if, Answer}
 use Rattle.task.specs.Rows.{Refusal, row, only}
 use Rattle.task.specs.declared.Limits.{Limits}
-use Rattle.task.specs.declared.Answer.{Answer}
-use Rattle.task.specs.declared.Answer.TheVariants as answer
 
 -- "Execution record 2N (task, worker).": entry x, and the weight of its task
 abbrev pub task_at : List ℕ → ℕ → ℕ
@@ -101,13 +100,13 @@ pub record Spans (p : ℕ) (weights executed : List ℕ) (entries m : ℕ) : Typ
 -- over N are 8 before 15"
 unfoldable pub windows_answer : Limits → (p m : ℕ) → (weights executed run : List ℕ) → (room : ℕ) → Answer
 windows_answer limits p m weights executed run room =
-    refused_if (not (counts_fit limits p (length weights))) beyond_limit 0
-    (refused_if (not (eqb (length executed) (2 * length weights) && eqb (length run) 2)) wrong_length 0
-    (refused_if (ltb (length weights) (entries_word run)) damaged 0
-    (refused_if (not (leb 1 m && leb m (entries_word run))) bad_window 0
-    (refused_if (not (eqb room (window_count (entries_word run) m * (p + 1)))) wrong_length 0
-    (refused_if (not (record_fits p weights executed (entries_word run))) damaged 0
-    answer.Accepted)))))
+    refused_if (not (counts_fit limits p (length weights))) BeyondLimit
+    (refused_if (not (eqb (length executed) (2 * length weights) && eqb (length run) 2)) WrongLength
+    (refused_if (ltb (length weights) (entries_word run)) Damaged
+    (refused_if (not (leb 1 m && leb m (entries_word run))) BadWindow
+    (refused_if (not (eqb room (window_count (entries_word run) m * (p + 1)))) WrongLength
+    (refused_if (not (record_fits p weights executed (entries_word run))) Damaged
+    (Ok tt))))))
 
 -- the answer and the result words
 pub record Shown : Type 0 where
@@ -118,8 +117,8 @@ abbrev pub shown_as : Answer → List ℕ → Shown
 shown_as a words = record { answer = a; results = words }
 
 abbrev pub shown : Answer → (words old : List ℕ) → Shown
-shown (answer.Refused n d) words old = shown_as (answer.Refused n d) old
-shown answer.Accepted words old = shown_as answer.Accepted words
+shown (Err why) words old = shown_as (Err why) old
+shown (Ok u) words old = shown_as (Ok tt) words
 
 -- the call; "a call that they add answers acceptance alone where nothing is stated"
 unfoldable pub window_loads : Limits → (p m : ℕ) → (weights executed run results : List ℕ) → Shown

@@ -7,12 +7,13 @@ use native.Mathlib.Omega.{arith}
 use lib.ListN.{length, get_or}
 use lib.Dec.{ltb, eqb}
 use borrow.Author.Tests.{lt-ltb, le-ltb, eqb-true, not-true, not-false}
+use Rattle.std.specs.Prelude.{Err, Ok}
+use Rattle.task.specs.declared.refusal.Refusal.{Refusal}
+use Rattle.task.specs.declared.refusal.Refusal.TheVariants.{BadTable, BeyondLimit, WrongLength}
 use Rattle.lists.specs.Decided.{holds}
 use Rattle.lists.proofs.Told.{and-true}
 use Rattle.task.specs.Types.{engine}
 use Rattle.task.specs.declared.Limits.{Limits}
-use Rattle.task.specs.declared.Answer.{Answer}
-use Rattle.task.specs.declared.Answer.TheVariants.{Refused, Accepted}
 use Rattle.task.specs.declared.Side.{Side}
 use Rattle.task.specs.declared.Side.TheVariants.{Predecessors, Successors}
 use Rattle.graph.specs.Graph.{part}
@@ -20,7 +21,7 @@ use Rattle.graph.specs.Decide.{good?}
 use Rattle.graph.specs.Check.{sizes_fit}
 use Rattle.graph.specs.Lookup.{Lent, starts_on, words_on, lengths_fit, task_fits, judge_answer, neighbours_of, LookupFits}
 use Rattle.graph.proofs.Lookup.{judge-accepts, lookup-part}
-use Rattle.task.specs.Refusals.{answer_says}
+use Rattle.task.specs.Refusals.{answer_says, Answer}
 use Rattle.lookup.specs.Place.{word_ptr, table_ptr, InPlace}
 
 module _ (n t : ℕ) where
@@ -47,31 +48,31 @@ module _ (side : Side) (l : Lent) (t : ℕ) (limits : Limits) (is : limits ≡ e
   fit : sizes_fit engine (length l.weights) (length l.preds) ≡ ok
   fit = ap (λ (x : Limits). sizes_fit x (length l.weights) (length l.preds)) (sym is) ∙ sym h
 
-  pub judge-beyond : not ok ≡ true → Refused 2 0 ≡ judge_answer side l t
+  pub judge-beyond : not ok ≡ true → Err BeyondLimit ≡ judge_answer side l t
   unfolding judge_answer
   judge-beyond e = simp (fit, not-true ok e)
 
   module _ (e : not ok ≡ false) where
-    pub judge-lengths : not (lengths_fit l) ≡ true → Refused 1 0 ≡ judge_answer side l t
+    pub judge-lengths : not (lengths_fit l) ≡ true → Err WrongLength ≡ judge_answer side l t
     unfolding judge_answer
     judge-lengths g = simp (fit, not-false ok e, not-true (lengths_fit l) g)
 
     module _ (g : not (lengths_fit l) ≡ false) (f : Bool) (p : f ≡ task_fits side l t) where
-      pub judge-task : not f ≡ true → Refused 3 t ≡ judge_answer side l t
+      pub judge-task : not f ≡ true → Err (BadTable t) ≡ judge_answer side l t
       unfolding judge_answer
       judge-task q = simp (fit, not-false ok e, not-false (lengths_fit l) g, sym p, not-true f q)
 
-      pub judge-accepted : not f ≡ false → Accepted ≡ judge_answer side l t
+      pub judge-accepted : not f ≡ false → Ok tt ≡ judge_answer side l t
       unfolding judge_answer
       judge-accepted q = simp (fit, not-false ok e, not-false (lengths_fit l) g, sym p, not-false f q)
 
 -- what the lookup hands back, by what the judging call answers; the tables begin at preds and succs
 module _ (side : Side) (l : Lent) (t : ℕ) (r : Answer) (h : r ≡ judge_answer side l t) where
-  pub handed-nothing : (preds succs p : ℕ × ℕ) (n d : ℕ) → r ≡ Refused n d → ([] ≡ neighbours_of side l t) × InPlace side l preds succs t p
+  pub handed-nothing : (preds succs p : ℕ × ℕ) (why : Refusal) → r ≡ Err why → ([] ≡ neighbours_of side l t) × InPlace side l preds succs t p
   unfolding neighbours_of
-  handed-nothing preds succs p n d e = (rw (sym h ∙ e), λ a. absurd (let z : ◌≡◌ {A = ℕ} 0 1 = cc in omega arith))
+  handed-nothing preds succs p why e = (rw (sym h ∙ e), λ a. absurd (let z : ◌≡◌ {A = ℕ} 0 1 = cc in omega arith))
 
-  module _ (e : r ≡ Accepted) where
+  module _ (e : r ≡ Ok tt) where
     fits : LookupFits side l t
     fits = (judge-accepts side l t).0 (ap answer_says (sym h ∙ e))
 

@@ -1,7 +1,6 @@
 -- "handed back as that part of the predecessor or the successor table itself": where the part begins. A pointer is a block and an
 -- offset in bytes.
-use Rattle.std.specs.Prelude.{ℕ, ◌+◌, ◌*◌, ◌≡◌, get_or}
-use Rattle.task.specs.declared.Answer.TheVariants.{Accepted}
+use Rattle.std.specs.Prelude.{ℕ, ◌+◌, ◌*◌, ◌≡◌, get_or, Ok}
 use Rattle.task.specs.declared.Side.{Side}
 use Rattle.task.specs.declared.Side.TheVariants.{Predecessors, Successors}
 use Rattle.graph.specs.Lookup.{Lent, starts_on, judge_answer}
@@ -17,4 +16,4 @@ table_ptr Successors preds succs = succs
 
 -- an accepted lookup's part begins at p: with the task's range in the table on the side named, the tables beginning at preds and succs
 abbrev pub InPlace : Side → Lent → ℕ × ℕ → ℕ × ℕ → ℕ → ℕ × ℕ → Type 0
-InPlace side l preds succs t p = judge_answer side l t ≡ Accepted → p ≡ word_ptr (table_ptr side preds succs) (get_or (starts_on side l) t 0)
+InPlace side l preds succs t p = judge_answer side l t ≡ Ok tt → p ≡ word_ptr (table_ptr side preds succs) (get_or (starts_on side l) t 0)

@@ -8,7 +8,7 @@ ghost use Rattle.graph.specs.Decide.{good?};
 ghost use Rattle.graph.specs.Lookup.{lent_of, task_fits, judge_answer, neighbours_of};
 ghost use Rattle.lookup.specs.Place.{word_ptr, InPlace};
 
-use task::{Answer, Limits, Side, TaskId, refusal};
+use task::{Answer, Limits, Refusal, Side, TaskId};
 
 // Whether t is one of the n tasks and its part of the table is good.
 fn task_fits(n: usize, starts: &[u32], words: &[u32], t: usize) -> bool
@@ -58,10 +58,10 @@ pub fn judge(
     let n = weights.len();
     let e = preds.len();
     if !tables::sizes_fit(Limits::engine(), n, e) {
-        return Answer::Refused(refusal::BEYOND_LIMIT, 0);
+        return Err(Refusal::BeyondLimit);
     }
     if !((pred_starts.len() == n + 1) & ((succ_starts.len() == n + 1) & (succs.len() == e))) {
-        return Answer::Refused(refusal::WRONG_LENGTH, 0);
+        return Err(Refusal::WrongLength);
     }
     let t = task.0;
     if !side_fits(
@@ -73,9 +73,9 @@ pub fn judge(
         side,
         t as usize,
     ) {
-        return Answer::Refused(refusal::BAD_TABLE, t);
+        return Err(Refusal::BadTable(t));
     }
-    Answer::Accepted
+    Ok(())
 }
 
 // Task t's part of a table in which its range is good.
@@ -107,7 +107,7 @@ pub fn neighbours<'a>(
         succ_starts.now succs.now) preds.entry.ref_ptr succs.entry.ref_ptr task.0 result.ref_ptr }
 {
     let answer = judge(weights, pred_starts, preds, succ_starts, succs, side, task);
-    let Answer::Accepted = answer else {
+    let Ok(()) = answer else {
         return &preds[0..0];
     };
     let t = task.0 as usize;

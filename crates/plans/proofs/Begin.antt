@@ -9,15 +9,15 @@ use native.Mathlib.Decide.{ℕ_discrete, dec_le}
 use lib.ListN.{length}
 use lib.Dec.{ltb}
 use borrow.Author.Tests.{ltb-true, ltb-false}
+use Rattle.std.specs.Prelude.{Err, Ok}
+use Rattle.task.specs.declared.refusal.Refusal.TheVariants.{TooManyRoots}
 use Rattle.lists.proofs.Apart.{true-and-false, unequal}
 use Rattle.lists.proofs.Decided.{stable}
 use Rattle.lists.proofs.Told.{told, neither, told-pass}
-use Rattle.task.specs.Refusals.{refused, accepted, answer_says, too_many_roots}
+use Rattle.task.specs.Refusals.{refused, accepted, answer_says, too_many_roots, Answer}
 use Rattle.task.specs.Rows.{Refusal, row, only, Clear, Follows}
 use Rattle.task.proofs.Rows.{follows-none, follows_then, follows_same, clear-parts, same_rows, test-row}
 use Rattle.task.specs.declared.Limits.{Limits}
-use Rattle.task.specs.declared.Answer.{Answer}
-use Rattle.task.specs.declared.Answer.TheVariants.{Refused, Accepted}
 use Rattle.graph.specs.Conditions.{GraphFits}
 use Rattle.graph.specs.Check.{check_answer}
 use Rattle.graph.specs.Successors.{roots}
@@ -57,7 +57,7 @@ module _ {F : Family} (limits : Limits) (p k : ℕ) (m : Mem F) where
   unfolding roots_answer
   roots-follow =
       rw (sym (length-roots (graph_in m)))
-      (test-row (ltb (p * capacity k) found) too_many_roots found [] Accepted
+      (test-row (ltb (p * capacity k) found) (TooManyRoots found) [] (Ok tt)
       (told (ltb (p * capacity k) found)
       (λ e. omega (arith, ltb-true (p * capacity k) found e, room))
       (λ e h. omega (arith, ltb-false (p * capacity k) found e, room)))
@@ -144,15 +144,15 @@ answer-accepted limits p k m = (
 -- an accepted begin leaves what it lays down
 pub accepted-leaves : {F : Family} (a : Answer) (begun m : Mem F) → answer_says (begin_result a begun m).answer ≡ accepted
     → (begin_result a begun m).memory ≡ begun
-accepted-leaves Accepted begun m e = refl
-accepted-leaves (Refused n d) begun m e = unequal cc
+accepted-leaves (Ok u) begun m e = refl
+accepted-leaves (Err why) begun m e = unequal cc
 
 -- begin answers so, whatever it leaves, and a refused one leaves all lent memory as it was
 module _ {F : Family} (begun m : Mem F) where
   pub result_answers : (a : Answer) → (begin_result a begun m).answer ≡ a
-  result_answers (Refused n d) = refl
-  result_answers Accepted = refl
+  result_answers (Err why) = refl
+  result_answers (Ok u) = refl
 
   pub result-refused : (a : Answer) (n d : ℕ) → answer_says (begin_result a begun m).answer ≡ refused n d → (begin_result a begun m).memory ≡ m
-  result-refused (Refused x y) n d e = refl
-  result-refused Accepted n d e = unequal cc
+  result-refused (Err why) n d e = refl
+  result-refused (Ok u) n d e = unequal cc

@@ -4,7 +4,8 @@ use mathlib.Core.Path.{◌≡◌, refl}
 use mathlib.Core.Bool.{true, false}
 use mathlib.Core.List.{[], ◌∷◌}
 use lib.IntN.{pos, negsuc}
-use Rattle.task.specs.declared.Answer.TheVariants.{Refused, Accepted}
+use Rattle.std.specs.Prelude.{Err, Ok}
+use Rattle.task.specs.declared.refusal.Refusal.TheVariants.{TooManyRoots}
 use Rattle.ring.specs.Ring.{slot_at, ends_at}
 use Rattle.memory.specs.Memory.{Mem, mem_of}
 use Rattle.memory.proofs.Examples.{pair, row_of, pairs, small}
@@ -45,8 +46,8 @@ pub record Examples : Type 0 where
   pub range : (range_fits forked 0 ≡ true) × (range_fits small 0 ≡ true)
   pub weight : weight_fits forked 2 ≡ true
   -- a refused begin leaves the memory, an accepted one what is laid down
-  pub refused : (begin_result (Refused 6 5) forked small).memory ≡ small
-  pub begins : (begin_result Accepted forked small).memory ≡ forked
+  pub refused : (begin_result (Err (TooManyRoots 5)) forked small).memory ≡ small
+  pub begins : (begin_result (Ok tt) forked small).memory ≡ forked
 
 pub examples : Examples
 unfolding slot_at ends_at

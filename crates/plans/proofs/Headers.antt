@@ -10,12 +10,13 @@ use native.Mathlib.Nat.{min-le_right}
 use lib.ListN.{length}
 use lib.Dec.{leb, eqb}
 use borrow.Author.Tests.{ltb-true, lt-ltb, eq-eqb, eqb-true}
+use Rattle.task.specs.declared.refusal.Refusal.TheVariants.{BeyondLimit, NoSuchWorker, WrongLength}
 use Rattle.lists.proofs.Apart.{true-and-false}
 use Rattle.lists.proofs.Decided.{stable}
 use Rattle.lists.proofs.Told.{Told, told, le-told, lt-told, and-told, and-true, told-yes, told-pass}
 use Rattle.task.specs.Types.{engine, capped}
 use Rattle.task.specs.Phases.{suits, next_phase}
-use Rattle.task.specs.Refusals.{Said, beyond_limit, wrong_length, no_such_worker}
+use Rattle.task.specs.Refusals.{Said}
 use Rattle.task.specs.Rows.{Refusal}
 use Rattle.task.specs.declared.Limits.{Limits}
 use Rattle.task.specs.declared.Step.{Step}
@@ -111,9 +112,9 @@ module _ {F : Family} {O U : Type 0} (limits : Limits) (p k i : ℕ) (s : Step) 
   pub headed-follows : (says : O → Said) (own : List Refusal) → (Fits limits p k m → i < p → PlanFollows says own rule)
       → PlanFollows says (headed_rows limits p k i s m own) (headed limits p k i s m rule)
   headed-follows says own f =
-      require-row says _ beyond_limit 0 _ _ (limits-told limits p k m) (λ e.
-      require-row says _ wrong_length 0 _ _ (lengths-told p k m) (λ q.
-      require-row says _ no_such_worker i _ _ (lt-told i p) (λ h.
+      require-row says _ BeyondLimit _ _ (limits-told limits p k m) (λ e.
+      require-row says _ WrongLength _ _ (lengths-told p k m) (λ q.
+      require-row says _ (NoSuchWorker i) _ _ (lt-told i p) (λ h.
       checked-row says _ _ _ (le-told (phase_in m i) 2) (λ _.
       suited-row says (phase_in m i) s _ _ (f (fits-are limits p k m e q) (ltb-true i p h))))))
 

@@ -1,9 +1,8 @@
 -- Begin's answer: the checks "2, 1, 3, 4, 5, 6".
-use Rattle.std.specs.Prelude.{ℕ, ◌*◌, length, ltb}
-use Rattle.task.specs.Refusals.{too_many_roots, refused_if, and_then}
+use Rattle.task.specs.declared.refusal.Refusal.TheVariants.{TooManyRoots}
+use Rattle.std.specs.Prelude.{ℕ, ◌*◌, length, ltb, Err, Ok}
+use Rattle.task.specs.Refusals.{refused_if, and_then, Answer}
 use Rattle.task.specs.declared.Limits.{Limits}
-use Rattle.task.specs.declared.Answer.{Answer}
-use Rattle.task.specs.declared.Answer.TheVariants.{Refused, Accepted}
 use Rattle.graph.specs.Check.{check_answer}
 use Rattle.graph.specs.Successors.{roots}
 use Rattle.ring.specs.Ring.{capacity}
@@ -16,7 +15,7 @@ use Rattle.plans.specs.Plans.{Result}
 module _ {F : Family} where
   -- 6: "The roots' limit becomes P·K."; the detail is "their number"
   unfoldable pub roots_answer : ℕ → ℕ → Mem F → Answer
-  roots_answer p k m = refused_if (ltb (p * capacity k) (length (roots (graph_in m)))) too_many_roots (length (roots (graph_in m))) Accepted
+  roots_answer p k m = refused_if (ltb (p * capacity k) (length (roots (graph_in m)))) (TooManyRoots (length (roots (graph_in m)))) (Ok tt)
 
   unfoldable pub begin_answer : Limits → ℕ → ℕ → Mem F → Answer
   begin_answer limits p k m =
@@ -24,5 +23,5 @@ module _ {F : Family} where
 
   -- a refused begin leaves the memory as it was; `begun` is what an accepted one leaves
   abbrev pub begin_result : Answer → Mem F → Mem F → Result (Mem F) Answer
-  begin_result (Refused n d) begun m = record { answer = Refused n d; memory = m }
-  begin_result Accepted begun m = record { answer = Accepted; memory = begun }
+  begin_result (Err why) begun m = record { answer = Err why; memory = m }
+  begin_result (Ok u) begun m = record { answer = Ok tt; memory = begun }

@@ -1,7 +1,7 @@
 -- "In a step: 2, 1, 7, phase word (8), 9; then the step's rule is followed from its first sentence".
+use Rattle.task.specs.declared.refusal.Refusal.TheVariants.{BeyondLimit, NoSuchWorker, WrongLength}
 use Rattle.std.specs.Prelude.{ℕ, ◌&&◌, ltb}
 use Rattle.task.specs.Phases.{next_phase}
-use Rattle.task.specs.Refusals.{beyond_limit, wrong_length, no_such_worker}
 use Rattle.task.specs.declared.Limits.{Limits}
 use Rattle.task.specs.declared.Step.{Step}
 use Rattle.graph.specs.Check.{sizes_fit}
@@ -14,9 +14,9 @@ use Rattle.plans.specs.Plans.{Plan, require, checked, suited}
 
 abbrev pub headed : {F : Family} {O U : Type 0} → Limits → ℕ → ℕ → ℕ → Step → Mem F → Plan O U → Plan O U
 headed limits p k i step m rule =
-    require (numbers_fit limits p k && sizes_fit limits (tasks m) (edges m)) beyond_limit 0
-    (require (lengths_fit p k m) wrong_length 0
-    (require (ltb i p) no_such_worker i
+    require (numbers_fit limits p k && sizes_fit limits (tasks m) (edges m)) BeyondLimit
+    (require (lengths_fit p k m) WrongLength
+    (require (ltb i p) (NoSuchWorker i)
     (checked (phase_fits (phase_in m i))
     (suited (next_phase (phase_in m i) step) (phase_in m i)
     rule))))

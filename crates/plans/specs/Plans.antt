@@ -1,30 +1,29 @@
 -- A step reads and checks everything, and then it writes: a plan says which. O is what an accepted step answers, U an update.
-use Rattle.std.specs.Prelude.{ℕ, Bool, cond, List}
-use Rattle.task.specs.Refusals.{damaged, wrong_phase}
-use Rattle.task.specs.declared.Next.{Next}
-use Rattle.task.specs.declared.Next.TheVariants as next
+use Rattle.task.specs.declared.refusal.Refusal.{Refusal}
+use Rattle.task.specs.declared.refusal.Refusal.TheVariants.{Damaged, WrongPhase}
+use Rattle.std.specs.Prelude.{ℕ, Bool, cond, List, Option, Some, None}
 
 pub data Plan (O U : Type 0) : Type 0 where
-  refuse : (number detail : ℕ) → Plan O U
+  refuse : Refusal → Plan O U
   accept : O → List U → Plan O U
 
 module _ {O U : Type 0} where
   -- refused where the test fails
-  abbrev pub require : Bool → ℕ → ℕ → Plan O U → Plan O U
-  require test n d rest = cond test rest (refuse n d)
+  abbrev pub require : Bool → Refusal → Plan O U → Plan O U
+  require test why rest = cond test rest (refuse why)
 
   -- refused where the test holds
-  abbrev pub refuse_if : Bool → ℕ → ℕ → Plan O U → Plan O U
-  refuse_if test n d rest = cond test (refuse n d) rest
+  abbrev pub refuse_if : Bool → Refusal → Plan O U → Plan O U
+  refuse_if test why rest = cond test (refuse why) rest
 
   -- a word that is read must be in its range, else it is "a damaged word": 8, detail 0
   abbrev pub checked : Bool → Plan O U → Plan O U
-  checked fits rest = require fits damaged 0 rest
+  checked fits rest = require fits Damaged rest
 
   -- 9: "step doesn't suit the phase"; the detail is the phase. The phase that a step leads to stands in the row that it writes.
-  abbrev pub suited : Next → ℕ → Plan O U → Plan O U
-  suited next.Refused phase rest = refuse wrong_phase phase
-  suited (next.To q) phase rest = rest
+  abbrev pub suited : Option ℕ → ℕ → Plan O U → Plan O U
+  suited None phase rest = refuse (WrongPhase phase)
+  suited (Some q) phase rest = rest
 
 -- a call's answer, and the memory M that it leaves
 pub record Result (M A : Type 0) : Type 0 where

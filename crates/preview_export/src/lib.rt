@@ -12,7 +12,7 @@ ghost use Rattle.replies.specs.Replies.{reply_of, step_reply_of};
 ghost use Rattle.engine_export.specs.Replies.{replied};
 
 use replies::{Reply, StepReply};
-use task::{Limits, RowCell, StepAnswer, WorkerId};
+use task::{Limits, RowCell, WorkerId};
 
 #[unsafe(no_mangle)]
 pub extern "C" fn yolluvek_preview_begin(
@@ -113,8 +113,8 @@ pub extern "C" fn yolluvek_preview_fetch(
         k,
         WorkerId(worker),
     );
-    if let StepAnswer::Refused(number, detail) = answer {
-        return replies::refused(number, detail);
+    if let Err(why) = answer {
+        return replies::refused(why);
     }
     replies::step_reply_of(answer)
 }
@@ -168,8 +168,8 @@ pub extern "C" fn yolluvek_preview_start(
         k,
         WorkerId(worker),
     );
-    if let StepAnswer::Refused(number, detail) = answer {
-        return replies::refused(number, detail);
+    if let Err(why) = answer {
+        return replies::refused(why);
     }
     replies::step_reply_of(answer)
 }
@@ -223,8 +223,8 @@ pub extern "C" fn yolluvek_preview_complete(
         k,
         WorkerId(worker),
     );
-    if let StepAnswer::Refused(number, detail) = answer {
-        return replies::refused(number, detail);
+    if let Err(why) = answer {
+        return replies::refused(why);
     }
     replies::step_reply_of(answer)
 }
@@ -278,8 +278,8 @@ pub extern "C" fn yolluvek_preview_release(
         k,
         WorkerId(worker),
     );
-    if let StepAnswer::Refused(number, detail) = answer {
-        return replies::refused(number, detail);
+    if let Err(why) = answer {
+        return replies::refused(why);
     }
     replies::step_reply_of(answer)
 }

@@ -3,7 +3,6 @@ use Prim.Native.Nat.{ℕ, suc, ◌+◌, ◌-◌, ◌*◌, ◌≤◌, ◌<◌}
 use mathlib.Core.Path.{◌≡◌, ap}
 use mathlib.Core.List.{List, [], ◌∷◌}
 use native.Mathlib.Omega.{arith}
-use native.Mathlib.Nat.{sub-zero}
 use lib.ListN.{length, get_or}
 use Rattle.layout.specs.Marks.{lf, space}
 use Rattle.layout.specs.Digits.{digits_of}
@@ -11,7 +10,7 @@ use Rattle.layout.proofs.Digits.{digits-few}
 use Rattle.desk_rule.specs.Printed.{pair_line}
 use Rattle.desk_rule.specs.Output.{entry_lines}
 use Rattle.text_put.specs.Appending.{Appends}
-use Rattle.text_put.proofs.Laws.{appends-then, Underway, none_done, next-piece, all_done}
+use Rattle.text_put.proofs.Laws.{appends-then, Underway, next-piece, all_done}
 
 -- a word has at most ten digits
 pub ten-digits : (n : ℕ) → n < 4294967296 → length (digits_of n) ≤ 10
@@ -29,9 +28,6 @@ pair_put first second h k p s q e =
 module _ (at n : ℕ) (executed before : List ℕ) where
   abbrev pub EntriesPut : ℕ → List ℕ → ℕ → Type 0
   EntriesPut = Underway (entry_lines executed n 0) (λ x. entry_lines executed (n - x) x) at before
-
-  pub no-entries : EntriesPut 0 before at
-  no-entries = none_done _ (λ x. entry_lines executed (n - x) x) at before (rw (sub-zero n))
 
   module _ (x : ℕ) (out : List ℕ) (end : ℕ) (u : EntriesPut x out end) where
     pub next-entry : (t w : ℕ) (new : List ℕ) (r : ℕ) → x < n → t ≡ get_or executed (2 * x) 0 → w ≡ get_or executed (2 * x + 1) 0

@@ -32,11 +32,9 @@ pub fn put_entries(out: &mut [u8], at: usize, executed: &[u32], n: usize) -> usi
     ensures { Appends at (entry_lines executed.now n 0) out.old out.new result }
 {
     let mut end = at;
-    let mut x = 0;
-    while x < n {
+    for x in 0..n {
         let entry = entries::entry_at(executed, x);
         end = put_pair(out, end, entry.task.0, entry.worker.0);
-        x += 1;
     }
     end
 }

@@ -7,9 +7,8 @@ use lib.IntN.{ℤ}
 use Rattle.task.specs.Types.{idle}
 use Rattle.task.specs.declared.Row.{Row}
 use Rattle.rules.specs.Memory.{mem_of}
-use Rattle.admission.specs.Admission.{sizes_of, row_after, rows_after}
+use Rattle.admission.specs.Admission.{sizes_of, row_after, rows_after, Stepped}
 use Rattle.admission.specs.declared.Sizes.{Sizes}
-use Rattle.admission.specs.declared.Stepped.{Stepped}
 use Rattle.admission.proofs.Rows.{row-stored}
 
 module _ (w ps p' ss s d r e : List ℕ) (c : List ℤ) (b x n : List ℕ) (rows : List Row) where

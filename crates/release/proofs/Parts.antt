@@ -7,6 +7,7 @@ use native.Mathlib.Omega.{arith}
 use lib.ListN.{length, get_or, set}
 use lib.IntN.{ℤ, pos, ◌+ℤ◌}
 use borrow.Author.Tests.{eq-eqb, ne_eqb}
+use Rattle.std.specs.Prelude.{Ok}
 use Rattle.task.specs.declared.Ends.{Ends}
 use Rattle.task.specs.declared.Row.{Row}
 use Rattle.task.specs.declared.TaskId.{TaskId}
@@ -18,7 +19,6 @@ use Rattle.ring.proofs.Inside.{ring-inside}
 use Rattle.rules.specs.Memory.{with_places}
 use Rattle.rules.specs.Words.{counter_fits}
 use Rattle.rules.specs.Steps.{advanced}
-use Rattle.admission.specs.declared.Stepped.TheVariants.{Taken}
 use Rattle.release.specs.Release.{Words, words_of}
 use Rattle.release.specs.Parts.{advanced_row, Lowered, Placeable, Joined}
 
@@ -36,7 +36,7 @@ module _ (row : Row) (count read cursor : ℕ) where
 
 -- The degree stays above 0.
 pub lower-made : (row : Row) (t : TaskId) (count left accepted : ℕ) (d run : List ℕ) (after : Row) → after ≡ advanced_row count row
-    → Lowered row t count left accepted d run (set d t.0 left) (set run 1 (accepted + 1)) (Taken (Released (DegreeLeft left)) after)
+    → Lowered row t count left accepted d run (set d t.0 left) (set run 1 (accepted + 1)) (Ok ((Released (DegreeLeft left)), after))
 unfolding Lowered
 lower-made row t count left accepted d run after f = (refl, (refl, rw f refl))
 
@@ -56,6 +56,6 @@ module _ (p k i : ℕ) (row : Row) (t : TaskId) (count : ℕ) (o : WorkerId) (bo
       → (counters : List ℤ) → counters ≡ set x.counters y (get_or x.counters y (pos 0) +ℤ pos weight)
       → (after : Row) → after ≡ advanced_row count row
       → Joined p k i row t count o weight accepted x
-      (words_of (set x.degrees t.0 0) rings ends counters (set x.run 1 (accepted + 1))) (Taken (Released (Placed t o)) after)
+      (words_of (set x.degrees t.0 0) rings ends counters (set x.run 1 (accepted + 1))) (Ok ((Released (Placed t o)), after))
   unfolding Joined
   place-made rings ends hr counters hc after f = (refl, (rw (← made.0) hr, (rw (← made.0) hc, (refl, rw f refl))))

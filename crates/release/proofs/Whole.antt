@@ -6,13 +6,15 @@ use native.Mathlib.Omega.{arith}
 use native.Mathlib.Nat.{mul-le-mul_right, suc-mul}
 use lib.ListN.{length, get_or, set}
 use lib.IntN.{pos, ◌+ℤ◌}
+use Rattle.std.specs.Prelude.{Err, Ok}
+use Rattle.task.specs.Refusals.{Answer}
+use Rattle.task.specs.declared.refusal.Refusal.{Refusal}
 use Rattle.task.specs.declared.Ends.{Ends}
 use Rattle.task.specs.declared.Limits.{Limits}
 use Rattle.task.specs.declared.Row.{Row}
 use Rattle.task.specs.declared.TaskId.{TaskId}
 use Rattle.task.specs.declared.WorkerId.{WorkerId}
 use Rattle.task.specs.declared.Step.TheVariants.{Release}
-use Rattle.task.specs.declared.StepAnswer.TheVariants as answer
 use Rattle.task.specs.declared.StepOutcome.TheVariants.{Released}
 use Rattle.task.specs.declared.ReleaseOutcome.TheVariants.{DegreeLeft, Placed}
 use Rattle.ring.specs.Ring.{ends_at, Rings, rings_of, appended_at}
@@ -21,23 +23,16 @@ use Rattle.memory.specs.Updates.{updated, written}
 use Rattle.rules.specs.Memory.{Mem, all_steps, ring_number, row_in, with_hand}
 use Rattle.rules.specs.Plans.{result_of}
 use Rattle.rules.specs.Steps.{rule_of, step_plan}
-use Rattle.admission.specs.Admission.{sizes_of, Judges, Knows, Admits, Measured}
+use Rattle.admission.specs.Admission.{sizes_of, Judges, Knows, Admits, Measured, Admitted, Stepped}
 use Rattle.admission.specs.declared.Sizes.{Sizes}
-use Rattle.admission.specs.declared.Judged.{Judged}
-use Rattle.admission.specs.declared.Admitted.{Admitted}
-use Rattle.admission.specs.declared.Admitted.TheVariants as admitted
-use Rattle.admission.specs.declared.Stepped.{Stepped}
-use Rattle.admission.specs.declared.Stepped.TheVariants as stepped
 use Rattle.admission.proofs.Rows.{admission-entered, admission-measured, admission-refused, admission-enters, few-steps, refused-result, accepted-result}
 use Rattle.release_plan.specs.Picks.{Lowers, lowering}
-use Rattle.release_plan.specs.Plans.{Lists, lists_of, Measures, Holds, Joins, Writable, Decides, placing, plan_of}
-use Rattle.release_plan.specs.declared.ReleasePlan.{ReleasePlan}
-use Rattle.release_plan.specs.declared.ReleasePlan.TheVariants as plan
+use Rattle.release_plan.specs.Plans.{ReleasePlan, Lower, Place, Lists, lists_of, Measures, Holds, Joins, Writable, Decides, placing, plan_of}
 use Rattle.release.specs.Release.{Tables, Words, words_of, lent, Releases, ReadAndCursor, Lent}
 use Rattle.release.specs.Parts.{advanced_row, Lowerable, Lowered, Placeable, Joined}
 
 -- Release leads to the phase that it suits, so the admitted row is the worker's
-module _ (row : Row) (judged : Judged) (r : Admitted) (told : Admits row Release judged r) (after : Row) (v : r ≡ admitted.To after) where
+module _ (row : Row) (judged : Answer) (r : Admitted) (told : Admits row Release judged r) (after : Row) (v : r ≡ Ok after) where
   same_row : after ≡ row
   same_row =
       let (suited, led) = admission-entered row Release judged r told after v in
@@ -65,15 +60,15 @@ module _ (m : Mem) (t : Tables) (x : Words) (i : ℕ) (row : Row) (h : row_in m 
   unfolding written updated appended_at
   placed-memory p k s count o both e weight accepted = rw (← h, e) refl
 
-module _ (p k i : ℕ) (sizes : Sizes) (judged : Judged) (row : Row) (t : Tables) (x : Words) (r : Admitted) (told : Admits row Release judged r) where
-  pub whole-refused : (n d : ℕ) → r ≡ admitted.Refused n d → Releases p k i sizes judged row t x x (stepped.Refused n d)
+module _ (p k i : ℕ) (sizes : Sizes) (judged : Answer) (row : Row) (t : Tables) (x : Words) (r : Admitted) (told : Admits row Release judged r) where
+  pub whole-refused : (why : Refusal) → r ≡ Err why → Releases p k i sizes judged row t x x (Err why)
   unfolding Releases
-  whole-refused n d v limits m j e h =
-      refused-result limits p k i Release (lent m t x m.rows) n d
-      (admission-refused p k i sizes row Release limits (lent m t x m.rows) e h judged j r told n d v)
+  whole-refused why v limits m j e h =
+      refused-result limits p k i Release (lent m t x m.rows) why
+      (admission-refused p k i sizes row Release limits (lent m t x m.rows) e h judged j r told why v)
 
   -- the numbers and the lengths, as the parts ask for them
-  module _ (given : Knows p k i sizes judged × Lent sizes t x) (after : Row) (v : r ≡ admitted.To after) where
+  module _ (given : Knows p k i sizes judged × Lent sizes t x) (after : Row) (v : r ≡ Ok after) where
     measured : Measured p k i sizes
     measured = admission-measured p k i sizes row Release judged given.0 r told after v
 
@@ -146,14 +141,14 @@ module _ (p k i : ℕ) (sizes : Sizes) (judged : Judged) (row : Row) (t : Tables
         unfolding Decides
         writable = subst (Writable p k i steps after lists) c decided.1
 
-      pub whole-none : (n d : ℕ) → z ≡ plan.Refused n d → Releases p k i sizes judged row t x x (stepped.Refused n d)
+      pub whole-none : (why : Refusal) → z ≡ Err why → Releases p k i sizes judged row t x x (Err why)
       unfolding Releases
-      whole-none n d c limits m j e h =
-          refused-result limits p k i Release (lent m t x m.rows) n d (follows (plan.Refused n d) c limits m j e h)
+      whole-none why c limits m j e h =
+          refused-result limits p k i Release (lent m t x m.rows) why (follows (Err why) c limits m j e h)
 
-      module _ (s : TaskId) (count left accepted : ℕ) (c : z ≡ plan.Lower s count left accepted) where
+      module _ (s : TaskId) (count left accepted : ℕ) (c : z ≡ Lower s count left accepted) where
         lowers : Lowers steps after x.degrees x.run s.0 count left accepted
-        lowers = writable (plan.Lower s count left accepted) c
+        lowers = writable (Lower s count left accepted) c
 
         pub lower-ready : Lowerable after s.0 count accepted (length x.degrees) (length x.run)
         lower-ready = record { at = lowers.at; few = omega (arith, lowers.counts.room, steps-fit); run = lists-fit.run }
@@ -163,16 +158,13 @@ module _ (p k i : ℕ) (sizes : Sizes) (judged : Judged) (row : Row) (t : Tables
         unfolding Lowered Releases
         whole-lower d' run' y (hd, (hn, hy)) limits m j e h =
             rw (hd, hn, hy)
-            (ap (result_of (answer.Accepted (Released (DegreeLeft left)))) (lowered-memory m t x i after (row_is m e h) s.0 count left accepted)
-            ∙ accepted-result limits p k i Release (lent m t x m.rows) _ _ (follows (plan.Lower s count left accepted) c limits m j e h))
+            (ap (result_of (Ok (Released (DegreeLeft left)))) (lowered-memory m t x i after (row_is m e h) s.0 count left accepted)
+            ∙ accepted-result limits p k i Release (lent m t x m.rows) _ _ (follows (Lower s count left accepted) c limits m j e h))
 
-      module _ (s : TaskId) (count : ℕ) (o : WorkerId) (head tail queued weight accepted : ℕ)
-          (c : z ≡ plan.Place s count o head tail queued weight accepted) where
-        abbrev both : Ends
-        both = record { head = head; tail = tail; count = queued }
-
+      module _ (s : TaskId) (count : ℕ) (o : WorkerId) (both : Ends) (weight accepted : ℕ)
+          (c : z ≡ Place s count o both weight accepted) where
         joins : Joins p k i steps after lists s.0 count o.0 both weight accepted
-        joins = writable (plan.Place s count o head tail queued weight accepted) c
+        joins = writable (Place s count o both weight accepted) c
 
         pub place-ready : Placeable p k i after s.0 count o.0 both weight accepted x
         place-ready =
@@ -198,7 +190,7 @@ module _ (p k i : ℕ) (sizes : Sizes) (judged : Judged) (row : Row) (t : Tables
         unfolding Joined Releases
         whole-place x' y (hd, (hr, (hc, (hn, hy)))) limits m j e h =
             rw (hd, ap (λ (q : Rings ℕ). q.slots) hr, ap (λ (q : Rings ℕ). q.ends) hr, hc, hn, hy)
-            (ap (result_of (answer.Accepted (Released (Placed s o))))
+            (ap (result_of (Ok (Released (Placed s o))))
             (placed-memory m t x i after (row_is m e h) p k s.0 count o.0 both joins.ends weight accepted)
             ∙ accepted-result limits p k i Release (lent m t x m.rows) _ _
-            (follows (plan.Place s count o head tail queued weight accepted) c limits m j e h))
+            (follows (Place s count o both weight accepted) c limits m j e h))

@@ -1,5 +1,6 @@
 -- What the writes of Release ask for, and what they leave.
-use Rattle.std.specs.Prelude.{ℕ, ◌+◌, ◌≤◌, ◌<◌, ◌≡◌, true, List, length, get_or, set, pos, ◌+ℤ◌}
+use Rattle.std.specs.Prelude.{ℕ, ◌+◌, ◌≤◌, ◌<◌, ◌≡◌, true, List, length, get_or, set, pos, ◌+ℤ◌, Ok}
+use Rattle.admission.specs.Admission.{Stepped}
 use Rattle.task.specs.Types.{engine}
 use Rattle.task.specs.declared.Ends.{Ends}
 use Rattle.task.specs.declared.Row.{Row}
@@ -13,8 +14,6 @@ use Rattle.memory.specs.Shape.{fixed_length}
 use Rattle.rules.specs.Memory.{plain, ring_number, moved_to}
 use Rattle.rules.specs.Words.{counter_fits}
 use Rattle.rules.specs.Steps.{advanced}
-use Rattle.admission.specs.declared.Stepped.{Stepped}
-use Rattle.admission.specs.declared.Stepped.TheVariants.{Taken}
 use Rattle.release_plan.specs.Picks.{Cursor}
 use Rattle.release.specs.Release.{Words}
 
@@ -31,7 +30,7 @@ pub record Lowerable (r : Row) (t count accepted n words : ℕ) : Type 0 where
 -- the degree that is left, one step more, and the row after the successor
 unfoldable pub Lowered : Row → TaskId → (count left accepted : ℕ) → (d run d' run' : List ℕ) → Stepped → Type 0
 Lowered row t count left accepted d run d' run' r =
-    (d' ≡ set d t.0 left) × ((run' ≡ set run 1 (accepted + 1)) × (r ≡ Taken (Released (DegreeLeft left)) (advanced_row count row)))
+    (d' ≡ set d t.0 left) × ((run' ≡ set run 1 (accepted + 1)) × (r ≡ Ok (Released (DegreeLeft left), advanced_row count row)))
 
 -- the task can join the ring of owner o filled by worker i, whose ends are `both`, and its weight that ring's counter
 pub record Placeable (p k i : ℕ) (r : Row) (t count o : ℕ) (both : Ends) (weight accepted : ℕ) (x : Words) : Type 0 where
@@ -56,4 +55,4 @@ Joined p k i row t count o weight accepted x x' r =
     (x'.degrees ≡ set x.degrees t.0 0)
     × ((rings_of x'.rings x'.ends ≡ appended_at k (ring_number p o.0 i) t.0 (rings_of x.rings x.ends))
     × ((x'.counters ≡ set x.counters (ring_number p o.0 i) (get_or x.counters (ring_number p o.0 i) (pos 0) +ℤ pos weight))
-    × ((x'.run ≡ set x.run 1 (accepted + 1)) × (r ≡ Taken (Released (Placed t o)) (advanced_row count row)))))
+    × ((x'.run ≡ set x.run 1 (accepted + 1)) × (r ≡ Ok (Released (Placed t o), advanced_row count row)))))

@@ -1,5 +1,6 @@
 -- What Release by value does to the memory whose lists it is lent: worker i's row goes in and comes back.
-use Rattle.std.specs.Prelude.{ℕ, ◌≡◌, List, length, ℤ}
+use Rattle.std.specs.Prelude.{ℕ, ◌≡◌, List, length, ℤ, Err, Ok}
+use Rattle.task.specs.Refusals.{Answer}
 use Rattle.task.specs.declared.Limits.{Limits}
 use Rattle.task.specs.declared.Row.{Row}
 use Rattle.task.specs.declared.Step.TheVariants as step-name
@@ -8,11 +9,8 @@ use Rattle.memory.specs.Memory.{put}
 use Rattle.rules.specs.Memory.{Mem, row_in, with_places}
 use Rattle.rules.specs.Plans.{result_of}
 use Rattle.rules.specs.Steps.{step}
-use Rattle.admission.specs.Admission.{sizes_of, Judges, answer_of, rows_after}
+use Rattle.admission.specs.Admission.{sizes_of, Judges, answer_of, rows_after, Stepped}
 use Rattle.admission.specs.declared.Sizes.{Sizes}
-use Rattle.admission.specs.declared.Judged.{Judged}
-use Rattle.admission.specs.declared.Stepped.{Stepped}
-use Rattle.admission.specs.declared.Stepped.TheVariants.{Refused, Taken}
 
 -- the lists that Release reads alone
 pub record Tables : Type 0 where
@@ -50,15 +48,15 @@ lent m t x rows =
     (put list.rows rows m)))))))))
 
 -- whatever the other lists hold
-unfoldable pub Releases : ℕ → ℕ → ℕ → Sizes → Judged → Row → Tables → Words → Words → Stepped → Type 0
+unfoldable pub Releases : ℕ → ℕ → ℕ → Sizes → Answer → Row → Tables → Words → Words → Stepped → Type 0
 Releases p k i sizes judged row t x x' r =
     (limits : Limits) (m : Mem) → Judges limits p k i sizes judged → sizes_of (lent m t x m.rows) ≡ sizes → row_in m i ≡ row
     → result_of (answer_of r) (lent m t x' (rows_after m.rows i r)) ≡ step limits p k i step-name.Release (lent m t x m.rows)
 
 -- the row keeps its words but the read place and the cursor: Release leads to the phase that it suits
 abbrev pub ReadAndCursor : Row → Stepped → Type 0
-ReadAndCursor row (Refused n d) = Unit {0}
-ReadAndCursor row (Taken o after) = after ≡ with_places after.read row.write after.cursor row
+ReadAndCursor row (Err why) = Unit {0}
+ReadAndCursor row (Ok (o, after)) = after ≡ with_places after.read row.write after.cursor row
 
 -- the lists are of the lengths that `sizes` has for them
 pub record Lent (sizes : Sizes) (t : Tables) (x : Words) : Type 0 where

@@ -7,9 +7,9 @@ ghost use Rattle.admission.specs.Admission.{Knows};
 ghost use Rattle.release.specs.Release.{tables_of, words_of, Lent, Releases, ReadAndCursor};
 ghost use Rattle.release.specs.Parts.{advanced_row, Lowerable, Lowered, Placeable, Joined};
 
-use admission::{Admitted, Judged, Sizes, Stepped};
+use admission::{Sizes, Stepped};
 use release_plan::ReleasePlan;
-use task::{Ends, ReleaseOutcome, Row, Step, StepOutcome, TaskId, WorkerId};
+use task::{Answer, Ends, ReleaseOutcome, Row, Step, StepOutcome, TaskId, WorkerId};
 
 // The row after a successor: the cursor goes on, and after the last one the place of the oldest task.
 fn advanced(row: Row, count: u32) -> Row
@@ -23,15 +23,10 @@ fn advanced(row: Row, count: u32) -> Row
         read += 1;
         cursor = 0;
     }
-    let held = row.held;
-    let pointer = row.pointer;
     Row {
-        phase: row.phase,
-        held,
-        pointer,
         read,
-        write: row.write,
         cursor,
+        ..row
     }
 }
 
@@ -52,10 +47,10 @@ pub fn lower(
     let after = advanced(row, count);
     degrees[task.0 as usize] = left;
     run[1] = accepted + 1;
-    Stepped::Taken(
+    Ok((
         StepOutcome::Released(ReleaseOutcome::DegreeLeft(left)),
         after,
-    )
+    ))
 }
 
 // The writes where the task joins the ring of this owner that the worker fills; `both` are that ring's ends.
@@ -89,16 +84,16 @@ pub fn place(
     ring::append_in(rings, ends, k, ring, both, task);
     degrees[task.0 as usize] = 0;
     run[1] = accepted + 1;
-    Stepped::Taken(
+    Ok((
         StepOutcome::Released(ReleaseOutcome::Placed(task, owner)),
         after,
-    )
+    ))
 }
 
 // Release by a worker with this row, after what was judged; `sizes` are the lengths of all lent lists.
 pub fn release_row(
     sizes: Sizes,
-    judged: Judged,
+    judged: Answer,
     p: usize,
     k: usize,
     worker: WorkerId,
@@ -121,11 +116,7 @@ pub fn release_row(
         counters.new run.new) result }
     ensures read_and_cursor { ReadAndCursor row result }
 {
-    let admitted = admission::admit(judged, row, Step::Release);
-    let after = match admitted {
-        Admitted::Refused(number, detail) => return Stepped::Refused(number, detail),
-        Admitted::To(after) => after,
-    };
+    let after = admission::admit(judged, row, Step::Release)?;
     let steps = 3 * sizes.weights + sizes.preds;
     let plan = release_plan::plan_release(
         weights,
@@ -141,22 +132,14 @@ pub fn release_row(
         steps,
         worker,
         after,
-    );
+    )?;
     match plan {
-        ReleasePlan::Refused(number, detail) => Stepped::Refused(number, detail),
         ReleasePlan::Lower(task, count, left, accepted) => {
             lower(degrees, run, task, count, left, accepted, after)
         }
-        ReleasePlan::Place(task, count, owner, head, tail, queued, weight, accepted) => {
-            let both = Ends {
-                head,
-                tail,
-                count: queued,
-            };
-            place(
-                degrees, rings, ends, counters, run, p, k, worker, task, count, owner, both,
-                weight, accepted, after,
-            )
-        }
+        ReleasePlan::Place(task, count, owner, both, weight, accepted) => place(
+            degrees, rings, ends, counters, run, p, k, worker, task, count, owner, both, weight,
+            accepted, after,
+        ),
     }
 }

@@ -7,6 +7,9 @@ use native.Mathlib.Omega.{arith}
 use lib.ListN.{length, get_or}
 use lib.Dec.{ltb, leb, eqb}
 use borrow.Author.Tests.{ltb-true, le-leb, lt-leb, lt-ltb, le-ltb, eq-eqb, ne_eqb}
+use Rattle.std.specs.Prelude.{Err}
+use Rattle.task.specs.declared.refusal.Refusal.{Refusal}
+use Rattle.task.specs.declared.refusal.Refusal.TheVariants.{Damaged}
 use Rattle.task.specs.declared.Row.{Row}
 use Rattle.task.specs.declared.TaskId.{TaskId}
 use Rattle.task.specs.declared.StepOutcome.TheVariants.{Released}
@@ -15,12 +18,9 @@ use Rattle.rules.specs.Memory.{Mem, edges}
 use Rattle.rules.specs.Words.{accepted_fits}
 use Rattle.rules.specs.Plans.{Plan, refuse, accept, checked, counted}
 use Rattle.rules.specs.Steps.{release_waiting}
-use Rattle.release_plan.specs.Reach.{Successor, successor_of, reach_of, successor_at}
-use Rattle.release_plan.specs.Picks.{release_by, degree_of, Shows, Next, Cursor, lowering, Picked}
-use Rattle.release_plan.specs.declared.Reached.{Reached}
-use Rattle.release_plan.specs.declared.Reached.TheVariants as reach
-use Rattle.release_plan.specs.declared.Pick.{Pick}
-use Rattle.release_plan.specs.declared.Pick.TheVariants.{Refused, Waiting, Ready}
+use Rattle.release_plan.specs.Reach as reach
+use Rattle.release_plan.specs.Reach.{Reached, Successor, successor_of, reach_of, successor_at}
+use Rattle.release_plan.specs.Picks.{Pick, Waiting, Ready, release_by, degree_of, Shows, Next, Cursor, lowering, Picked}
 use Rattle.release_plan.proofs.Reach.{Reaches, reach-known, planned, planned-refused, planned-at, reach-plan}
 
 -- The tests of a degree, in their order.
@@ -28,7 +28,7 @@ module _ (steps : ℕ) (t : TaskId) (count : ℕ) (d run : List ℕ) where
   abbrev degree : ℕ
   degree = get_or d t.0 0
 
-  pub degree-none : degree ≡ 0 → Refused 8 0 ≡ degree_of steps t count d run
+  pub degree-none : degree ≡ 0 → Err Damaged ≡ degree_of steps t count d run
   unfolding degree_of
   degree-none e = rw (lt-leb 1 degree (omega arith)) refl
 
@@ -37,17 +37,17 @@ module _ (steps : ℕ) (t : TaskId) (count : ℕ) (d run : List ℕ) where
   degree-ready h l n = rw (le-leb 1 degree (omega arith), le-leb degree (length d) (omega arith), eq-eqb degree 1 (omega arith)) refl
 
   module _ (h : 2 ≤ degree) where
-    pub degree-over : length d < degree → Refused 8 0 ≡ degree_of steps t count d run
+    pub degree-over : length d < degree → Err Damaged ≡ degree_of steps t count d run
     unfolding degree_of
     degree-over l = rw (le-leb 1 degree (omega arith), lt-leb degree (length d) l) refl
 
     module _ (l : degree ≤ length d) where
       waiting : degree_of steps t count d run
-          ≡ cond (ltb (get_or run 1 0) steps) (Waiting t count (degree - 1) (get_or run 1 0)) (Refused 8 0)
+          ≡ cond (ltb (get_or run 1 0) steps) (Waiting t count (degree - 1) (get_or run 1 0)) (Err Damaged)
       unfolding degree_of
       waiting = rw (le-leb 1 degree (omega arith), le-leb degree (length d) l, ne_eqb degree 1 (λ e. absurd (omega arith))) refl
 
-      pub degree-full : steps ≤ get_or run 1 0 → Refused 8 0 ≡ degree_of steps t count d run
+      pub degree-full : steps ≤ get_or run 1 0 → Err Damaged ≡ degree_of steps t count d run
       degree-full a = sym (waiting ∙ rw (le-ltb (get_or run 1 0) steps a) refl)
 
       pub degree-waits : get_or run 1 0 < steps → Waiting t count (degree - 1) (get_or run 1 0) ≡ degree_of steps t count d run
@@ -78,8 +78,8 @@ module _ (i steps : ℕ) (r : Row) (ss s d b run : List ℕ) where
       lengths = rw v.succs v.edges
 
   module _ (z : Reached) (hz : z ≡ reached) where
-    pub pick-none : (n x : ℕ) → z ≡ reach.Refused n x → Picked i steps r ss s d b run (Refused n x)
-    pick-none n x e ready m v = rule-reads ready m v ∙ planned-refused reached _ n x (sym hz ∙ e)
+    pub pick-none : (why : Refusal) → z ≡ Err why → Picked i steps r ss s d b run (Err why)
+    pick-none why e ready m v = rule-reads ready m v ∙ planned-refused reached _ why (sym hz ∙ e)
 
     module _ (y : Successor) (e : z ≡ reach.At y.task y.completed y.count) where
       abbrev left : ℕ
@@ -111,7 +111,7 @@ module _ (i steps : ℕ) (r : Row) (ss s d b run : List ℕ) where
         unfolding release_waiting counted
         waits a = rw (counted-by ∙ a, (next m v).task, (next m v).count, v.row, v.degrees, v.run) refl
 
-        full : ltb (get_or run 1 0) steps ≡ false → release_waiting i m ≡ refuse 8 0
+        full : ltb (get_or run 1 0) steps ≡ false → release_waiting i m ≡ refuse Damaged
         unfolding release_waiting counted
         full a = rw (counted-by ∙ a) refl
 
@@ -121,7 +121,7 @@ module _ (i steps : ℕ) (r : Row) (ss s d b run : List ℕ) where
         where
           go : (b₁ b₂ b₃ : Bool) → within y ≡ b₁ → eqb (get_or d y.task.0 0) 1 ≡ b₂ → ltb (get_or run 1 0) steps ≡ b₃
               → Picked i steps r ss s d b run
-              (cond b₁ (cond b₂ (Ready y.task y.count) (cond b₃ (Waiting y.task y.count left (get_or run 1 0)) (Refused 8 0))) (Refused 8 0))
+              (cond b₁ (cond b₂ (Ready y.task y.count) (cond b₃ (Waiting y.task y.count left (get_or run 1 0)) (Err Damaged))) (Err Damaged))
           go false b₂ b₃ f q a = λ ready m v. goes ready m v ∙ rw f refl
           go true true b₃ f q a = record { at = at; next = next; follows = λ ready m v. goes ready m v ∙ rw (f, q) refl }
           go true false false f q a = λ ready m v. goes ready m v ∙ rw (f, q) (full m v a)

@@ -9,6 +9,9 @@ use lib.ListN.{length, get_or}
 use lib.Dec.{ltb, leb}
 use lib.IntN.{ℤ}
 use borrow.Author.Tests.{leb-true, ltb-true, le-leb, lt-leb, lt-ltb, le-ltb}
+use Rattle.std.specs.Prelude.{Err}
+use Rattle.task.specs.declared.refusal.Refusal.{Refusal}
+use Rattle.task.specs.declared.refusal.Refusal.TheVariants.{Damaged}
 use Rattle.task.specs.declared.Ends.{Ends}
 use Rattle.task.specs.declared.Row.{Row}
 use Rattle.task.specs.declared.TaskId.{TaskId}
@@ -20,32 +23,27 @@ use Rattle.rules.specs.Memory.{Mem, ring_number, successor}
 use Rattle.rules.specs.Words.{accepted_fits, weight_fits}
 use Rattle.rules.specs.Plans.{counted}
 use Rattle.rules.specs.Steps.{release_to, release_ready, release_rule}
-use Rattle.release_plan.specs.Picks.{release_by, Readies, Picked}
-use Rattle.release_plan.specs.Owners.{Takes, Owned}
-use Rattle.release_plan.specs.Plans.{release_at, place_of, plan_of, Meets, Lists, Measures, Holds, Plans, Writable, Decides}
-use Rattle.release_plan.specs.declared.Pick.{Pick}
-use Rattle.release_plan.specs.declared.Pick.TheVariants as pick
-use Rattle.release_plan.specs.declared.Owner.{Owner}
-use Rattle.release_plan.specs.declared.Owner.TheVariants as owner
-use Rattle.release_plan.specs.declared.ReleasePlan.{ReleasePlan}
-use Rattle.release_plan.specs.declared.ReleasePlan.TheVariants.{Refused, Lower, Place}
+use Rattle.release_plan.specs.Picks.{Pick, Waiting, Ready, release_by, Readies, Picked}
+use Rattle.release_plan.specs.Owners.{Owner, Takes, Owned}
+use Rattle.release_plan.specs.Owners as owner
+use Rattle.release_plan.specs.Plans.{ReleasePlan, Lower, Place, release_at, place_of, plan_of, Meets, Lists, Measures, Holds, Plans, Writable, Decides}
 
 -- A task that joins a ring.
 module _ (a : ℕ) (t : TaskId) (count : ℕ) (o : WorkerId) (both : Ends) (w run : List ℕ) where
   abbrev weight : ℕ
   weight = get_or w t.0 0
 
-  pub place-heavy : 65535 < weight → Refused 8 0 ≡ place_of a t count o both w run
+  pub place-heavy : 65535 < weight → Err Damaged ≡ place_of a t count o both w run
   unfolding place_of
   place-heavy h = rw (lt-leb weight 65535 h) refl
 
   module _ (light : weight ≤ 65535) where
-    pub place-full : a ≤ get_or run 1 0 → Refused 8 0 ≡ place_of a t count o both w run
+    pub place-full : a ≤ get_or run 1 0 → Err Damaged ≡ place_of a t count o both w run
     unfolding place_of
     place-full h = rw (le-leb weight 65535 light, le-ltb (get_or run 1 0) a h) refl
 
     pub place-made : get_or run 1 0 < a
-        → Place t count o both.head both.tail both.count weight (get_or run 1 0) ≡ place_of a t count o both w run
+        → Place t count o both weight (get_or run 1 0) ≡ place_of a t count o both w run
     unfolding place_of
     place-made h = rw (le-leb weight 65535 light, lt-ltb (get_or run 1 0) a h) refl
 
@@ -64,7 +62,7 @@ module _ (a : ℕ) (t : TaskId) (count : ℕ) (o : WorkerId) (both : Ends) (w ru
         go : (b₁ b₂ : Bool) → leb weight 65535 ≡ b₁ → ltb (get_or run 1 0) a ≡ b₂
             → release_at p k i o.0 m
             ≡ plan_of p k i r c
-            (cond b₁ (cond b₂ (Place t count o both.head both.tail both.count weight (get_or run 1 0)) (Refused 8 0)) (Refused 8 0))
+            (cond b₁ (cond b₂ (Place t count o both weight (get_or run 1 0)) (Err Damaged)) (Err Damaged))
         go false b₂ e f = rw (weighed-by ∙ e) refl
         go true false e f = rw (weighed-by ∙ e, counted-by ∙ f) refl
         go true true e f =
@@ -81,20 +79,20 @@ module _ (p k i a : ℕ) (r : Row) (x : Lists) (z : Pick)
   unfolding release_rule release_by
   by-own m = refl
 
-  pub decide-none : (n d : ℕ) → z ≡ pick.Refused n d → Decides p k i a r x (Refused n d)
+  pub decide-none : (why : Refusal) → z ≡ Err why → Decides p k i a r x (Err why)
   unfolding Decides
-  decide-none n d e = (λ m v. by-own m ∙ known (pick.Refused n d) e _ m v.shows, tt)
+  decide-none why e = (λ m v. by-own m ∙ known (Err why) e _ m v.shows, tt)
 
-  pub decide-lower : (t : TaskId) (count left accepted : ℕ) → z ≡ pick.Waiting t count left accepted
+  pub decide-lower : (t : TaskId) (count left accepted : ℕ) → z ≡ Waiting t count left accepted
       → Decides p k i a r x (Lower t count left accepted)
   unfolding Decides
   decide-lower t count left accepted e =
-      let waits = known (pick.Waiting t count left accepted) e in
+      let waits = known (Waiting t count left accepted) e in
       (λ m v. by-own m ∙ waits.follows _ m v.shows, waits.lowers)
 
-  module _ (t : TaskId) (count : ℕ) (e : z ≡ pick.Ready t count) where
+  module _ (t : TaskId) (count : ℕ) (e : z ≡ Ready t count) where
     readied : Readies i a r x.succ_starts x.succs x.degrees x.buffers x.run t count
-    readied = known (pick.Ready t count) e
+    readied = known (Ready t count) e
 
     pub ready-inside : Measures p k i x → t.0 < length x.weights
     ready-inside s = omega (arith, s.weights, readied.at.task)
@@ -107,11 +105,11 @@ module _ (p k i a : ℕ) (r : Row) (x : Lists) (z : Pick)
       found : (f' : Owner) → f ≡ f' → Owned p k i t.0 x.ends x.counters f'
       found f' q = subst (Owned p k i t.0 x.ends x.counters) q told
 
-      pub decide-nowhere : (n d : ℕ) → f ≡ owner.Refused n d → Decides p k i a r x (Refused n d)
+      pub decide-nowhere : (why : Refusal) → f ≡ Err why → Decides p k i a r x (Err why)
       unfolding Decides
-      decide-nowhere n d q = (
+      decide-nowhere why q = (
         λ m v. reaches m v
-            ∙ found (owner.Refused n d) q m (record { task = (readied.next m v.shows).task; ends = v.ends; counters = v.counters }),
+            ∙ found (Err why) q m (record { task = (readied.next m v.shows).task; ends = v.ends; counters = v.counters }),
         tt,
       )
 
@@ -151,8 +149,8 @@ module _ (p k i a : ℕ) (r : Row) (x : Lists) (z : Pick)
           where
             go : (b₁ b₂ : Bool) → leb (get_or x.weights t.0 0) 65535 ≡ b₁ → ltb (get_or x.run 1 0) a ≡ b₂
                 → Writable p k i a r x
-                (cond b₁ (cond b₂ (Place t count o both.head both.tail both.count (get_or x.weights t.0 0) (get_or x.run 1 0)) (Refused 8 0))
-                (Refused 8 0))
+                (cond b₁ (cond b₂ (Place t count o both (get_or x.weights t.0 0) (get_or x.run 1 0)) (Err Damaged))
+                (Err Damaged))
             go false b₂ u w = tt
             go true false u w = tt
             go true true u w =

@@ -7,19 +7,19 @@ use native.Mathlib.Omega.{arith}
 use lib.ListN.{length}
 use lib.Dec.{ltb, leb, eqb}
 use borrow.Author.Tests.{leb-true, ltb-true, eqb-false, le-leb, lt-leb, lt-ltb, le-ltb, eq-eqb, ne_eqb}
+use Rattle.std.specs.Prelude.{Err}
+use Rattle.task.specs.declared.refusal.Refusal.{Refusal}
+use Rattle.task.specs.declared.refusal.Refusal.TheVariants.{Damaged, NothingThere}
 use Rattle.lists.proofs.Apart.{unequal}
 use Rattle.lists.proofs.Told.{and-true, and-false}
-use Rattle.task.specs.Refusals.{nothing_there}
 use Rattle.task.specs.declared.TaskId.{TaskId}
 use Rattle.memory.specs.Family.{Family}
 use Rattle.memory.specs.Memory.{Mem}
 use Rattle.plans.specs.Memory.{tasks, edges, places_in, oldest, successor, first_succ, past_succ}
 use Rattle.plans.specs.Words.{task_fits, places_fit, cursor_fits, range_fits}
 use Rattle.plans.specs.Plans.{Plan, refuse, refuse_if, checked}
-use Rattle.release_plan.specs.Reach.{Successor, successor_of, within, reach_of, successor_at}
+use Rattle.release_plan.specs.Reach.{Reached, At, Successor, successor_of, within, reach_of, successor_at}
 use Rattle.release_plan.specs.Reach as words
-use Rattle.release_plan.specs.declared.Reached.{Reached}
-use Rattle.release_plan.specs.declared.Reached.TheVariants.{Refused, At}
 
 -- both parts of a test that passed, and a test of which both parts pass
 both : (a b c d : ℕ) → (leb a b && leb c d) ≡ true → (a ≤ b) × (c ≤ d)
@@ -33,7 +33,7 @@ fail a b c d f = and-false (leb a b) (leb c d) (λ e. lt-leb c d (f (leb-true a 
 
 -- the successor that was reached
 abbrev successor_in : Successor → Reached → Successor
-successor_in y (Refused n d) = y
+successor_in y (Err why) = y
 successor_in y (At t done count) = successor_of t done count
 
 module _ (i n read write cursor : ℕ) (ss s b : List ℕ) where
@@ -62,21 +62,21 @@ module _ (i n read write cursor : ℕ) (ss s b : List ℕ) where
   abbrev there : Successor
   there = successor_at i n read write cursor ss s b
 
-  pub reach-write : n < write → Refused 8 0 ≡ reached
+  pub reach-write : n < write → Err Damaged ≡ reached
   unfolding reach_of
   reach-write e = rw (fail read write write n (λ q. e)) refl
 
-  pub reach-places : write < read → Refused 8 0 ≡ reached
+  pub reach-places : write < read → Err Damaged ≡ reached
   unfolding reach_of
   reach-places e = rw (fail read write write n (λ q. absurd (omega arith))) refl
 
   module _ (w : write ≤ n) where
-    pub reach-empty : read ≡ write → Refused 10 0 ≡ reached
+    pub reach-empty : read ≡ write → Err NothingThere ≡ reached
     unfolding reach_of
     reach-empty e = rw (hold read write write n (omega arith) w, eq-eqb read write e) refl
 
     module _ (f : read < write) where
-      pub reach-task : n ≤ t → Refused 8 0 ≡ reached
+      pub reach-task : n ≤ t → Err Damaged ≡ reached
       unfolding reach_of
       reach-task e = rw (hold read write write n (omega arith) w, ne_eqb read write (λ q. absurd (omega arith)), le-ltb t n e) refl
 
@@ -86,18 +86,18 @@ module _ (i n read write cursor : ℕ) (ss s b : List ℕ) where
         unfolding reach_of
         up-to-range = rw (hold read write write n (omega arith) w, ne_eqb read write (λ q. absurd (omega arith)), lt-ltb t n h) refl
 
-        pub reach-past : length s < past → Refused 8 0 ≡ reached
+        pub reach-past : length s < past → Err Damaged ≡ reached
         reach-past e = sym (up-to-range ∙ rw (fail first past past (length s) (λ q. e)) refl)
 
-        pub reach-first : past < first → Refused 8 0 ≡ reached
+        pub reach-first : past < first → Err Damaged ≡ reached
         reach-first e = sym (up-to-range ∙ rw (fail first past past (length s) (λ q. absurd (omega arith))) refl)
 
         module _ (g : past ≤ length s) (l : first ≤ past) where
-          pub reach-cursor : past - first ≤ cursor → Refused 8 0 ≡ reached
+          pub reach-cursor : past - first ≤ cursor → Err Damaged ≡ reached
           reach-cursor e = sym (up-to-range ∙ rw (hold first past past (length s) l g, le-ltb cursor (past - first) e) refl)
 
           module _ (c : cursor < past - first) where
-            pub reach-word : n ≤ x → Refused 8 0 ≡ reached
+            pub reach-word : n ≤ x → Err Damaged ≡ reached
             reach-word e =
                 sym (up-to-range ∙ rw (hold first past past (length s) l g, lt-ltb cursor (past - first) c, le-ltb x n e) refl)
 
@@ -130,7 +130,7 @@ module _ (i n read write cursor : ℕ) (ss s b : List ℕ) where
 
       go : (b₁ b₂ b₃ b₄ b₅ b₆ : Bool) → places ≡ b₁ → eqb read write ≡ b₂ → ltb cursor (past - first) ≡ b₅ → ltb x n ≡ b₆
           → within b₁
-          (cond b₂ (Refused nothing_there 0) (within b₃ (within b₄ (within b₅ (within b₆ (At there.task there.completed there.count))))))
+          (cond b₂ (Err NothingThere) (within b₃ (within b₄ (within b₅ (within b₆ (At there.task there.completed there.count))))))
           ≡ At y.task y.completed y.count
           → Reaches y
       go false b₂ b₃ b₄ b₅ b₆ p e c w q = unequal cc
@@ -146,11 +146,11 @@ module _ (i n read write cursor : ℕ) (ss s b : List ℕ) where
 
 -- a plan that goes on once a successor is reached
 abbrev pub planned : {O U : Type 0} → Reached → Plan O U → Plan O U
-planned (Refused n d) rest = refuse n d
+planned (Err why) rest = refuse why
 planned (At t done count) rest = rest
 
-pub planned-refused : {O U : Type 0} (z : Reached) (rest : Plan O U) (n d : ℕ) → z ≡ Refused n d → planned z rest ≡ refuse n d
-planned-refused z rest n d e = rw e refl
+pub planned-refused : {O U : Type 0} (z : Reached) (rest : Plan O U) (why : Refusal) → z ≡ Err why → planned z rest ≡ refuse why
+planned-refused z rest why e = rw e refl
 
 pub planned-at : {O U : Type 0} (z : Reached) (rest : Plan O U) (y : Successor) → z ≡ At y.task y.completed y.count → planned z rest ≡ rest
 planned-at z rest y e = rw e refl
@@ -164,7 +164,7 @@ module _ {F : Family} (i : ℕ) (m : Mem F) where
   -- the tests with which the Release of every family begins
   pub reach-plan : {O U : Type 0} → edges m ≡ length m.succs → (rest : Plan O U)
       → checked (places_fit m (places_in m i).read (places_in m i).write)
-      (refuse_if (eqb (places_in m i).read (places_in m i).write) nothing_there 0
+      (refuse_if (eqb (places_in m i).read (places_in m i).write) NothingThere
       (checked (task_fits m (oldest m i))
       (checked (range_fits m (oldest m i))
       (checked (cursor_fits m (oldest m i) (places_in m i).cursor)
@@ -179,8 +179,8 @@ module _ {F : Family} (i : ℕ) (m : Mem F) where
       (successor_at i (tasks m) (places_in m i).read (places_in m i).write (places_in m i).cursor m.succ_starts m.succs m.buffers))
     where
       go : (b₁ b₂ b₃ b₄ b₅ b₆ : Bool) (y : Successor)
-          → checked b₁ (refuse_if b₂ nothing_there 0 (checked b₃ (checked b₄ (checked b₅ (checked b₆ rest)))))
-          ≡ planned (within b₁ (cond b₂ (Refused nothing_there 0) (within b₃ (within b₄ (within b₅ (within b₆ (At y.task y.completed y.count))))))) rest
+          → checked b₁ (refuse_if b₂ NothingThere (checked b₃ (checked b₄ (checked b₅ (checked b₆ rest)))))
+          ≡ planned (within b₁ (cond b₂ (Err NothingThere) (within b₃ (within b₄ (within b₅ (within b₆ (At y.task y.completed y.count))))))) rest
       go false b₂ b₃ b₄ b₅ b₆ y = refl
       go true true b₃ b₄ b₅ b₆ y = refl
       go true false false b₄ b₅ b₆ y = refl

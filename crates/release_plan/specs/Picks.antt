@@ -1,6 +1,7 @@
 -- The successor that a Release picks, and what becomes of one that waits on.
-use Rattle.std.specs.Prelude.{ℕ, ◌+◌, ◌-◌, ◌<◌, ◌≡◌, cond, ◌&&◌, List, [], ◌∷◌, length, get_or, ltb, leb, eqb}
-use Rattle.task.specs.Refusals.{damaged, nothing_there}
+use Rattle.task.specs.declared.refusal.Refusal.TheVariants.{Damaged, NothingThere}
+use Rattle.std.specs.Prelude.{ℕ, ◌+◌, ◌-◌, ◌<◌, ◌≡◌, cond, ◌&&◌, List, [], ◌∷◌, length, get_or, ltb, leb, eqb, Result, Ok, Err}
+use Rattle.task.specs.declared.refusal.Refusal.{Refusal}
 use Rattle.task.specs.declared.Row.{Row}
 use Rattle.task.specs.declared.TaskId.{TaskId}
 use Rattle.task.specs.declared.StepOutcome.TheVariants.{Released}
@@ -10,14 +11,24 @@ use Rattle.rules.specs.Words.{task_fits, places_fit, cursor_fits, range_fits, de
 use Rattle.rules.specs.Updates.{Update, put_degree, put_places, put_accepted}
 use Rattle.rules.specs.Plans.{Plan, refuse, accept, refuse_if, checked}
 use Rattle.rules.specs.Steps.{advanced, release_waiting}
-use Rattle.release_plan.specs.declared.Pick.{Pick}
-use Rattle.release_plan.specs.declared.Pick.TheVariants.{Refused, Waiting, Ready}
+use Rattle.release_plan.specs.declared.Pick as pick
+use Rattle.release_plan.specs.declared.Pick.TheVariants as picks
+
+-- what is picked, or why it is refused
+abbrev pub Pick : Type 0
+Pick = Result pick.Pick Refusal
+
+pattern abbrev pub Waiting : TaskId → (count left accepted : ℕ) → Pick
+Waiting t count left accepted = Ok (picks.Waiting t count left accepted)
+
+pattern abbrev pub Ready : TaskId → (count : ℕ) → Pick
+Ready t count = Ok (picks.Ready t count)
 
 -- the rule of every form of Release: a successor that becomes ready goes on with the plan `ready`
 unfoldable pub release_by : (ready : Plan) → ℕ → Mem → Plan
 release_by ready i m =
     checked (places_fit m (row_in m i).read (row_in m i).write)
-    (refuse_if (eqb (row_in m i).read (row_in m i).write) nothing_there 0
+    (refuse_if (eqb (row_in m i).read (row_in m i).write) NothingThere
     (checked (task_fits m (oldest m i))
     (checked (range_fits m (oldest m i))
     (checked (cursor_fits m (oldest m i) (row_in m i).cursor)
@@ -30,8 +41,8 @@ unfoldable pub degree_of : (steps : ℕ) → TaskId → (count : ℕ) → (d run
 degree_of steps t count d run =
     cond (leb 1 (get_or d t.0 0) && leb (get_or d t.0 0) (length d))
     (cond (eqb (get_or d t.0 0) 1) (Ready t count)
-    (cond (ltb (get_or run 1 0) steps) (Waiting t count (get_or d t.0 0 - 1) (get_or run 1 0)) (Refused damaged 0)))
-    (Refused damaged 0)
+    (cond (ltb (get_or run 1 0) steps) (Waiting t count (get_or d t.0 0 - 1) (get_or run 1 0)) (Err Damaged)))
+    (Err Damaged)
 
 -- a memory that has row r of worker i, these successor starts, successors, degrees, buffers and run words, and a run of a steps
 pub record Shows (i a : ℕ) (r : Row) (ss s d b words : List ℕ) (m : Mem) : Type 0 where
@@ -85,6 +96,6 @@ module _ (i steps : ℕ) (r : Row) (ss s d b run : List ℕ) where
     pub follows : (ready : Plan) (m : Mem) → Shows i steps r ss s d b run m → release_by ready i m ≡ ready
 
   abbrev pub Picked : Pick → Type 0
-  Picked (Refused n x) = (ready : Plan) (m : Mem) → Shows i steps r ss s d b run m → release_by ready i m ≡ refuse n x
+  Picked (Err why) = (ready : Plan) (m : Mem) → Shows i steps r ss s d b run m → release_by ready i m ≡ refuse why
   Picked (Waiting t count left accepted) = Waits t count left accepted
   Picked (Ready t count) = Readies t count

@@ -1,7 +1,8 @@
 -- What Release is to do, by the words that it reads.
-use Rattle.std.specs.Prelude.{ℕ, ◌+◌, ◌*◌, ◌≤◌, ◌<◌, ◌≡◌, true, cond, List, [], ◌∷◌, length, get_or, ltb, leb, ℤ, pos, ◌+ℤ◌}
+use Rattle.task.specs.declared.refusal.Refusal.TheVariants.{Damaged}
+use Rattle.std.specs.Prelude.{ℕ, ◌+◌, ◌*◌, ◌≤◌, ◌<◌, ◌≡◌, true, cond, List, [], ◌∷◌, length, get_or, ltb, leb, ℤ, pos, ◌+ℤ◌, Result, Ok, Err}
 use Rattle.task.specs.Types.{engine}
-use Rattle.task.specs.Refusals.{damaged}
+use Rattle.task.specs.declared.refusal.Refusal.{Refusal}
 use Rattle.task.specs.declared.Ends.{Ends}
 use Rattle.task.specs.declared.Row.{Row}
 use Rattle.task.specs.declared.TaskId.{TaskId}
@@ -16,8 +17,18 @@ use Rattle.rules.specs.Updates.{Update, put_degree, put_slot, put_ends, put_coun
 use Rattle.rules.specs.Plans.{Plan, refuse, accept, checked, counted}
 use Rattle.rules.specs.Steps.{advanced, advance, join, release_rule}
 use Rattle.release_plan.specs.Picks.{Shows, Next, Lowers, Cursor, Counts, lowering}
-use Rattle.release_plan.specs.declared.ReleasePlan.{ReleasePlan}
-use Rattle.release_plan.specs.declared.ReleasePlan.TheVariants.{Refused, Lower, Place}
+use Rattle.release_plan.specs.declared.ReleasePlan as plan
+use Rattle.release_plan.specs.declared.ReleasePlan.TheVariants as plans
+
+-- what Release is to do, or why it is refused
+abbrev pub ReleasePlan : Type 0
+ReleasePlan = Result plan.ReleasePlan Refusal
+
+pattern abbrev pub Lower : TaskId → (count left accepted : ℕ) → ReleasePlan
+Lower t count left accepted = Ok (plans.Lower t count left accepted)
+
+pattern abbrev pub Place : TaskId → (count : ℕ) → WorkerId → Ends → (weight accepted : ℕ) → ReleasePlan
+Place t count o both weight accepted = Ok (plans.Place t count o both weight accepted)
 
 -- the rule of every form of Release once the ring of owner o is found and its counter judged
 unfoldable pub release_at : (p k i o : ℕ) → Mem → Plan
@@ -31,9 +42,9 @@ unfoldable pub place_of : (steps : ℕ) → TaskId → (count : ℕ) → WorkerI
 place_of steps t count o both w run =
     cond (leb (get_or w t.0 0) 65535)
     (cond (ltb (get_or run 1 0) steps)
-    (Place t count o both.head both.tail both.count (get_or w t.0 0) (get_or run 1 0))
-    (Refused damaged 0))
-    (Refused damaged 0)
+    (Place t count o both (get_or w t.0 0) (get_or run 1 0))
+    (Err Damaged))
+    (Err Damaged)
 
 -- what is written where the task joins the ring; c are the counters
 abbrev pub placing : (p k i : ℕ) → Row → List ℤ → (t count o : ℕ) → Ends → (weight accepted : ℕ) → List Update
@@ -48,11 +59,11 @@ placing p k i r c t count o both weight accepted =
 
 -- a plan as the rules have it, for worker i with row r
 abbrev pub plan_of : (p k i : ℕ) → Row → List ℤ → ReleasePlan → Plan
-plan_of p k i r c (Refused n d) = refuse n d
+plan_of p k i r c (Err why) = refuse why
 plan_of p k i r c (Lower t count left accepted) = accept (Released (DegreeLeft left)) (lowering i r t.0 count left accepted)
-plan_of p k i r c (Place t count o head tail queued weight accepted) =
+plan_of p k i r c (Place t count o both weight accepted) =
     accept (Released (Placed t o))
-    (placing p k i r c t.0 count o.0 (record { head = head; tail = tail; count = queued }) weight accepted)
+    (placing p k i r c t.0 count o.0 both weight accepted)
 
 -- a memory with that successor, the ends of the ring found, and the words that are read then
 pub record Meets (p i a : ℕ) (r : Row) (t n o : ℕ) (both : Ends) (w : List ℕ) (c : List ℤ) (words : List ℕ) (m : Mem) : Type 0 where
@@ -112,10 +123,10 @@ pub record Joins (p k i a : ℕ) (r : Row) (x : Lists) (t n o : ℕ) (both : End
 
 -- what lets an accepted plan be written
 abbrev pub Writable : (p k i a : ℕ) → Row → Lists → ReleasePlan → Type 0
-Writable p k i a r x (Refused n d) = Unit {0}
+Writable p k i a r x (Err why) = Unit {0}
 Writable p k i a r x (Lower t count left accepted) = Lowers a r x.degrees x.run t.0 count left accepted
-Writable p k i a r x (Place t count o head tail queued weight accepted) =
-    Joins p k i a r x t.0 count o.0 (record { head = head; tail = tail; count = queued }) weight accepted
+Writable p k i a r x (Place t count o both weight accepted) =
+    Joins p k i a r x t.0 count o.0 both weight accepted
 
 -- the plan is the rule's, in every memory with these lists
 abbrev pub Plans : (p k i a : ℕ) → Row → Lists → ReleasePlan → Type 0

@@ -1,9 +1,15 @@
 -- The successor at a worker's cursor, by the lists that it is found in, whatever the family of jobs.
-use Rattle.std.specs.Prelude.{ℕ, ◌+◌, ◌-◌, ◌*◌, Bool, cond, ◌&&◌, List, length, get_or, ltb, leb, eqb}
-use Rattle.task.specs.Refusals.{damaged, nothing_there}
+use Rattle.task.specs.declared.refusal.Refusal.TheVariants.{Damaged, NothingThere}
+use Rattle.std.specs.Prelude.{ℕ, ◌+◌, ◌-◌, ◌*◌, Bool, cond, ◌&&◌, List, length, get_or, ltb, leb, eqb, Result, Ok, Err}
+use Rattle.task.specs.declared.refusal.Refusal.{Refusal}
 use Rattle.task.specs.declared.TaskId.{TaskId}
-use Rattle.release_plan.specs.declared.Reached.{Reached}
-use Rattle.release_plan.specs.declared.Reached.TheVariants.{Refused, At}
+
+-- what is found at the cursor, or why it is refused
+abbrev pub Reached : Type 0
+Reached = Result (TaskId × TaskId × ℕ) Refusal
+
+pattern abbrev pub At : TaskId → TaskId → ℕ → Reached
+At t done n = Ok (t, done, n)
 
 -- the successor at the cursor, the completed task that it follows, and how many successors that one has
 pub record Successor : Type 0 where
@@ -16,7 +22,7 @@ successor_of t done n = record { task = t; completed = done; count = n }
 
 -- a word that is read must be in its range
 abbrev pub within : Bool → Reached → Reached
-within fits rest = cond fits rest (Refused damaged 0)
+within fits rest = cond fits rest (Err Damaged)
 
 -- worker i of n tasks; its buffer's read place, write place and cursor; successor starts, successors, buffers
 module _ (i n read write cursor : ℕ) (ss s b : List ℕ) where
@@ -40,7 +46,7 @@ module _ (i n read write cursor : ℕ) (ss s b : List ℕ) where
   unfoldable pub reach_of : Reached
   reach_of =
       within (leb read write && leb write n)
-      (cond (eqb read write) (Refused nothing_there 0)
+      (cond (eqb read write) (Err NothingThere)
       (within (ltb completed n)
       (within (leb first past && leb past (length s))
       (within (ltb cursor (past - first))

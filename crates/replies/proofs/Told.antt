@@ -5,10 +5,10 @@ use mathlib.Core.Path.{◌≡◌, refl, ap}
 use mathlib.Core.Logic.{◌↔◌}
 use mathlib.Core.List.{List}
 use native.Mathlib.Omega.{arith}
-use Rattle.task.specs.Refusals.{Said, refused, answered, number_of, detail_of}
+use Rattle.std.specs.Prelude.{Err, Ok}
+use Rattle.task.specs.declared.refusal.Refusal as why
+use Rattle.task.specs.Refusals.{Said, refused, answered, number_of, detail_of, refusal_number, refusal_detail}
 use Rattle.task.specs.Rows.{Refusal, Given, Follows}
-use Rattle.task.specs.declared.Answer.TheVariants as answer
-use Rattle.task.specs.declared.StepAnswer.TheVariants.{Refused, Accepted}
 use Rattle.task.specs.declared.StepOutcome.TheVariants.{Moved, Fetched, Released}
 use Rattle.task.specs.declared.ReleaseOutcome.TheVariants.{DegreeLeft, Placed}
 use Rattle.replies.specs.declared.Reply.{Reply}
@@ -34,12 +34,12 @@ abbrev step_reply : ℕ → ℕ → ℕ → ℕ → ℕ → StepReply
 step_reply n d k a b = record { number = n; detail = d; kind = k; first = a; second = b }
 
 -- every case in figures
-pub replies-hold : ((n d : ℕ) → reply_of (answer.Refused n d) ≡ reply n d) × (reply_of answer.Accepted ≡ reply 0 0)
-replies-hold = (λ n d. refl, refl)
+pub replies-hold : ((why : why.Refusal) → reply_of (Err why) ≡ reply (refusal_number why) (refusal_detail why)) × (reply_of (Ok tt) ≡ reply 0 0)
+replies-hold = (λ why. refl, refl)
 
-pub step-replies-hold : ((n d : ℕ) → step_reply_of (Refused n d) ≡ step_reply n d 0 0 0)
-    × (step_reply_of (Accepted Moved) ≡ step_reply 0 0 0 0 0)
-    × ((t : ℕ) → step_reply_of (Accepted (Fetched (record { 0 = t }))) ≡ step_reply 0 0 1 t 0)
-    × ((d : ℕ) → step_reply_of (Accepted (Released (DegreeLeft d))) ≡ step_reply 0 0 2 d 0)
-    × ((t w : ℕ) → step_reply_of (Accepted (Released (Placed (record { 0 = t }) (record { 0 = w })))) ≡ step_reply 0 0 3 t w)
-step-replies-hold = (λ n d. refl, refl, λ t. refl, λ d. refl, λ t w. refl)
+pub step-replies-hold : ((why : why.Refusal) → step_reply_of (Err why) ≡ step_reply (refusal_number why) (refusal_detail why) 0 0 0)
+    × (step_reply_of (Ok Moved) ≡ step_reply 0 0 0 0 0)
+    × ((t : ℕ) → step_reply_of (Ok (Fetched (record { 0 = t }))) ≡ step_reply 0 0 1 t 0)
+    × ((d : ℕ) → step_reply_of (Ok (Released (DegreeLeft d))) ≡ step_reply 0 0 2 d 0)
+    × ((t w : ℕ) → step_reply_of (Ok (Released (Placed (record { 0 = t }) (record { 0 = w })))) ≡ step_reply 0 0 3 t w)
+step-replies-hold = (λ why. refl, refl, λ t. refl, λ d. refl, λ t w. refl)

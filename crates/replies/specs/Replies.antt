@@ -1,7 +1,5 @@
 -- What the exported calls answer: "the number and a detail", 0 and 0 where accepted; a step then answers its outcome.
-use Rattle.task.specs.Refusals.{Said, answer_says, step_says, number_of, detail_of, kind_of, value_at}
-use Rattle.task.specs.declared.Answer.{Answer}
-use Rattle.task.specs.declared.StepAnswer.{StepAnswer}
+use Rattle.task.specs.Refusals.{Said, answer_says, step_says, number_of, detail_of, kind_of, value_at, Answer, StepAnswer}
 use Rattle.replies.specs.declared.Reply.{Reply}
 use Rattle.replies.specs.declared.StepReply.{StepReply}
 

@@ -1,12 +1,11 @@
 // What the calls for C and Rust answer: the number and the detail, 0 and 0 where accepted; a step answers its outcome too.
 #![tactic(auto)]
 
-ghost use Rattle.std.specs.Prelude.{◌≡◌};
+ghost use Rattle.std.specs.Prelude.{◌≡◌, Err};
 ghost use Rattle.task.specs.Refusals.{outcome_says, release_says};
-ghost use Rattle.task.specs.declared.StepAnswer.{StepAnswer};
 ghost use Rattle.replies.specs.Replies.{reply_of, said_of, step_reply_of};
 
-use task::{Answer, ReleaseOutcome, StepAnswer, StepOutcome};
+use task::{Answer, Refusal, ReleaseOutcome, StepAnswer, StepOutcome};
 
 #[repr(C)]
 #[derive(Clone, Copy)]
@@ -19,8 +18,11 @@ pub fn reply_of(answer: Answer) -> Reply
     ensures { result ≡ reply_of answer }
 {
     match answer {
-        Answer::Refused(number, detail) => Reply { number, detail },
-        Answer::Accepted => Reply {
+        Err(why) => Reply {
+            number: why.number(),
+            detail: why.detail(),
+        },
+        Ok(()) => Reply {
             number: 0,
             detail: 0,
         },
@@ -40,9 +42,10 @@ pub struct StepReply {
 }
 
 // A refused step's reply. An export answers it before it looks at outcomes.
-pub fn refused(number: u32, detail: u32) -> StepReply
-    ensures { result ≡ step_reply_of (StepAnswer.Refused number detail) }
+pub fn refused(why: Refusal) -> StepReply
+    ensures { result ≡ step_reply_of (Err why) }
 {
+    let (number, detail) = why.row();
     StepReply {
         number,
         detail,
@@ -87,7 +90,7 @@ pub fn step_reply_of(answer: StepAnswer) -> StepReply
     ensures { result ≡ step_reply_of answer }
 {
     match answer {
-        StepAnswer::Refused(number, detail) => refused(number, detail),
-        StepAnswer::Accepted(outcome) => outcome_reply_of(outcome),
+        Err(why) => refused(why),
+        Ok(outcome) => outcome_reply_of(outcome),
     }
 }

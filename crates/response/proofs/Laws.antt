@@ -5,13 +5,11 @@ use mathlib.Core.List.{List, ◌∷◌}
 use native.Mathlib.Omega.{arith}
 use lib.ListN.{length, take, replicate, length-replicate, length-take}
 use lib.IntN.{pos}
+use Rattle.std.specs.Prelude.{Err, Ok}
+use Rattle.task.specs.declared.refusal.Refusal.{Refusal}
 use Rattle.task.specs.Types.{engine, capped}
-use Rattle.task.specs.Refusals.{accepted, answer_says}
+use Rattle.task.specs.Refusals.{accepted, answer_says, Answer, ReadAnswer, refusal_number, refusal_detail}
 use Rattle.task.specs.declared.Limits.{Limits}
-use Rattle.task.specs.declared.Answer.{Answer}
-use Rattle.task.specs.declared.Answer.TheVariants.{Refused, Accepted}
-use Rattle.task.specs.declared.ReadAnswer.{ReadAnswer}
-use Rattle.task.specs.declared.ReadAnswer.TheVariants as read_answer
 use Rattle.layout.specs.Tasks.{Tables}
 use Rattle.layout.specs.Layout.{Spells}
 use Rattle.layout.specs.Reader.{Read, read_as, read_text}
@@ -44,11 +42,11 @@ module _ (limits : Limits) (l : limits ≡ engine) (lent begun : Mem) (a : Answe
   unfolding graph_output
   answered = rw (← l, ← h) refl
 
-  pub refusal-put : (n d : ℕ) → a ≡ Refused n d → {r : ℕ} {before after : List ℕ} → Appends 0 (refused_line n d) before after r
+  pub refusal-put : (why : Refusal) → a ≡ Err why → {r : ℕ} {before after : List ℕ} → Appends 0 (refused_line (refusal_number why) (refusal_detail why)) before after r
       → Appends 0 (graph_output lent) before after r
-  refusal-put n d e p = rw (answered, e) p
+  refusal-put why e p = rw (answered, e) p
 
-  module _ (e : a ≡ Accepted) where
+  module _ (e : a ≡ (Ok tt)) where
     begins : answer_says (begin engine 2 4 lent).answer ≡ accepted
     begins = rw (← l, ← h, e) refl
 
@@ -101,26 +99,32 @@ tables-put w ps p h k q =
       take-replicate (2 * length w) 2048 0 (omega (arith, h)),
     ) at q
 
+-- N and E of an accepted text
+abbrev numbers_of : ReadAnswer → ℕ × ℕ
+numbers_of (Err why) = (0, 0)
+numbers_of (Ok x) = x
+
 -- The text that was read.
 module _ (text w s p : List ℕ) (a : ReadAnswer) (h : read_as a w s p ≡ read_text text (replicate 1024 0) (replicate 1025 0) (replicate 8192 0)) where
   read-output : desk_output text ≡ read_output a (read_as a w s p)
   unfolding desk_output desk_read
   read-output = rw (← h) refl
 
-  pub text-refused : (n d : ℕ) → a ≡ read_answer.Refused n d → {r : ℕ} {before after : List ℕ} → Appends 0 (refused_line n d) before after r
+  pub text-refused : (why : Refusal) → a ≡ Err why → {r : ℕ} {before after : List ℕ} → Appends 0 (refused_line (refusal_number why) (refusal_detail why)) before after r
       → Appends 0 (desk_output text) before after r
-  text-refused n d e q = rw (read-output, e) q
+  text-refused why e q = rw (read-output, e) q
 
-  module _ (n e : ℕ) (k : a ≡ read_answer.Accepted n e) where
+  module _ (n e : ℕ) (k : a ≡ Ok (n, e)) where
     pub text-sizes : (n ≤ 1024) × (e ≤ 8192)
     text-sizes = go (read-accepted text _ _ _ n e (rw (← h) k))
       where
         go : (g : Tables) × Lent text (replicate 1024 0) (replicate 1025 0) (replicate 8192 0) × Spells text g × Within g
             × ReadAs text (replicate 1024 0) (replicate 1025 0) (replicate 8192 0) g → (n ≤ 1024) × (e ≤ 8192)
         go (g, _, _, m, r) =
-            let said : a ≡ read_answer.Accepted (length g.weights) (length g.preds) = ap (λ (x : Read). x.answer) (h ∙ r) in
-            let tasks : n ≡ length g.weights = cc in
-            let edges : e ≡ length g.preds = cc in
+            let said : a ≡ Ok (length g.weights, length g.preds) = ap (λ (x : Read). x.answer) (h ∙ r) in
+            let same : ◌≡◌ {A = ReadAnswer} (Ok (n, e)) (Ok (length g.weights, length g.preds)) = sym k ∙ said in
+            let tasks : n ≡ length g.weights = ap (λ (x : ReadAnswer). (numbers_of x).0) same in
+            let edges : e ≡ length g.preds = ap (λ (x : ReadAnswer). (numbers_of x).1) same in
             (omega (arith, tasks, m.0), omega (arith, edges, m.1))
 
     pub text-run : {r : ℕ} {before after : List ℕ} → Appends 0 (graph_output (desk_memory (take n w) (take (n + 1) s) (take e p))) before after r

@@ -7,7 +7,7 @@ ghost use Rattle.engine_cells.specs.Cells.{cell_mem};
 ghost use Rattle.desk_rule.specs.Output.{desk_memory, graph_output, desk_output};
 ghost use Rattle.text_put.specs.Appending.{Appends};
 
-use task::{Answer, Limits, ROW_WORDS, ReadAnswer, RowCell};
+use task::{Limits, ROW_WORDS, RowCell};
 
 // Begins a run with P 2 and K 4, takes the desk's turns, and puts what is printed of it.
 fn run_graph(
@@ -53,8 +53,8 @@ fn run_graph(
         2,
         4,
     );
-    if let Answer::Refused(number, detail) = answer {
-        return printing::put_refused(out, number, detail);
+    if let Err(why) = answer {
+        return printing::put_refused(out, why.number(), why.detail());
     }
     turns::drive(
         weights,
@@ -120,8 +120,8 @@ pub fn respond(text: &[u8], out: &mut [u8]) -> usize
     let mut preds = [0u32; 8192];
     let read = stg::read(text, &mut weights, &mut starts, &mut preds);
     match read {
-        ReadAnswer::Refused(number, detail) => printing::put_refused(out, number, detail),
-        ReadAnswer::Accepted(n, e) => run_tables(
+        Err(why) => printing::put_refused(out, why.number(), why.detail()),
+        Ok((n, e)) => run_tables(
             &weights[..n as usize],
             &starts[..n as usize + 1],
             &preds[..e as usize],

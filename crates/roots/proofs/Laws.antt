@@ -1,16 +1,14 @@
 -- Laws over plain lists and numbers that the functions' proofs cite.
-use Prim.Native.Nat.{ℕ, ◌+◌, ◌≤◌, ◌<◌}
+use Prim.Native.Nat.{ℕ, ◌+◌, ◌≤◌}
 use mathlib.Core.Path.{◌≡◌, refl, sym, ap, ◌∙◌}
-use mathlib.Core.List.{List, ◌++◌, append-nil}
+use mathlib.Core.List.{List}
 use native.Mathlib.Omega.{arith}
 use native.Mathlib.Decide.{ℕ_discrete}
 use native.Mathlib.Numerals.{add-one}
-use lib.ListN.{length, get_or, set, drop, replicate, length-set}
-use lib.Seq.{drop-length}
+use lib.ListN.{length, get_or}
 use Rattle.lists.specs.Decided.{tally}
 use Rattle.lists.specs.Sums.{sum_to}
 use Rattle.lists.proofs.Decided.{tally-yes, tally-no, tally-same}
-use Rattle.lists.proofs.Prefixes.{fill_more}
 use Rattle.lists.proofs.Sums.{sum_same, sum-suc}
 use Rattle.graph.specs.Graph.{Graph, preds_of}
 use Rattle.graph.specs.Conditions.{Sound}
@@ -51,28 +49,3 @@ module _ (g : Graph) (s : Sound g) where
 
   pub roots-counted : (found t : ℕ) → found ≡ levels g.starts t → t ≤ g.tasks → g.tasks ≤ t → found ≡ length (roots g)
   roots-counted found t e h l = e ∙ ap (levels g.starts) (omega arith) ∙ levels-roots
-
--- a list of items of any type whose first i are v, over d
-pub record Filling {A : Type 0} (v : A) (d s : List A) (i : ℕ) : Type 0 where
-  pub upto : i ≤ length d
-  pub kept : length s ≡ length d
-  pub filled : s ≡ replicate i v ++ drop i d
-
-module _ {A : Type 0} (v : A) where
-  pub filling-none : (d : List A) → Filling v d d 0
-  filling-none d = record { upto = omega arith; kept = refl; filled = refl }
-
-  module _ (d s : List A) (i : ℕ) (f : Filling v d s i) where
-    pub filling-more : i < length d → Filling v d (set s i v) (i + 1)
-    filling-more h =
-        record {
-          upto = omega arith;
-          kept = length-set s i v ∙ f.kept;
-          filled = rw (f.filled, add-one i) (fill_more v i d h);
-        }
-
-    pub filling-whole : length d ≤ i → s ≡ replicate (length d) v
-    filling-whole h = f.filled ∙ rw (at f.upto) (rw (drop-length d) (append-nil (replicate (length d) v)))
-      where
-        at : i ≤ length d → i ≡ length d
-        at u = omega arith

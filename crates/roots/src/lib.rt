@@ -1,7 +1,7 @@
 // The roots at begin: how many there are, and the rings laid down with them, each list cleared first.
 #![tactic(auto)]
 
-ghost use Rattle.std.specs.Prelude.{◌≡◌, List, ℕ, ◌+◌, ◌≤◌, ◌<◌, pos, length, replicate};
+ghost use Rattle.std.specs.Prelude.{◌≡◌, List, ℕ, ◌+◌, ◌≤◌, ◌<◌, length, replicate};
 ghost use Rattle.graph.specs.Graph.{graph_of};
 ghost use Rattle.graph.specs.Conditions.{Sound};
 ghost use Rattle.graph.specs.Successors.{roots};
@@ -16,12 +16,10 @@ pub fn count_roots(n: usize, starts: &[u32]) -> usize
         → result ≡ length (roots (graph_of n starts.now preds))) }
 {
     let mut found = 0;
-    let mut t = 0;
-    while t < n {
+    for t in 0..n {
         if starts[t] == starts[t + 1] {
             found += 1;
         }
-        t += 1;
     }
     found
 }
@@ -29,21 +27,7 @@ pub fn count_roots(n: usize, starts: &[u32]) -> usize
 pub fn clear(words: &mut [u32])
     ensures { words.new ≡ replicate (length words.old) 0 }
 {
-    let mut i = 0;
-    while i < words.len() {
-        words[i] = 0;
-        i += 1;
-    }
-}
-
-pub fn clear_counters(counters: &mut [i32])
-    ensures { counters.new ≡ replicate (length counters.old) (pos 0) }
-{
-    let mut q = 0;
-    while q < counters.len() {
-        counters[q] = 0;
-        q += 1;
-    }
+    words.fill(0);
 }
 
 // The task, if it is a root, joins its owner's own ring, and its weight that counter. The owner of the next root.
@@ -90,11 +74,18 @@ fn place_roots(
         ends.new counters.new }
 {
     let mut owner = WorkerId(0);
-    let mut t: u32 = 0;
-    while (t as usize) < degrees.len() {
-        let task = TaskId(t);
-        owner = lay_task(weights, degrees, rings, ends, counters, p, k, owner, task);
-        t += 1;
+    for t in 0..degrees.len() as u32 {
+        owner = lay_task(
+            weights,
+            degrees,
+            rings,
+            ends,
+            counters,
+            p,
+            k,
+            owner,
+            TaskId(t),
+        );
     }
 }
 
@@ -114,6 +105,6 @@ pub fn lay_rings(
 {
     clear(rings);
     clear(ends);
-    clear_counters(counters);
+    counters.fill(0);
     place_roots(weights, degrees, rings, ends, counters, p, k);
 }

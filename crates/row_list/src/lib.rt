@@ -34,10 +34,5 @@ pub fn clear_rows(rows: &mut [Row], n: usize)
     requires { n ≤ length rows.old }
     ensures { rows.new ≡ cleared_rows n rows.old }
 {
-    let row = Row::idle();
-    let mut i = 0;
-    while i < n {
-        rows[i] = row;
-        i += 1;
-    }
+    rows[..n].fill(Row::idle());
 }

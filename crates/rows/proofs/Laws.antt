@@ -1,12 +1,10 @@
 -- Laws over plain lists and numbers that the functions' proofs cite, and what rows that are read say of their words.
-use Prim.Native.Nat.{ℕ, zero, suc, ◌+◌, ◌<◌}
-use mathlib.Core.Path.{◌≡◌, refl, sym, ap, ◌∙◌}
-use mathlib.Core.List.{List, [], ◌∷◌}
+use Prim.Native.Nat.{ℕ, zero, suc, ◌≤◌, ◌<◌}
+use mathlib.Core.Path.{◌≡◌, refl, ap, ◌∙◌}
+use mathlib.Core.List.{List, [], ◌∷◌, ◌++◌}
 use native.Mathlib.Omega.{arith}
-use native.Mathlib.Numerals.{add-one}
-use lib.ListN.{length, get_or, set, drop, length-set}
-use lib.Seq.{get_or-set_same, set-set, ext_get_or}
-use Rattle.lists.proofs.Prefixes.{fill_more}
+use lib.ListN.{length, get_or, set, take, drop, replicate}
+use lib.Seq.{length-take-le, get_or-set_same, set-set, ext_get_or}
 use Rattle.task.specs.Types.{idle}
 use Rattle.task.specs.declared.Row.{Row}
 use Rattle.task.specs.declared.TaskId.{TaskId}
@@ -75,30 +73,17 @@ module _ (rows : List Row) (i : ℕ) (row : Row) (h : row ≡ get_or rows i idle
   two-changed l e =
       rw (e, h, get_or-set_same rows i (f (get_or rows i idle)) idle l) (set-set rows i (f (get_or rows i idle)) (g (f (get_or rows i idle))))
 
--- no row is cleared yet, and one more
-pub cleared-none : (rows : List Row) → cleared_rows 0 rows ≡ rows
-unfolding cleared_rows
-cleared-none rows = refl
+-- the first n cells read as an idle worker's row, as a list
+words-cleared : (l : List (List ℕ)) (n : ℕ) (a : List ℕ) → n ≤ length l → row_of a ≡ idle
+    → rows_of (replicate n a ++ drop n l) ≡ cleared_rows n (rows_of l)
+unfolding rows_of cleared_rows
+words-cleared l zero a h r = refl
+words-cleared [] (suc n) a h r = absurd (omega arith)
+words-cleared (b ∷ l) (suc n) a h r = rw r (ap (λ (t : List Row). idle ∷ t) (words-cleared l n a (omega arith) r))
 
-pub cleared-next : (n : ℕ) (rows : List Row) → n < length rows → set (cleared_rows n rows) n idle ≡ cleared_rows (n + 1) rows
-unfolding cleared_rows
-cleared-next n rows h = rw (add-one n) (fill_more idle n rows h)
-
--- the same of rows that are lent as words
-module _ (before : List (List ℕ)) where
-  pub words-cleared-none : (length before ≡ length before) × (rows_of before ≡ cleared_rows 0 (rows_of before))
-  words-cleared-none = (refl, sym (cleared-none (rows_of before)))
-
-  module _ (l : List (List ℕ)) (i : ℕ) (inv : (length l ≡ length before) × (rows_of l ≡ cleared_rows i (rows_of before))) where
-    pub words-cleared-next : (a : List ℕ) → i < length before → row_of a ≡ idle
-        → (length (set l i a) ≡ length before) × (rows_of (set l i a) ≡ cleared_rows (i + 1) (rows_of before))
-    words-cleared-next a h e = (
-      length-set l i a ∙ inv.0,
-      rw (rows-set l i a, e, inv.1) (cleared-next i (rows_of before) (rw (length-rows before) h)),
-    )
-
-    pub words-cleared : (n : ℕ) → i ≡ n → rows_of l ≡ cleared_rows n (rows_of before)
-    words-cleared n e = rw (← e) inv.1
+pub words-filled : (l : List (List ℕ)) (n : ℕ) (a : List ℕ) → n ≤ length l → row_of a ≡ idle → (front : List (List ℕ))
+    → front ≡ replicate (length (take n l)) a → rows_of (front ++ drop n l) ≡ cleared_rows n (rows_of l)
+words-filled l n a h r front e = rw (e, length-take-le n l h) (words-cleared l n a h r)
 
 -- six words are determined by the row they are read as
 row_words : (a b : List ℕ) → length a ≡ 6 → length b ≡ 6 → row_of a ≡ row_of b → a ≡ b

@@ -148,9 +148,5 @@ pub fn clear_rows(rows: &mut [RowCell], n: usize)
 {
     let mut cells = [0u32; ROW_WORDS];
     cells[HELD] = TaskId::NIL.0;
-    let mut i = 0;
-    while i < n {
-        rows[i] = cells;
-        i += 1;
-    }
+    rows[..n].fill(cells);
 }

@@ -7,8 +7,9 @@ use lib.ListN.{drop}
 use native.Mathlib.Omega.{arith}
 use lib.Dec.{leb, eqb}
 use borrow.Author.Tests.{leb-true}
+use Rattle.task.specs.declared.refusal.Refusal.TheVariants.{Damaged, RecordFull}
 use Rattle.lists.proofs.Told.{Told, told-true, told-false, same-told, le-told, lt-told, and-told, under-told, and-true}
-use Rattle.task.specs.Refusals.{damaged, record_full, outcome_says}
+use Rattle.task.specs.Refusals.{outcome_says}
 use Rattle.task.specs.Rows.{Refusal}
 use Rattle.task.specs.declared.StepOutcome.TheVariants.{Moved}
 use Rattle.rules.specs.Memory.{Mem, tasks, edges, ring_number, counter_in, weight_in, succ_count, first_succ, past_succ, row_in, held}
@@ -29,8 +30,8 @@ module _ (p i : ℕ) (m : Mem) where
   sink-follows : ◌≡◌ {A = ℕ} (succ_count m (held m i)) 0 → PlanFollows join_rows (complete_sink p i m)
   unfolding complete_sink
   sink-follows z =
-      passed-row outcome_says damaged 0 _ (complete_sink p i m) (λ q. omega (arith, q.0, z))
-      (passed-row outcome_says damaged 0 _ (complete_sink p i m) (λ q. omega (arith, q.0, z)) (counted-row m Moved _))
+      passed-row outcome_says Damaged _ (complete_sink p i m) (λ q. omega (arith, q.0, z))
+      (passed-row outcome_says Damaged _ (complete_sink p i m) (λ q. omega (arith, q.0, z)) (counted-row m Moved _))
 
   inner-follows : HasSuccessors m i → PlanFollows join_rows (complete_inner p i m)
   unfolding complete_inner
@@ -44,7 +45,7 @@ module _ (p i : ℕ) (m : Mem) where
   unfolding complete_rule
   complete-follows =
       checked-row outcome_says _ _ _ (entries-told m) (λ _.
-      refuse-row outcome_says _ record_full 0 _ _ (recorded-told m)
+      refuse-row outcome_says _ RecordFull _ _ (recorded-told m)
       (checked-row outcome_says _ _ _ (lt-told (held m i) (tasks m)) (λ _.
       checked-row outcome_says _ _ _ (le-told (weight_in m (held m i)) 65535) (λ _.
       checked-row outcome_says _ _ _ (counter-told (counter_in m (ring_number p i i))) (λ _.

@@ -13,10 +13,9 @@ use Rattle.lists.specs.Sums.{sum_to, sum_to_z}
 use Rattle.lists.specs.Circles.{after, around}
 use Rattle.task.specs.Types.{engine, capped}
 use Rattle.task.specs.Phases.{next_phase}
-use Rattle.task.specs.Refusals.{Said, refused, accepted, task_fetched, degree_left, task_placed, answer_says, step_says}
+use Rattle.task.specs.Refusals.{Said, refused, accepted, task_fetched, degree_left, task_placed, answer_says, step_says, StepAnswer}
 use Rattle.task.specs.declared.Row.{Row}
 use Rattle.task.specs.declared.Step.{Step}
-use Rattle.task.specs.declared.StepAnswer.{StepAnswer}
 use Rattle.task.specs.declared.Step.TheVariants.{Fetch, Start, Complete, Release}
 use Rattle.graph.specs.Graph.{part}
 use Rattle.graph.specs.Check.{sizes_fit, first_bad, first_twice, first_on_cycle, tables_answer, check_answer}

@@ -4,15 +4,15 @@ use mathlib.Core.Path.{◌≡◌, refl}
 use mathlib.Core.Bool.{Bool, true, false, ◌&&◌}
 use mathlib.Core.Logic.{◌⊎◌, inl, inr}
 use lib.ListN.{drop}
+use Rattle.std.specs.Prelude.{Err}
+use Rattle.task.specs.declared.refusal.Refusal.TheVariants.{BeyondLimit}
 use Rattle.lists.proofs.Told.{Told, told-true, told-false, told-pass, told-fail}
 use Rattle.task.specs.Types.{engine, preview, capped}
 use Rattle.task.specs.Refusals.{answer_says, step_says}
 use Rattle.task.specs.Rows.{Follows}
 use Rattle.task.proofs.Rows.{same_rows, follows_same}
 use Rattle.task.specs.declared.Limits.{Limits}
-use Rattle.task.specs.declared.Answer.TheVariants as answer
 use Rattle.task.specs.declared.Step.{Step}
-use Rattle.task.specs.declared.StepAnswer.TheVariants.{Refused}
 use Rattle.graph.specs.Check.{sizes_fit, check_answer}
 use Rattle.graph.specs.Tables.{Beyond}
 use Rattle.rules.specs.Memory.{Mem, tasks, edges}
@@ -38,13 +38,13 @@ module _ (l : Limits) (p k : ℕ) (m : Mem) where
   passes : Kept → test ≡ true
   passes w = told-pass (limits-told l p k m) (not_beyond l p k m w)
 
-  refused-with-2 : test ≡ false → (begin l p k m ≡ result_of (answer.Refused 2 0) m) × ((i : ℕ) (s : Step) → step l p k i s m ≡ result_of (Refused 2 0) m)
+  refused-with-2 : test ≡ false → (begin l p k m ≡ result_of (Err BeyondLimit) m) × ((i : ℕ) (s : Step) → step l p k i s m ≡ result_of (Err BeyondLimit) m)
   unfolding begin begin_answer check_answer step step_plan carried_out
   refused-with-2 e = (rw e, λ i s. rw e)
 
   -- PROMISE: where N, E, P and K don't keep a call's limits, it is refused with 2 first of all and writes nothing
   pub beyond-2 : ¬ (KeepsLimits l p k (tasks m) (edges m))
-      → (begin l p k m ≡ result_of (answer.Refused 2 0) m) × ((i : ℕ) (s : Step) → step l p k i s m ≡ result_of (Refused 2 0) m)
+      → (begin l p k m ≡ result_of (Err BeyondLimit) m) × ((i : ℕ) (s : Step) → step l p k i s m ≡ result_of (Err BeyondLimit) m)
   beyond-2 n = refused-with-2 (told-fail (limits-told l p k m) (λ f. n (kept l p k m f)))
 
 module _ (l l' : Limits) (p k : ℕ) (m : Mem) where
@@ -61,7 +61,7 @@ module _ (l l' : Limits) (p k : ℕ) (m : Mem) where
 pub own-or-2 : (l : Limits) (p k : ℕ) (m : Mem)
     → (KeepsLimits l p k (tasks m) (edges m) × ((begin l p k m ≡ begin engine p k m) × ((i : ℕ) (s : Step) → step l p k i s m ≡ step engine p k i s m)))
     ⊎ (¬ (KeepsLimits l p k (tasks m) (edges m))
-    × ((begin l p k m ≡ result_of (answer.Refused 2 0) m) × ((i : ℕ) (s : Step) → step l p k i s m ≡ result_of (Refused 2 0) m)))
+    × ((begin l p k m ≡ result_of (Err BeyondLimit) m) × ((i : ℕ) (s : Step) → step l p k i s m ≡ result_of (Err BeyondLimit) m)))
 own-or-2 l p k m =
     either (limits-told l p k m) (λ e f. (kept l p k m f, within_same l engine p k m (kept l p k m f) (within-engine (kept l p k m f))))
     (λ e b. (λ w. not_beyond l p k m w b, refused-with-2 l p k m e))

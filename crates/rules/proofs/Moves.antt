@@ -7,17 +7,16 @@ use mathlib.Core.List.{List}
 use native.Mathlib.Omega.{arith}
 use lib.Dec.{leb, eqb}
 use borrow.Author.Tests.{ltb-true, leb-true, eqb-true, eqb-false}
+use Rattle.std.specs.Prelude.{Err, Ok}
 use Rattle.lists.proofs.Told.{Told, told-true, told-false, same-told, and-true, told-yes, told-no}
 use Rattle.task.specs.Phases.{suits, next_phase}
-use Rattle.task.specs.Refusals.{step_says}
+use Rattle.task.specs.Refusals.{step_says, StepAnswer, refusal_number, refusal_detail}
 use Rattle.task.specs.Rows.{Acceptance}
 use Rattle.task.specs.declared.Limits.{Limits}
 use Rattle.task.specs.declared.Row.{Row}
 use Rattle.task.specs.declared.Step.{Step}
 use Rattle.task.specs.declared.Step.TheVariants.{Fetch, Start, Complete, Release}
 use Rattle.task.specs.declared.StepOutcome.{StepOutcome}
-use Rattle.task.specs.declared.StepAnswer.{StepAnswer}
-use Rattle.task.specs.declared.StepAnswer.TheVariants.{Refused, Accepted}
 use Rattle.lists.specs.Circles.{after}
 use Rattle.ring.specs.Ring.{Empty, Full, head_on, tail_on}
 use Rattle.choice.specs.Form.{Form}
@@ -62,7 +61,7 @@ module _ (m : Mem) where
   if-counted : {M : StepOutcome → List Update → Type 0} (o : StepOutcome) (us : List Update) → M o us → IfAccepted (Counted m M) (counted m o us)
   unfolding counted
   if-counted {M} o us h =
-      if-required (accepted_fits m) _ _ (λ l.
+      if-required (accepted_fits m) _ (λ l.
       let n : ¬ (BadAccepted m) = told-yes (accepted-told m) l in
       record {
         holds = λ o' us' e. record {
@@ -82,10 +81,10 @@ module _ (m : Mem) where
     if-fetched : (f : Found) → pointer_in m i < p → Looked p k Empty (scanned_ends p i m) (pointer_in m i) f
         → IfAccepted (Counted m (Fetches p k i m)) (fetch_from p k i m f)
     unfolding fetch_from fetch_task head_on after
-    if-fetched unsound h l = if-refused _ _
-    if-fetched none h l = if-refused _ _
+    if-fetched unsound h l = if-refused _
+    if-fetched none h l = if-refused _
     if-fetched (at j) h (e, stop, q) =
-        if-required _ _ _ (λ a.
+        if-required _ _ (λ a.
         if-counted _ _ (record {
           pointer = h;
           distance = e;
@@ -104,9 +103,9 @@ module _ (m : Mem) where
     if-inner : Completing p i m → HasSuccessors m i → IfAccepted (Counted m (Completes p i m)) (complete_inner p i m)
     unfolding complete_inner
     if-inner c h =
-        if-required (places_fit m (row_in m i).read (row_in m i).write) _ _ (λ a.
+        if-required (places_fit m (row_in m i).read (row_in m i).write) _ (λ a.
         let (r, _) = and-true (leb (row_in m i).read (row_in m i).write) _ a in
-        if-required _ _ _ (λ w.
+        if-required _ _ (λ w.
         if-counted _ _ (inner (record { common = c; successors = h; places = leb-true _ _ r; room = ltb-true _ _ w; outcome = refl; updates = refl }))))
 
     if-completed : Completing p i m → IfAccepted (Counted m (Completes p i m))
@@ -132,11 +131,11 @@ module _ (m : Mem) where
           → Sought k (Full k) (λ o. ends_in m (ring_number p o i)) (f.offered j) g
           → IfAccepted (Counted m (Releases f p k i m)) (release_to f p k i m g)
       unfolding release_to tail_on after
-      if-placed unsound c r q l = if-refused _ _
-      if-placed none c r q l = if-refused _ _
+      if-placed unsound c r q l = if-refused _
+      if-placed none c r q l = if-refused _
       if-placed (at o) c r q (d, stop, g) =
-          if-required _ _ _ (λ u.
-          if-required _ _ _ (λ w.
+          if-required _ _ (λ u.
+          if-required _ _ (λ w.
           if-counted _ _ (placed (record {
             to = to;
             common = c;
@@ -161,7 +160,7 @@ module _ (m : Mem) where
       unfolding release_ready release_waiting
       if-released c =
           if-cond _
-          (λ r. if-required _ _ _ (λ q.
+          (λ r. if-required _ _ (λ q.
           if-placed (find_room p k i m (f.offered j)) c (eqb-true _ _ r) (told-yes sane.told q)
           (room-looked p k i (f.offered j) m)))
           (λ n. if-counted _ _ (waiting (record { to = to; common = c; not_ready = eqb-false _ _ n; outcome = refl; updates = refl })))
@@ -169,15 +168,15 @@ module _ (m : Mem) where
       if-release : IfAccepted (Counted m (Releases f p k i m)) (release_rule f p k i m)
       unfolding release_rule
       if-release =
-          if-required _ _ _ (λ a.
+          if-required _ _ (λ a.
           let (r, w) = and-true (leb (row_in m i).read (row_in m i).write) _ a in
-          if-cond _ (λ _. if-refused _ _) (λ b.
+          if-cond _ (λ _. if-refused _) (λ b.
           let n : ¬ ((row_in m i).read ≡ (row_in m i).write) = eqb-false _ _ b in
-          if-required _ _ _ (λ t.
-          if-required _ _ _ (λ g.
-          if-required _ _ _ (λ c.
-          if-required _ _ _ (λ s.
-          if-required _ _ _ (λ d.
+          if-required _ _ (λ t.
+          if-required _ _ (λ g.
+          if-required _ _ (λ c.
+          if-required _ _ (λ s.
+          if-required _ _ (λ d.
           let (d1, d2) = and-true (leb 1 (degree_in m (successor m i))) _ d in
           if-released (record {
             not_empty = omega (arith, leb-true (row_in m i).read (row_in m i).write r, n);
@@ -195,17 +194,17 @@ module _ (m : Mem) where
       -- a step's own rule
       if-ruled : (s : Step) → IfAccepted (Counted m (Made s p k i m)) (rule_of s p k i m)
       unfolding rule_of fetch_rule start_rule complete_rule
-      if-ruled Fetch = if-required _ _ _ (λ h. if-fetched (scan p k i m) (ltb-true _ _ h) (scan-looked p k i m))
+      if-ruled Fetch = if-required _ _ (λ h. if-fetched (scan p k i m) (ltb-true _ _ h) (scan-looked p k i m))
       if-ruled Start = if-counted _ _ (record { outcome = refl; updates = refl })
       if-ruled Complete =
-          if-required _ _ _ (λ a.
-          if-cond _ (λ _. if-refused _ _) (λ b.
+          if-required _ _ (λ a.
+          if-cond _ (λ _. if-refused _) (λ b.
           let n : ¬ (entries_in m ≡ tasks m) = told-no (recorded-told m) b in
           let l : ¬ (tasks m < entries_in m) = told-yes (entries-told m) a in
-          if-required _ _ _ (λ t.
-          if-required _ _ _ (λ w.
-          if-required _ _ _ (λ c.
-          if-required _ _ _ (λ g.
+          if-required _ _ (λ t.
+          if-required _ _ (λ w.
+          if-required _ _ (λ c.
+          if-required _ _ (λ g.
           if-completed (record {
             entries = omega (arith, l, n);
             task = ranged (held m i) (ltb-true _ _ t) g;
@@ -223,10 +222,10 @@ record AllFound (limits : Limits) (p k i : ℕ) (s : Step) (m : Mem) (o : StepOu
 if-stepped : (limits : Limits) (p k i : ℕ) (s : Step) (m : Mem) → IfAccepted (AllFound limits p k i s m) (step_plan limits p k i s m)
 unfolding step_plan next_phase
 if-stepped limits p k i s m =
-    if-required _ _ _ (λ a.
-    if-required _ _ _ (λ b.
-    if-required _ _ _ (λ c.
-    if-required (phase_fits (row_in m i).phase) _ _ (λ _.
+    if-required _ _ (λ a.
+    if-required _ _ (λ b.
+    if-required _ _ (λ c.
+    if-required (phase_fits (row_in m i).phase) _ (λ _.
     go (same-told (row_in m i).phase (suits s)) (fits-are limits p k m a b) (ltb-true _ _ c)))))
   where
     go : Told (eqb (row_in m i).phase (suits s)) ((row_in m i).phase ≡ suits s) (¬ ((row_in m i).phase ≡ suits s)) → Fits limits p k m → i < p
@@ -240,7 +239,7 @@ if-stepped limits p k i s m =
               whole = c.whole;
               allowed = record { fits = f; worker = w; phase = e; low = c.low; made = c.made };
             }
-    go (told-false q n) f w = rw q (if-refused _ _)
+    go (told-false q n) f w = rw q (if-refused _)
 
 -- what an accepted step has found, answers and writes
 pub accepted-step : (limits : Limits) (p k i : ℕ) (s : Step) (m : Mem) → Acceptance (step_says (step limits p k i s m).answer) → AcceptedStep limits p k i s m
@@ -248,7 +247,7 @@ unfolding step carried_out
 accepted-step limits p k i s m a = go (step_plan limits p k i s m) refl a
   where
     go : (plan : Plan) → step_plan limits p k i s m ≡ plan → Acceptance (step_says (carried_out plan m).answer) → AcceptedStep limits p k i s m
-    go (refuse n d) e b = absurd b
+    go (refuse why) e b = absurd b
     go (accept o us) e b =
         let r : AllFound limits p k i s m o us = (if-stepped limits p k i s m).holds o us e in
         record {
@@ -268,5 +267,5 @@ pub accepted-or-same : (limits : Limits) (p k i : ℕ) (s : Step) (m : Mem) → 
 accepted-or-same limits p k i s m = go (step limits p k i s m).answer refl
   where
     go : (a : StepAnswer) → (step limits p k i s m).answer ≡ a → AcceptedStep limits p k i s m ⊎ ((step limits p k i s m).memory ≡ m)
-    go (Refused n d) e = inr (refused-step limits p k i s m n d (ap step_says e))
-    go (Accepted o) e = inl (accepted-step limits p k i s m (rw e (outcome-accepts o)))
+    go (Err why) e = inr (refused-step limits p k i s m (refusal_number why) (refusal_detail why) (ap step_says e))
+    go (Ok o) e = inl (accepted-step limits p k i s m (rw e (outcome-accepts o)))

@@ -8,6 +8,7 @@ use native.Mathlib.Omega.{arith}
 use native.Mathlib.Decide.{ℕ_discrete, dec_le, dec_lt}
 use lib.ListN.{length, get_or, take, replicate, length-replicate, get_or-replicate}
 use lib.Seq.{take-nil, drop-nil}
+use Rattle.std.specs.Prelude.{Err, Ok}
 use Rattle.lists.specs.Decided.{first_below}
 use Rattle.lists.specs.Lists.{occ, occ_of, joined, tabulate, all_of}
 use Rattle.lists.specs.Sums.{sum_to, sum_to_z}
@@ -17,10 +18,8 @@ use Rattle.lists.proofs.Prefixes.{zeros}
 use Rattle.lists.proofs.Told.{neither, told-yes}
 use Rattle.task.specs.Types.{engine, preview, capped}
 use Rattle.task.specs.Phases.{next_phase}
-use Rattle.task.specs.Refusals.{Said, refused, accepted, task_fetched, degree_left, task_placed, answer_says, step_says}
+use Rattle.task.specs.Refusals.{Said, refused, accepted, task_fetched, degree_left, task_placed, answer_says, step_says, Answer}
 use Rattle.task.specs.Rows.{Given, Clear, Acceptance}
-use Rattle.task.specs.declared.Answer.{Answer}
-use Rattle.task.specs.declared.Answer.TheVariants.{Refused, Accepted}
 use Rattle.task.specs.declared.Limits.{Limits}
 use Rattle.task.specs.declared.Step.{Step}
 use Rattle.task.specs.declared.Step.TheVariants.{Fetch, Start, Complete, Release}
@@ -146,8 +145,8 @@ module _ (n : ℕ) where
         all (a, (b, (c, (d, (e, (f, _)))))) = (a, (b, (c, (d, (e, (f, (λ x h. omega (arith, h.1, many, few), tt)))))))
 
         told : (a : Answer) → Acceptance (answer_says a) → answer_says a ≡ accepted
-        told Accepted h = refl
-        told (Refused x y) h = absurd h
+        told (Ok u) h = refl
+        told (Err why) h = absurd h
 
 pub record PreviewExamples : Type 0 where
   -- "The roots' limit becomes P·K": 32 and 33

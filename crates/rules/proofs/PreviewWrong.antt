@@ -3,10 +3,8 @@ use Prim.Native.Nat.{ℕ}
 use mathlib.Core.Path.{◌≡◌, sym, ap, ◌∙◌}
 use Rattle.lists.proofs.Apart.{unequal}
 use Rattle.task.specs.Types.{engine, preview}
-use Rattle.task.specs.Refusals.{Said, refused, accepted, answer_says, step_says}
-use Rattle.task.specs.declared.Answer.{Answer}
+use Rattle.task.specs.Refusals.{Said, refused, accepted, answer_says, step_says, Answer, StepAnswer}
 use Rattle.task.specs.declared.Step.TheVariants.{Fetch}
-use Rattle.task.specs.declared.StepAnswer.{StepAnswer}
 use Rattle.rules.specs.Memory.{Mem}
 use Rattle.rules.specs.Plans.{Result}
 use Rattle.rules.specs.Steps.{step}

@@ -4,8 +4,9 @@ use mathlib.Core.Bool.{cond}
 use mathlib.Core.List.{List}
 use lib.ListN.{length, drop}
 use lib.Dec.{eqb}
+use Rattle.task.specs.declared.refusal.Refusal.TheVariants.{Damaged, NothingThere, RingsFull}
 use Rattle.lists.proofs.Told.{Told, told-true, told-false, same-told, le-told, lt-told, and-told, under-told, told-yes}
-use Rattle.task.specs.Refusals.{damaged, nothing_there, rings_full, outcome_says}
+use Rattle.task.specs.Refusals.{outcome_says}
 use Rattle.task.specs.Rows.{Refusal}
 use Rattle.ring.specs.Ring.{Full}
 use Rattle.choice.specs.Form.{Form}
@@ -28,11 +29,11 @@ module _ (f : Form) (p k i : ℕ) (m : Mem) where
   -- the degree would not be 0
   not-ready : ¬ (Ready m i) → (plan : Plan) → PlanFollows (rows_from 12) plan → PlanFollows (rows_from 7) plan
   not-ready n plan g =
-      passed-row outcome_says damaged 0 _ plan (λ c. n c.0)
-      (passed-row outcome_says damaged 0 _ plan (λ c. n c.0)
-      (passed-row outcome_says rings_full (successor m i) _ plan (λ c. n c.0)
-      (passed-row outcome_says damaged 0 _ plan (λ c. n c.0)
-      (passed-row outcome_says damaged 0 _ plan (λ c. n c.0) g))))
+      passed-row outcome_says Damaged _ plan (λ c. n c.0)
+      (passed-row outcome_says Damaged _ plan (λ c. n c.0)
+      (passed-row outcome_says (RingsFull (successor m i)) _ plan (λ c. n c.0)
+      (passed-row outcome_says Damaged _ plan (λ c. n c.0)
+      (passed-row outcome_says Damaged _ plan (λ c. n c.0) g))))
 
   waiting-follows : ¬ (Ready m i) → PlanFollows (rows_from 7) (release_waiting i m)
   unfolding release_waiting
@@ -47,15 +48,15 @@ module _ (f : Form) (p k i : ℕ) (m : Mem) where
 
       to-follows : (g : Found) → Sought k (Full k) (λ o. ends_in m (ring_number p o i)) owners g → PlanFollows (rows_from 8) (release_to f p k i m g)
       unfolding release_to
-      to-follows unsound bad = given-row damaged 0 _ (ready, (target_by f, least-target f p k i m sane good, bad))
+      to-follows unsound bad = given-row Damaged _ (ready, (target_by f, least-target f p k i m sane good, bad))
       to-follows none all =
-          passed-row outcome_says damaged 0 _ (release_to f p k i m none)
+          passed-row outcome_says Damaged _ (release_to f p k i m none)
           (λ c. none-damaged f p k i m sane good (all-not-bad (length owners) k (Full k) (offered_ends p i m owners) all) c.1)
-          (given-row rings_full (successor m i) _ (ready, all-full f p k i m sane good all))
+          (given-row (RingsFull (successor m i)) _ (ready, all-full f p k i m sane good all))
       to-follows (at o) (e, stop, q) =
-          passed-row outcome_says damaged 0 _ (release_to f p k i m (at o))
+          passed-row outcome_says Damaged _ (release_to f p k i m (at o))
           (λ c. none-damaged f p k i m sane good (stop-not-bad (length owners) k (Full k) (offered_ends p i m owners) stop) c.1)
-          (passed-row outcome_says rings_full (successor m i) _ (release_to f p k i m (at o)) (λ c. one-open f p k i m sane good e stop c.1)
+          (passed-row outcome_says (RingsFull (successor m i)) _ (release_to f p k i m (at o)) (λ c. one-open f p k i m sane good e stop c.1)
           (checked-row outcome_says _ _ _ (used-told f p k i m sane good e stop ready o q) (λ _.
           checked-row outcome_says _ _ _ (under-told _ ready (le-told (weight_in m (successor m i)) 65535)) (λ _. counted-row m _ _))))
 
@@ -80,7 +81,7 @@ pub release-follows : (f : Form) (p k i : ℕ) (m : Mem) → Chooses p f → Pla
 unfolding release_rule
 release-follows f p k i m sane =
     checked-row outcome_says _ _ _ (and-told _ _ (le-told (row_in m i).read (row_in m i).write) (le-told (row_in m i).write (tasks m))) (λ _.
-    refuse-row outcome_says _ nothing_there 0 _ _ (same-told (row_in m i).read (row_in m i).write)
+    refuse-row outcome_says _ NothingThere _ _ (same-told (row_in m i).read (row_in m i).write)
     (checked-row outcome_says _ _ _ (lt-told (oldest m i) (tasks m)) (λ _.
     checked-row outcome_says _ _ _ (and-told _ _ (le-told (first_succ m (oldest m i)) (past_succ m (oldest m i))) (le-told (past_succ m (oldest m i)) (edges m))) (λ _.
     checked-row outcome_says _ _ _ (lt-told (row_in m i).cursor (succ_count m (oldest m i))) (λ _.

@@ -14,7 +14,7 @@ use Rattle.rules.proofs.Plans.{outcome-accepts}
 
 refused-plan : (plan : Plan) (m : Mem) (n d : ℕ) → step_says (carried_out plan m).answer ≡ refused n d → (carried_out plan m).memory ≡ m
 unfolding carried_out
-refused-plan (refuse x y) m n d e = refl
+refused-plan (refuse why) m n d e = refl
 refused-plan (accept o us) m n d e = absurd (subst Acceptance e (outcome-accepts o))
 
 pub refused-step : (limits : Limits) (p k i : ℕ) (s : Step) (m : Mem) (n d : ℕ)

@@ -4,9 +4,7 @@ use Prim.Native.Nat.{ℕ}
 use mathlib.Core.Path.{◌≡◌, sym, ap, ◌∙◌}
 use Rattle.lists.proofs.Apart.{unequal}
 use Rattle.task.specs.Types.{engine}
-use Rattle.task.specs.Refusals.{Said, refused, task_fetched, step_says}
-use Rattle.task.specs.declared.Answer.{Answer}
-use Rattle.task.specs.declared.StepAnswer.{StepAnswer}
+use Rattle.task.specs.Refusals.{Said, refused, task_fetched, step_says, Answer, StepAnswer}
 use Rattle.task.specs.declared.Step.{Step}
 use Rattle.task.specs.declared.Step.TheVariants.{Fetch}
 use Rattle.rules.specs.Memory.{Mem}

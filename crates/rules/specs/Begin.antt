@@ -1,8 +1,8 @@
 -- Begin: the checks "2, 1, 3, 4, 5, 6" (`begin_answer`), then the memory is laid down.
+use Rattle.task.specs.Refusals.{Answer}
 use Rattle.std.specs.Prelude.{ℕ, List, [], length, replicate, pos}
 use Rattle.task.specs.Types.{idle}
 use Rattle.task.specs.declared.Limits.{Limits}
-use Rattle.task.specs.declared.Answer.{Answer}
 use Rattle.graph.specs.Successors.{succ_starts_of, succ_words, degree_list, roots}
 pub use Rattle.plans.specs.Begin.{begin_result}
 unfoldable pub use Rattle.plans.specs.Begin.{roots_answer, begin_answer}

@@ -1,13 +1,12 @@
 -- The desk program's run: "P 2, K 4. Turns go 0, 1, 0, 1, …; each takes the first accepted of Release, Fetch, Start, Complete, or
 -- nothing, until 3N+E are accepted."
-use Rattle.std.specs.Prelude.{ℕ, zero, suc, ◌*◌, cond, List, [], ◌∷◌, ltb}
+use Rattle.task.specs.Refusals.{StepAnswer}
+use Rattle.std.specs.Prelude.{ℕ, zero, suc, ◌*◌, cond, List, [], ◌∷◌, ltb, Err, Ok}
 use Rattle.lists.specs.Circles.{after}
 use Rattle.task.specs.Types.{engine}
 use Rattle.task.specs.declared.Limits.{Limits}
 use Rattle.task.specs.declared.Step.{Step}
 use Rattle.task.specs.declared.Step.TheVariants.{Fetch, Start, Complete, Release}
-use Rattle.task.specs.declared.StepAnswer.{StepAnswer}
-use Rattle.task.specs.declared.StepAnswer.TheVariants.{Refused, Accepted}
 use Rattle.rules.specs.Memory.{Mem, all_steps, accepted_in}
 use Rattle.rules.specs.Steps.{step}
 
@@ -17,8 +16,8 @@ tries = Release ∷ Fetch ∷ Start ∷ Complete ∷ []
 
 -- the memory that an accepted step leaves, else what the other tries leave
 abbrev pub first_of : StepAnswer → Mem → Mem → Mem
-first_of (Refused n d) left others = others
-first_of (Accepted o) left others = left
+first_of (Err why) left others = others
+first_of (Ok o) left others = left
 
 -- "the first accepted of .., or nothing"; each try finds the words that the last one left
 unfoldable pub turn : Limits → ℕ → ℕ → ℕ → List Step → Mem → Mem

@@ -1,8 +1,7 @@
 -- A step of a plain job reads and checks everything, and then it writes: a plan says which.
-use Rattle.std.specs.Prelude.{◌+◌, List, ◌∷◌}
+use Rattle.task.specs.Refusals.{StepAnswer}
+use Rattle.std.specs.Prelude.{◌+◌, List, ◌∷◌, Err, Ok}
 use Rattle.task.specs.declared.StepOutcome.{StepOutcome}
-use Rattle.task.specs.declared.StepAnswer.{StepAnswer}
-use Rattle.task.specs.declared.StepAnswer.TheVariants as answer
 use Rattle.plans.specs.Plans as plans
 pub use Rattle.plans.specs.Plans.{refuse, accept, require, refuse_if, checked, suited, result_of}
 use Rattle.rules.specs.Memory.{Mem, accepted_in}
@@ -27,5 +26,5 @@ Result A = plans.Result Mem A
 
 -- "Answer: the number and a detail; all lent memory keeps its words."
 unfoldable pub carried_out : Plan → Mem → Result StepAnswer
-carried_out (refuse n d) m = record { answer = answer.Refused n d; memory = m }
-carried_out (accept o us) m = record { answer = answer.Accepted o; memory = written us m }
+carried_out (refuse why) m = record { answer = Err why; memory = m }
+carried_out (accept o us) m = record { answer = Ok o; memory = written us m }

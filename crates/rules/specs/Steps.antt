@@ -1,15 +1,15 @@
 -- The four steps, each as its sentences go: P workers, K slots, worker i. A definition stands above what uses it, so a step is read from
 -- its rule (`fetch_rule`, `start_rule`, `complete_rule`, `release_rule`) upward.
+use Rattle.task.specs.declared.refusal.Refusal.TheVariants.{Damaged, NothingThere, RecordFull, RingsFull}
 use Rattle.std.specs.Prelude.{ℕ, ◌+◌, ◌-◌, cond, List, [], ◌∷◌, eqb, pos, ◌-ℤ◌}
 use Rattle.lists.specs.Circles.{after}
 use Rattle.task.specs.Types.{nil}
 use Rattle.task.specs.Phases.{leads_to}
-use Rattle.task.specs.Refusals.{damaged, nothing_there, rings_full, record_full}
+use Rattle.task.specs.Refusals.{StepAnswer}
 use Rattle.task.specs.declared.Limits.{Limits}
 use Rattle.task.specs.declared.Row.{Row}
 use Rattle.task.specs.declared.Step.{Step}
 use Rattle.task.specs.declared.Step.TheVariants.{Fetch, Start, Complete, Release}
-use Rattle.task.specs.declared.StepAnswer.{StepAnswer}
 use Rattle.task.specs.declared.StepOutcome.TheVariants.{Moved, Fetched, Released}
 use Rattle.task.specs.declared.ReleaseOutcome.TheVariants.{DegreeLeft, Placed}
 use Rattle.ring.specs.Ring.{head_on}
@@ -35,8 +35,8 @@ fetch_task p k i m j t =
 
 -- 10: "Fetch: all P rings empty"
 unfoldable pub fetch_from : ℕ → ℕ → ℕ → Mem → Found → Plan
-fetch_from p k i m unsound = refuse damaged 0
-fetch_from p k i m none = refuse nothing_there 0
+fetch_from p k i m unsound = refuse Damaged
+fetch_from p k i m none = refuse NothingThere
 fetch_from p k i m (at j) = fetch_task p k i m j (head_word k m (ring_number p i j))
 
 unfoldable pub fetch_rule : ℕ → ℕ → ℕ → Mem → Plan
@@ -78,7 +78,7 @@ complete_inner p i m =
 unfoldable pub complete_rule : ℕ → ℕ → Mem → Plan
 complete_rule p i m =
     checked (entries_fit m)
-    (refuse_if (eqb (entries_in m) (all_entries m)) record_full 0
+    (refuse_if (eqb (entries_in m) (all_entries m)) RecordFull
     (checked (task_fits m (held m i))
     (checked (weight_fits m (held m i))
     (checked (counter_fits (counter_in m (ring_number p i i)))
@@ -101,8 +101,8 @@ join p k o i s m = join_ring p k o i s s m
 -- 11: "Release: degree would be 0 and all P rings filled by this worker are full"; its detail is "the successor". Else the weight joins the counter of
 -- the ring found, which is read here by a form of Release that didn't read it for the target
 unfoldable pub release_to : Form → ℕ → ℕ → ℕ → Mem → Found → Plan
-release_to f p k i m unsound = refuse damaged 0
-release_to f p k i m none = refuse rings_full (successor m i)
+release_to f p k i m unsound = refuse Damaged
+release_to f p k i m none = refuse (RingsFull (successor m i))
 release_to f p k i m (at o) =
     checked (f.fits_at (ring_number p o i))
     (checked (weight_fits m (successor m i))
@@ -124,7 +124,7 @@ release_waiting i m =
 unfoldable pub release_rule : Form → ℕ → ℕ → ℕ → Mem → Plan
 release_rule f p k i m =
     checked (places_fit m (row_in m i).read (row_in m i).write)
-    (refuse_if (eqb (row_in m i).read (row_in m i).write) nothing_there 0
+    (refuse_if (eqb (row_in m i).read (row_in m i).write) NothingThere
     (checked (task_fits m (oldest m i))
     (checked (range_fits m (oldest m i))
     (checked (cursor_fits m (oldest m i) (row_in m i).cursor)

@@ -11,10 +11,13 @@
 ghost use Rattle.std.specs.Prelude.{◌≤◌};
 
 use cases::{lines, read, show};
-use scripts::script;
+use scripts::script::At;
 use std::io;
 use std::io::Write;
 use task::{ROW_WORDS, RowCell, WorkerId};
+
+// A script is cut off behind so many calls.
+const MOST_CALLS: u32 = 4194304;
 
 // Makes the calls of a script.
 fn run_script<W: Write>(
@@ -34,15 +37,15 @@ fn run_script<W: Write>(
     run: &mut [u32],
     rows: &mut [RowCell],
 ) -> io::Result<()> {
-    let mut at = script::entered(script, 0);
-    let mut left = script::left_at(script, 0, 4194304);
-    while 0 < left {
-        let command = script::command_at(script, at.place);
-        let call = script::call_of(command, at.tried);
+    let mut next = At::start(script);
+    for _ in 0..MOST_CALLS {
+        let Some(at) = next else {
+            break;
+        };
         let accepted = calls::make(
             out,
-            command,
-            call,
+            at.command,
+            at.call(),
             WorkerId::new(at.worker),
             weights,
             pred_starts,
@@ -58,8 +61,7 @@ fn run_script<W: Write>(
             run,
             rows,
         )?;
-        at = script::after(script, command, at, accepted);
-        left = script::left_at(script, at.place, left - 1);
+        next = at.after(accepted);
     }
     Ok(())
 }
@@ -71,18 +73,17 @@ fn capped(case: &[u32], place: usize, room: usize) -> usize
     if case.len() <= place {
         return 0;
     }
-    let length = read::length_at(case, place);
-    if room < length { room } else { length }
+    read::length_at(case, place).min(room)
 }
 
 // The word that the lists hold before the first call; small enough to be a counter.
 fn fill_of(case: &[u32]) -> u32
     ensures { result ≤ 2147483647 }
 {
-    if case.len() == 0 {
-        return 0;
+    match case {
+        [fill, ..] if *fill <= 2147483647 => *fill,
+        _ => 0,
     }
-    if 2147483647 < case[0] { 0 } else { case[0] }
 }
 
 // Lends lists of the lengths that the case names.
@@ -133,10 +134,7 @@ fn run_case<W: Write>(out: &mut W, case: &[u32]) -> io::Result<()> {
     let a = 14 + read::length_at(case, 1);
     let b = a + read::length_at(case, 2);
     let c = b + read::length_at(case, 3);
-    if case.len() < c {
-        return show::unreadable(out);
-    }
-    if (case.len() - c) % 6 != 0 {
+    if case.len() < c || (case.len() - c) % 6 != 0 {
         return show::unreadable(out);
     }
     lend(
@@ -150,9 +148,7 @@ fn run_case<W: Write>(out: &mut W, case: &[u32]) -> io::Result<()> {
 }
 
 fn run_line<W: Write>(out: &mut W, line: &[u8], words: &mut [u32]) -> io::Result<()> {
-    let numbers = lines::numbers_of(out, line, b'r', words)?;
-    let count = numbers.count;
-    if numbers.good {
+    if let Some(count) = lines::numbers_of(out, line, b'r', words)? {
         run_case(out, &words[..count])?;
     }
     Ok(())
@@ -160,11 +156,8 @@ fn run_line<W: Write>(out: &mut W, line: &[u8], words: &mut [u32]) -> io::Result
 
 fn run_lines<W: Write>(out: &mut W, text: &[u8]) -> io::Result<()> {
     let mut words = [0u32; 24576];
-    let mut at = 0;
-    while at < text.len() {
-        let end = read::line_end(text, at);
-        run_line(out, &text[at..end], &mut words)?;
-        at = end + 1;
+    for line in text.split_inclusive(|byte| *byte == b'\n') {
+        run_line(out, line.strip_suffix(b"\n").unwrap_or(line), &mut words)?;
     }
     Ok(())
 }

@@ -2,12 +2,10 @@
 -- and of the lookup's judging call, which writes nothing.
 use Prim.Native.Nat.{ℕ}
 use mathlib.Core.Path.{◌≡◌, refl, sym, ap, ◌∙◌}
-use Rattle.task.specs.Refusals.{Said, answer_says, step_says}
-use Rattle.task.specs.declared.Answer.{Answer}
+use Rattle.task.specs.Refusals.{Said, answer_says, step_says, Answer, StepAnswer}
 use Rattle.task.specs.declared.Limits.{Limits}
 use Rattle.task.specs.declared.Side.{Side}
 use Rattle.task.specs.declared.Step.{Step}
-use Rattle.task.specs.declared.StepAnswer.{StepAnswer}
 use Rattle.graph.specs.Lookup.{lent_of, judge_answer}
 use Rattle.rules.specs.Memory.{Mem}
 use Rattle.rules.specs.Plans.{Result, result_of}

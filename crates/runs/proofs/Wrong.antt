@@ -9,6 +9,7 @@ use native.Mathlib.Omega.{arith}
 use native.Mathlib.Decide.{ℕ_discrete, dec_le, dec_lt}
 use lib.ListN.{drop, replicate}
 use lib.Dec.{ltb, eqb}
+use Rattle.std.specs.Prelude.{Err, Ok}
 use Rattle.lists.specs.Decided.{first_below}
 use Rattle.lists.specs.Lists.{occ, occ_of, place_of, joined, tabulate, all_of}
 use Rattle.lists.specs.Sums.{sum_to, sum_to_z}
@@ -16,15 +17,12 @@ use Rattle.lists.specs.Circles.{after, around}
 use Rattle.lists.proofs.Decided.{tally-yes}
 use Rattle.task.specs.Types.{engine, preview, capped}
 use Rattle.task.specs.Phases.{next_phase, step_number}
-use Rattle.task.specs.Refusals.{Said, accepted, wrong_phase, rings_full, answer_says, step_says}
+use Rattle.task.specs.Refusals.{refusal_number, Said, accepted, wrong_phase, rings_full, answer_says, step_says, Answer, StepAnswer}
 use Rattle.task.specs.Rows.{Acceptance}
-use Rattle.task.specs.declared.Answer.{Answer}
-use Rattle.task.specs.declared.Answer.TheVariants.{Refused, Accepted}
 use Rattle.task.specs.declared.Limits.{Limits}
 use Rattle.task.specs.declared.Row.{Row}
 use Rattle.task.specs.declared.Step.{Step}
 use Rattle.task.specs.declared.Step.TheVariants.{Fetch, Start, Complete, Release}
-use Rattle.task.specs.declared.StepAnswer.{StepAnswer}
 use Rattle.task.specs.declared.StepOutcome.TheVariants.{Moved, Released}
 use Rattle.task.specs.declared.ReleaseOutcome.TheVariants.{Placed}
 use Rattle.graph.specs.Graph.{part, Edge}
@@ -274,16 +272,16 @@ unjoined-fail {r = r} {r' = r'} u keeps =
 
 -- a begin that forgets the first root
 abbrev pub begin_without : Answer → ℕ → ℕ → Mem → Result Answer
-begin_without (Refused n d) p k m = record { answer = Refused n d; memory = m }
-begin_without Accepted p k m = record { answer = Accepted; memory = roots_placed p k 0 (drop 1 (roots (graph_in m))) (cleared m) }
+begin_without (Err why) p k m = record { answer = Err why; memory = m }
+begin_without (Ok u) p k m = record { answer = Ok tt; memory = roots_placed p k 0 (drop 1 (roots (graph_in m))) (cleared m) }
 
 abbrev pub forgets_root : Program
 forgets_root = record { begins = λ limits p k m. begin_without (begin_answer limits p k m) p k m; takes = step }
 
 -- a begin that is refused and clears the memory
 abbrev pub clearing : Answer → Mem → Result Answer
-clearing (Refused n d) m = record { answer = Refused n d; memory = cleared m }
-clearing Accepted m = record { answer = Accepted; memory = m }
+clearing (Err why) m = record { answer = Err why; memory = cleared m }
+clearing (Ok u) m = record { answer = Ok tt; memory = m }
 
 abbrev pub clears_refused : Program
 clears_refused = record { begins = λ limits p k m. clearing (begin limits p k m).answer (begin limits p k m).memory; takes = step }
@@ -305,7 +303,7 @@ but_for other plan =
 
 -- where a plan accepts, it writes these too, after its own updates
 abbrev pub also_writing : Plan → List Update → Plan
-also_writing (refuse n d) us = refuse n d
+also_writing (refuse why) us = refuse why
 also_writing (accept o vs) us = accept o (vs ++ us)
 
 -- a Release that skips the last successor: it goes on to the next task of the buffer when one successor is left
@@ -338,8 +336,8 @@ never_counts =
 
 -- "an accepted word that is invented": begin writes 3N + E there, and each step follows the rule as if it were 0, and puts the old word back
 abbrev pub word_invented : Answer → Mem → Result Answer
-word_invented (Refused n d) m = record { answer = Refused n d; memory = m }
-word_invented Accepted m = record { answer = Accepted; memory = written (put_accepted (all_steps m) ∷ []) m }
+word_invented (Err why) m = record { answer = Err why; memory = m }
+word_invented (Ok u) m = record { answer = Ok tt; memory = written (put_accepted (all_steps m) ∷ []) m }
 
 abbrev pub invents_word : Program
 invents_word =
@@ -351,7 +349,7 @@ invents_word =
 
 -- a Start that is "accepted with nothing moved" where it doesn't suit the phase
 abbrev pub idling : Plan → Plan
-idling (refuse n d) = cond (eqb n wrong_phase) (accept Moved []) (refuse n d)
+idling (refuse why) = cond (eqb (refusal_number why) wrong_phase) (accept Moved []) (refuse why)
 idling (accept o us) = accept o us
 
 abbrev pub starts_again : Program
@@ -379,11 +377,11 @@ places_early =
 
 -- a Release that drops the task when all rings are full: where the rule refuses with 11, it lowers the degree and goes on
 abbrev pub dropping : ℕ → ℕ → Mem → Plan → Plan
-dropping p i m (refuse n d) =
-    cond (eqb n rings_full)
+dropping p i m (refuse why) =
+    cond (eqb (refusal_number why) rings_full)
     (counted m (Released (Placed (record { 0 = successor m i }) (record { 0 = least (all_of p) (load p m.counters) })))
     (put_degree (successor m i) 0 ∷ advance i m ∷ []))
-    (refuse n d)
+    (refuse why)
 dropping p i m (accept o us) = accept o us
 
 abbrev pub drops_when_full : Program

@@ -4,29 +4,22 @@
 
 ghost use Rattle.std.specs.Prelude.{◌≡◌, ◌≤◌, length};
 ghost use Rattle.layout.specs.Reader.{skippable, parted};
-ghost use Rattle.layout.specs.Scan.{line_at, Marked, Trimmed, NextLine, EndsAt, Closes, Found};
+ghost use Rattle.layout.specs.Scan.{line_at, Marked, Trimmed, NextLine};
+ghost use Rattle.scan.specs.Pieces.{LineEnds, LineCloses, NumberFound};
 
-// Whether the line ends at a place, and where the next one starts.
-#[derive(Clone, Copy)]
-pub struct LineEnd {
-    pub closed: bool,
-    pub next: usize,
-}
-
-// A number of the line and the place after it; a value over 65,535 where there is none.
+// A number of the line and the place after it.
 #[derive(Clone, Copy)]
 pub struct Number {
     pub value: u32,
     pub next: usize,
 }
 
-const NO_NUMBER: u32 = 65536;
-
 // The first place from here on that is no space and no tab.
 pub fn past_blanks(text: &[u8], at: usize) -> usize
     requires { at ≤ length text.now }
     ensures { Trimmed text.now at result }
 {
+    // kept: with `for p in at..text.len()`, here and in past_line, a read takes 20 % more instructions
     let mut p = at;
     while p < text.len() {
         let b = text[p];
@@ -43,6 +36,7 @@ pub fn past_line(text: &[u8], at: usize) -> usize
     requires { at ≤ length text.now }
     ensures { NextLine text.now at result }
 {
+    // kept: as in past_blanks
     let mut p = at;
     while p < text.len() {
         if text[p] == 10 {
@@ -53,47 +47,32 @@ pub fn past_line(text: &[u8], at: usize) -> usize
     p
 }
 
-// The line's end, where it stands at this place: LF, CR LF or the text's end.
-pub fn line_end(text: &[u8], at: usize) -> LineEnd
+// The place after the line's end, where that stands at this place: LF, CR LF or the text's end.
+pub fn line_end(text: &[u8], at: usize) -> Option<usize>
     requires { at ≤ length text.now }
-    ensures { EndsAt text.now at result.closed result.next }
+    ensures { LineEnds text.now at result }
 {
     let left = text.len() - at;
     if left == 0 {
-        return LineEnd {
-            closed: true,
-            next: at,
-        };
+        return Some(at);
     }
     let b = text[at];
     if b == 10 {
-        return LineEnd {
-            closed: true,
-            next: at + 1,
-        };
+        return Some(at + 1);
     }
     if (b != 13) | (left == 1) {
-        return LineEnd {
-            closed: false,
-            next: at,
-        };
+        return None;
     }
     if text[at + 1] != 10 {
-        return LineEnd {
-            closed: false,
-            next: at,
-        };
+        return None;
     }
-    LineEnd {
-        closed: true,
-        next: at + 2,
-    }
+    Some(at + 2)
 }
 
-// The line's end after blanks.
-pub fn close(text: &[u8], at: usize) -> LineEnd
+// The place after the line's end, where that stands after blanks.
+pub fn close(text: &[u8], at: usize) -> Option<usize>
     requires { at ≤ length text.now }
-    ensures { Closes text.now at result.closed result.next }
+    ensures { LineCloses text.now at result }
 {
     let p = past_blanks(text, at);
     line_end(text, p)
@@ -104,11 +83,7 @@ pub fn skippable(text: &[u8], at: usize) -> bool
     requires { at ≤ length text.now }
     ensures { result ≡ skippable (line_at text.now at) }
 {
-    let end = line_end(text, at);
-    if end.closed {
-        return true;
-    }
-    text[at] == 35
+    line_end(text, at).is_some() || text[at] == 35
 }
 
 // Nothing more of the line is left here, or a blank.
@@ -123,18 +98,18 @@ fn parts(text: &[u8], at: usize) -> bool
     if (b == 32) | (b == 9) {
         return true;
     }
-    let end = line_end(text, at);
-    end.closed
+    line_end(text, at).is_some()
 }
 
 // The number whose digits start here.
-fn digits_at(text: &[u8], at: usize) -> Number
+fn digits_at(text: &[u8], at: usize) -> Option<Number>
     requires { (at ≤ length text.now) × Marked (line_at text.now at) }
-    ensures { Found text.now at result.value result.next }
+    ensures { NumberFound text.now at result }
 {
     let left = text.len() - at;
-    let end = at + task::smaller(left, 5);
+    let end = at + left.min(5);
     let mut v = 0u32;
+    // kept: the place where the digits end is asked for after the loop
     let mut p = at;
     while p < end {
         let d = text[p];
@@ -145,24 +120,18 @@ fn digits_at(text: &[u8], at: usize) -> Number
         p += 1;
     }
     if (p == at) | (65535 < v) {
-        return Number {
-            value: NO_NUMBER,
-            next: at,
-        };
+        return None;
     }
     if !parts(text, p) {
-        return Number {
-            value: NO_NUMBER,
-            next: at,
-        };
+        return None;
     }
-    Number { value: v, next: p }
+    Some(Number { value: v, next: p })
 }
 
 // The line's next number, after blanks.
-pub fn next_number(text: &[u8], at: usize) -> Number
+pub fn next_number(text: &[u8], at: usize) -> Option<Number>
     requires { at ≤ length text.now }
-    ensures { Found text.now at result.value result.next }
+    ensures { NumberFound text.now at result }
 {
     let p = past_blanks(text, at);
     digits_at(text, p)

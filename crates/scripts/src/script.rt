@@ -8,32 +8,15 @@
 //           named, or P turns accept nothing; 7 prints accepted steps, 8 refused ones too, 9 none
 //
 // The numbers behind it are P, K, a worker, the stride to the next worker modulo P, and the steps.
-ghost use Rattle.std.specs.Prelude.{◌≤◌};
+ghost use Rattle.std.specs.Prelude.{◌<◌};
 
 use task::Step;
 
-const BEGIN: u32 = 4;
+// In the order in which each worker tries them by command 6.
+const IN_EVERY: [Step; 4] = [Step::Complete, Step::Start, Step::Fetch, Step::Release];
 
-const LISTS: u32 = 5;
-
-const EVERY: u32 = 6;
-
-const TURNS: u32 = 7;
-
-const NONE: u32 = 9;
-
-// Behind the last command.
-const END: u32 = 10;
-
-#[derive(Clone, Copy)]
-pub struct Command {
-    pub what: u32,
-    pub p: u32,
-    pub k: u32,
-    pub worker: u32,
-    pub stride: u32,
-    pub steps: u32,
-}
+// In the order in which a turn tries them.
+const IN_TURN: [Step; 4] = [Step::Release, Step::Fetch, Step::Start, Step::Complete];
 
 // A call that a command stands for.
 #[derive(Clone, Copy)]
@@ -43,178 +26,157 @@ pub enum Call {
     Step(Step),
 }
 
-// How far a script has come: where the command stands, whose turn it is, how many steps have been tried in it, how many
-// are still to be accepted, and after how many turns without one the command ends.
+// Which answers of turns are printed.
 #[derive(Clone, Copy)]
-pub struct At {
-    pub place: usize,
+pub enum Printed {
+    Accepted,
+    All,
+    Nothing,
+}
+
+#[derive(Clone, Copy)]
+pub enum What {
+    Call(Call),
+    Every,
+    Turns(Printed),
+}
+
+// A number that no command starts with: the script ends there.
+#[derive(Clone, Copy)]
+pub struct NoCommand;
+
+impl TryFrom<u32> for What {
+    type Error = NoCommand;
+
+    fn try_from(number: u32) -> Result<What, NoCommand> {
+        Ok(match number {
+            0 => What::Call(Call::Step(Step::Fetch)),
+            1 => What::Call(Call::Step(Step::Start)),
+            2 => What::Call(Call::Step(Step::Complete)),
+            3 => What::Call(Call::Step(Step::Release)),
+            4 => What::Call(Call::Begin),
+            5 => What::Call(Call::Lists),
+            6 => What::Every,
+            7 => What::Turns(Printed::Accepted),
+            8 => What::Turns(Printed::All),
+            9 => What::Turns(Printed::Nothing),
+            _ => return Err(NoCommand),
+        })
+    }
+}
+
+#[derive(Clone, Copy)]
+pub struct Command {
+    pub what: What,
+    pub p: u32,
+    pub k: u32,
     pub worker: u32,
-    pub tried: u32,
+    pub stride: u32,
     pub steps: u32,
-    pub turns: u32,
 }
 
-fn end() -> Command {
-    Command {
-        what: END,
-        p: 0,
-        k: 0,
-        worker: 0,
-        stride: 0,
-        steps: 0,
+impl Command {
+    // Whether the command prints an answer.
+    pub fn prints(self, accepted: bool) -> bool {
+        match self.what {
+            What::Turns(Printed::Nothing) => false,
+            What::Turns(Printed::Accepted) => accepted,
+            _ => true,
+        }
     }
-}
 
-pub fn command_at(script: &[u32], place: usize) -> Command {
-    if script.len() < 6 {
-        return end();
-    }
-    if script.len() - 6 < place {
-        return end();
-    }
-    Command {
-        what: script[place],
-        p: script[place + 1],
-        k: script[place + 2],
-        worker: script[place + 3],
-        stride: script[place + 4],
-        steps: script[place + 5],
+    fn next_worker(self, worker: u32) -> u32 {
+        let next = worker.wrapping_add(self.stride);
+        if next < self.p {
+            return next;
+        }
+        next.wrapping_sub(self.p)
     }
 }
 
-// How many calls may still be made at a place: none behind the last command.
-pub fn left_at(script: &[u32], place: usize, left: usize) -> usize
-    ensures { result ≤ left }
-{
-    let command = command_at(script, place);
-    if command.what < END { left } else { 0 }
+// How far a script has come: the command that stands and the words behind it, whose turn it is, how many steps have been tried in
+// it, how many are still to be accepted, and after how many turns without one the command ends.
+#[derive(Clone, Copy)]
+pub struct At<'a> {
+    pub command: Command,
+    pub worker: u32,
+    behind: &'a [u32],
+    tried: usize,
+    steps: u32,
+    turns: u32,
+    ghost in_turn: { tried < 4 },
 }
 
-// At the start of the command at a place.
-pub fn entered(script: &[u32], place: usize) -> At {
-    let command = command_at(script, place);
-    At {
-        place,
-        worker: command.worker,
-        tried: 0,
-        steps: command.steps,
-        turns: command.p,
+impl<'a> At<'a> {
+    // At the start of a script's first command, if it has one.
+    pub fn start(script: &'a [u32]) -> Option<At<'a>> {
+        let [what, p, k, worker, stride, steps, behind @ ..] = script else {
+            return None;
+        };
+        let command = Command {
+            what: What::try_from(*what).ok()?,
+            p: *p,
+            k: *k,
+            worker: *worker,
+            stride: *stride,
+            steps: *steps,
+        };
+        Some(At {
+            command,
+            worker: command.worker,
+            behind,
+            tried: 0,
+            steps: command.steps,
+            turns: command.p,
+        })
     }
-}
 
-// At the start of the command behind the one at a place.
-fn behind(script: &[u32], place: usize) -> At {
-    if script.len() <= place {
-        return entered(script, place);
+    pub fn call(self) -> Call {
+        match self.command.what {
+            What::Call(call) => call,
+            What::Every => Call::Step(IN_EVERY[self.tried]),
+            What::Turns(_) => Call::Step(IN_TURN[self.tried]),
+        }
     }
-    entered(script, place + 6)
-}
 
-pub fn call_of(command: Command, tried: u32) -> Call {
-    if command.what == BEGIN {
-        return Call::Begin;
+    // The next worker's turn.
+    fn turned(self, steps: u32, turns: u32) -> At<'a> {
+        At {
+            command: self.command,
+            worker: self.command.next_worker(self.worker),
+            behind: self.behind,
+            tried: 0,
+            steps,
+            turns,
+        }
     }
-    if command.what == LISTS {
-        return Call::Lists;
-    }
-    if command.what < BEGIN {
-        return Call::Step(named(command.what));
-    }
-    if command.what == EVERY {
-        return Call::Step(in_every(tried));
-    }
-    Call::Step(in_turn(tried))
-}
 
-fn named(what: u32) -> Step {
-    match what {
-        0 => Step::Fetch,
-        1 => Step::Start,
-        2 => Step::Complete,
-        _ => Step::Release,
+    // After a turn that has accepted a step.
+    fn gone(self) -> Option<At<'a>> {
+        if self.steps <= 1 {
+            return At::start(self.behind);
+        }
+        Some(self.turned(self.steps - 1, self.command.p))
     }
-}
 
-fn in_turn(tried: u32) -> Step {
-    match tried {
-        0 => Step::Release,
-        1 => Step::Fetch,
-        2 => Step::Start,
-        _ => Step::Complete,
+    // After all four steps of a turn.
+    fn passed(self) -> Option<At<'a>> {
+        if self.turns <= 1 {
+            return At::start(self.behind);
+        }
+        Some(self.turned(self.steps, self.turns - 1))
     }
-}
 
-fn in_every(tried: u32) -> Step {
-    match tried {
-        0 => Step::Complete,
-        1 => Step::Start,
-        2 => Step::Fetch,
-        _ => Step::Release,
-    }
-}
-
-// Whether the command prints an answer.
-pub fn prints(command: Command, accepted: bool) -> bool {
-    if command.what == NONE {
-        return false;
-    }
-    if command.what == TURNS {
-        return accepted;
-    }
-    true
-}
-
-fn next_worker(command: Command, worker: u32) -> u32 {
-    let next = std::num::wrapping_add_u32(worker, command.stride);
-    if next < command.p {
-        return next;
-    }
-    std::num::wrapping_sub_u32(next, command.p)
-}
-
-// The next worker's turn.
-fn turned(command: Command, at: At, steps: u32, turns: u32) -> At {
-    At {
-        place: at.place,
-        worker: next_worker(command, at.worker),
-        tried: 0,
-        steps,
-        turns,
-    }
-}
-
-// After a turn that has accepted a step.
-fn gone(script: &[u32], command: Command, at: At) -> At {
-    if at.steps <= 1 {
-        return behind(script, at.place);
-    }
-    turned(command, at, at.steps - 1, command.p)
-}
-
-// After all four steps of a turn.
-fn passed(script: &[u32], command: Command, at: At) -> At {
-    if at.turns <= 1 {
-        return behind(script, at.place);
-    }
-    turned(command, at, at.steps, at.turns - 1)
-}
-
-// After a call.
-pub fn after(script: &[u32], command: Command, at: At, accepted: bool) -> At {
-    if command.what < EVERY {
-        return behind(script, at.place);
-    }
-    if (EVERY < command.what) & accepted {
-        return gone(script, command, at);
-    }
-    if 3 <= at.tried {
-        return passed(script, command, at);
-    }
-    At {
-        place: at.place,
-        worker: at.worker,
-        tried: at.tried + 1,
-        steps: at.steps,
-        turns: at.turns,
+    // After a call; none behind the last command.
+    pub fn after(mut self, accepted: bool) -> Option<At<'a>> {
+        match self.command.what {
+            What::Call(_) => At::start(self.behind),
+            What::Turns(_) if accepted => self.gone(),
+            _ if self.tried < 3 => {
+                self.tried += 1;
+                Some(self)
+            }
+            _ => self.passed(),
+        }
     }
 }

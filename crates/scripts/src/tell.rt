@@ -1,81 +1,62 @@
 // Printing answers and lists.
-use crate::script;
 use crate::script::Command;
 use cases::show;
-use std::io;
+use cases::show::{List, Words};
 use std::io::Write;
+use std::{fmt, io};
 use task::{Answer, ReleaseOutcome, RowCell, Step, StepAnswer, StepOutcome, WorkerId};
 
 // Begin's number and detail; whether it is accepted.
 pub fn begun<W: Write>(out: &mut W, answer: Answer) -> io::Result<bool> {
-    show::say(out, b"begin ")?;
-    show::answer(out, answer)?;
-    show::say(out, b"\n")?;
-    if let Answer::Refused(_, _) = answer {
-        return Ok(false);
-    }
-    Ok(true)
+    writeln!(out, "begin {}", show::Told(answer))?;
+    Ok(answer.is_ok())
 }
 
-fn is_accepted(answer: StepAnswer) -> bool {
-    if let StepAnswer::Refused(_, _) = answer {
-        return false;
-    }
-    true
-}
-
-fn letter<W: Write>(out: &mut W, step: Step) -> io::Result<()> {
+fn letter(step: Step) -> char {
     match step {
-        Step::Fetch => show::say(out, b" f"),
-        Step::Start => show::say(out, b" s"),
-        Step::Complete => show::say(out, b" c"),
-        Step::Release => show::say(out, b" r"),
+        Step::Fetch => 'f',
+        Step::Start => 's',
+        Step::Complete => 'c',
+        Step::Release => 'r',
     }
 }
 
-fn released<W: Write>(out: &mut W, outcome: ReleaseOutcome) -> io::Result<()> {
-    match outcome {
-        ReleaseOutcome::DegreeLeft(degree) => {
-            show::say(out, b" left ")?;
-            show::number(out, degree as u64)
-        }
-        ReleaseOutcome::Placed(task, owner) => {
-            show::say(out, b" ")?;
-            show::number(out, task.0 as u64)?;
-            show::say(out, b" to ")?;
-            show::number(out, owner.0 as u64)
+#[derive(Clone, Copy)]
+struct Released(ReleaseOutcome);
+
+impl fmt::Display for Released {
+    fn fmt<W: fmt::Write>(&self, f: &mut fmt::Formatter<W>) -> fmt::Result {
+        match self.0 {
+            ReleaseOutcome::DegreeLeft(degree) => write!(f, " left {degree}"),
+            ReleaseOutcome::Placed(task, owner) => write!(f, " {} to {}", task.0, owner.0),
         }
     }
 }
 
-fn outcome<W: Write>(out: &mut W, outcome: StepOutcome) -> io::Result<()> {
-    match outcome {
-        StepOutcome::Moved => Ok(()),
-        StepOutcome::Fetched(task) => {
-            show::say(out, b" ")?;
-            show::number(out, task.0 as u64)
+#[derive(Clone, Copy)]
+struct Outcome(StepOutcome);
+
+impl fmt::Display for Outcome {
+    fn fmt<W: fmt::Write>(&self, f: &mut fmt::Formatter<W>) -> fmt::Result {
+        match self.0 {
+            StepOutcome::Moved => Ok(()),
+            StepOutcome::Fetched(task) => write!(f, " {}", task.0),
+            StepOutcome::Released(release) => write!(f, "{}", Released(release)),
         }
-        StepOutcome::Released(release) => released(out, release),
     }
 }
 
 // What a step answers, behind its letter.
-fn told<W: Write>(out: &mut W, answer: StepAnswer) -> io::Result<()> {
-    match answer {
-        StepAnswer::Refused(number, detail) => {
-            show::say(out, b" refused ")?;
-            show::pair(out, number, detail)
-        }
-        StepAnswer::Accepted(done) => outcome(out, done),
-    }
-}
+#[derive(Clone, Copy)]
+struct Told(StepAnswer);
 
-// The worker, the step, and what it answers.
-fn stepped<W: Write>(out: &mut W, worker: u32, step: Step, answer: StepAnswer) -> io::Result<()> {
-    show::number(out, worker as u64)?;
-    letter(out, step)?;
-    told(out, answer)?;
-    show::say(out, b"\n")
+impl fmt::Display for Told {
+    fn fmt<W: fmt::Write>(&self, f: &mut fmt::Formatter<W>) -> fmt::Result {
+        match self.0 {
+            Err(why) => write!(f, " refused {} {}", why.number(), why.detail()),
+            Ok(done) => write!(f, "{}", Outcome(done)),
+        }
+    }
 }
 
 // Prints a step's answer where the command asks for it; whether it is accepted.
@@ -86,36 +67,27 @@ pub fn answered<W: Write>(
     step: Step,
     answer: StepAnswer,
 ) -> io::Result<bool> {
-    let accepted = is_accepted(answer);
-    if script::prints(command, accepted) {
-        stepped(out, worker.0, step, answer)?;
+    let accepted = answer.is_ok();
+    if command.prints(accepted) {
+        writeln!(out, "{} {}{}", worker.0, letter(step), Told(answer))?;
     }
     Ok(accepted)
-}
-
-fn hashed<W: Write>(out: &mut W, hash: u64) -> io::Result<()> {
-    show::say(out, b" ")?;
-    show::number(out, hash)
 }
 
 // The words of a short record, the length and the hash of a long one.
 fn record<W: Write>(out: &mut W, list: &[u32]) -> io::Result<()> {
     if list.len() <= 128 {
-        show::words(out, list)?;
+        writeln!(out, "{}", Words(list))
     } else {
-        show::list(out, list)?;
+        writeln!(out, "{}", List(list))
     }
-    show::say(out, b"\n")
 }
 
-// N, the run words, and the record.
-fn first_lines<W: Write>(out: &mut W, n: usize, run: &[u32], executed: &[u32]) -> io::Result<()> {
-    show::number(out, n as u64)?;
-    show::say(out, b" ")?;
-    show::words(out, run)?;
-    show::say(out, b"\n")?;
-    record(out, executed)?;
-    show::say(out, b"hashes")
+fn hashes<W: Write>(out: &mut W, lists: &[&[u32]]) -> io::Result<()> {
+    for list in lists {
+        write!(out, " {}", show::hash(list))?;
+    }
+    Ok(())
 }
 
 // N, the run words, the record, and the hash of each list.
@@ -135,19 +107,23 @@ pub fn lists<W: Write>(
     run: &[u32],
     rows: &[RowCell],
 ) -> io::Result<()> {
-    first_lines(out, weights.len(), run, executed)?;
-    hashed(out, show::hash(weights))?;
-    hashed(out, show::hash(pred_starts))?;
-    hashed(out, show::hash(preds))?;
-    hashed(out, show::hash(succ_starts))?;
-    hashed(out, show::hash(succs))?;
-    hashed(out, show::hash(degrees))?;
-    hashed(out, show::hash(rings))?;
-    hashed(out, show::hash(ends))?;
-    hashed(out, show::hash_counters(counters))?;
-    hashed(out, show::hash(buffers))?;
-    hashed(out, show::hash(executed))?;
-    hashed(out, show::hash(run))?;
-    hashed(out, show::hash_rows(rows))?;
-    show::say(out, b"\n")
+    writeln!(out, "{} {}", weights.len(), Words(run))?;
+    record(out, executed)?;
+    write!(out, "hashes")?;
+    hashes(
+        out,
+        &[
+            weights,
+            pred_starts,
+            preds,
+            succ_starts,
+            succs,
+            degrees,
+            rings,
+            ends,
+        ],
+    )?;
+    write!(out, " {}", show::hash_counters(counters))?;
+    hashes(out, &[buffers, executed, run])?;
+    writeln!(out, " {}", show::hash_rows(rows))
 }

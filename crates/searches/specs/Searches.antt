@@ -1,18 +1,21 @@
 -- What a search of the code found, as the rules have it.
-use Rattle.std.specs.Prelude.{ℕ, ◌≡◌}
+use Rattle.std.specs.Prelude.{ℕ, ◌≡◌, Option, Some, None, Result, Ok, Err}
 use Rattle.task.specs.declared.Ends.{Ends}
+use Rattle.task.specs.declared.WorkerId.{WorkerId}
+use Rattle.task.specs.declared.refusal.Damaged.{Damaged}
 use Rattle.choice.specs.Search.{unsound, none, at}
 use Rattle.choice.specs.Search as rules
-use Rattle.searches.specs.declared.Found.{Found}
-use Rattle.searches.specs.declared.Found.TheVariants as found
+
+abbrev pub Found : Type 0
+Found = Result (Option (WorkerId × Ends)) Damaged
 
 abbrev pub found_of : Found → rules.Found
-found_of found.Unsound = unsound
-found_of found.None = none
-found_of (found.At worker both) = at worker.0
+found_of (Err damaged) = unsound
+found_of (Ok None) = none
+found_of (Ok (Some (worker, both))) = at worker.0
 
 -- the ends handed out are those of the ring found
 abbrev pub Reads : (ℕ → Ends) → Found → Type 0
-Reads here (found.At worker both) = both ≡ here worker.0
-Reads here found.Unsound = Unit
-Reads here found.None = Unit
+Reads here (Ok (Some (worker, both))) = both ≡ here worker.0
+Reads here (Ok None) = Unit
+Reads here (Err damaged) = Unit

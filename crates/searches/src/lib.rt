@@ -8,7 +8,7 @@ ghost use Rattle.ring.specs.Ring.{end_words, sound, empty, full, ends_at};
 ghost use Rattle.choice.specs.Search.{search};
 ghost use Rattle.searches.specs.Searches.{found_of, Reads};
 
-use task::{Ends, WorkerId};
+use task::{Damaged, Ends, WorkerId};
 
 // The ring of this owner that the filler fills, by its number.
 pub fn ring_number(p: usize, owner: WorkerId, filler: WorkerId) -> usize
@@ -31,13 +31,8 @@ pub fn after_worker(p: usize, worker: WorkerId) -> WorkerId
     }
 }
 
-// A damaged ring met, none found, or the worker whose ring it is, and that ring's ends.
-#[derive(Clone, Copy)]
-pub enum Found {
-    Unsound,
-    None,
-    At(WorkerId, Ends),
-}
+// What a search finds: the worker whose ring it is, with that ring's ends, or none, unless it meets a damaged ring.
+pub type Found = Result<Option<(WorkerId, Ends)>, Damaged>;
 
 // Fetch's scan: the owner's rings, their fillers from `from` upward, modulo p, up to the first that isn't empty. Most
 // rings that it meets are empty: a sound one is passed by the short test, and the one where it stops is judged in full.
@@ -58,7 +53,7 @@ pub fn find_task(ends: &[u32], p: usize, k: usize, owner: WorkerId, from: Worker
     };
     let filler = loop {
         if fillers == 0 {
-            return Found::None;
+            return Ok(None);
         }
         both = ring::ends_at(ends, ring_number(p, owner, j));
         if !ring::is_sound_empty(both, k) {
@@ -68,9 +63,9 @@ pub fn find_task(ends: &[u32], p: usize, k: usize, owner: WorkerId, from: Worker
         j = after_worker(p, j);
     };
     if !ring::is_sound(both, k) {
-        return Found::Unsound;
+        return Err(Damaged);
     }
-    Found::At(filler, both)
+    Ok(Some((filler, both)))
 }
 
 // Release's search: the filler's rings, their owners from `from` upward, modulo p, up to the first that isn't full.
@@ -91,11 +86,11 @@ pub fn find_room(ends: &[u32], p: usize, k: usize, filler: WorkerId, from: Worke
     };
     let owner = loop {
         if owners == 0 {
-            return Found::None;
+            return Ok(None);
         }
         both = ring::ends_at(ends, ring_number(p, o, filler));
         if !ring::is_sound(both, k) {
-            return Found::Unsound;
+            return Err(Damaged);
         }
         if !ring::is_full(both, k) {
             break o;
@@ -103,5 +98,5 @@ pub fn find_room(ends: &[u32], p: usize, k: usize, filler: WorkerId, from: Worke
         owners -= 1;
         o = after_worker(p, o);
     };
-    Found::At(owner, both)
+    Ok(Some((owner, both)))
 }

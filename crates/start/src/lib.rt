@@ -3,16 +3,15 @@
 
 ghost use Rattle.std.specs.Prelude.{◌≡◌, length};
 ghost use Rattle.admission.specs.Admission.{Knows};
-ghost use Rattle.admission.specs.declared.Sizes.{Sizes};
 ghost use Rattle.start.specs.Start.{Starts, PhaseAlone};
 
-use admission::{Admitted, Judged, Sizes, Stepped};
-use task::{Row, Step, StepOutcome, WorkerId, refusal};
+use admission::{Sizes, Stepped};
+use task::{Answer, Refusal, Row, Step, StepOutcome, WorkerId};
 
 // Start by a worker with this row, after what was judged; `sizes` are the lengths of all lent lists.
 pub fn start_row(
     sizes: Sizes,
-    judged: Judged,
+    judged: Answer,
     p: usize,
     k: usize,
     worker: WorkerId,
@@ -23,15 +22,11 @@ pub fn start_row(
     ensures starts { Starts p k worker.0 sizes judged row run.old run.new result }
     ensures phase_alone { PhaseAlone row result }
 {
-    let admitted = admission::admit(judged, row, Step::Start);
-    let after = match admitted {
-        Admitted::Refused(number, detail) => return Stepped::Refused(number, detail),
-        Admitted::To(after) => after,
-    };
+    let after = admission::admit(judged, row, Step::Start)?;
     let accepted = run[1];
     if 3 * sizes.weights + sizes.preds <= accepted as usize {
-        return Stepped::Refused(refusal::DAMAGED, 0);
+        return Err(Refusal::Damaged);
     }
     run[1] = accepted + 1;
-    Stepped::Taken(StepOutcome::Moved, after)
+    Ok((StepOutcome::Moved, after))
 }

@@ -1,10 +1,9 @@
 -- What the reader's own functions ask of their lists.
-use Rattle.std.specs.Prelude.{ℕ, suc, ◌≤◌, ◌≡◌, List, length, get_or}
-use Rattle.task.specs.Refusals.{beyond_limit, broken_layout}
-use Rattle.task.specs.declared.ReadAnswer.{ReadAnswer}
-use Rattle.task.specs.declared.ReadAnswer.TheVariants.{Refused}
-use Rattle.text_lines.specs.declared.TaskLine.{TaskLine}
-use Rattle.text_lines.specs.declared.TaskLine.TheVariants.{Broken, Over, Read}
+use Rattle.std.specs.Prelude.{ℕ, suc, ◌≤◌, ◌≡◌, List, length, get_or, Err}
+use Rattle.task.specs.Refusals.{ReadAnswer}
+use Rattle.task.specs.declared.refusal.Refusal.TheVariants.{BeyondLimit, BrokenLayout}
+use Rattle.text_lines.specs.declared.TaskError.{TaskError}
+use Rattle.text_lines.specs.declared.TaskError.TheVariants.{Broken, Over}
 
 -- scratch lists, the first start already there
 pub record Room (w s p : List ℕ) : Type 0 where
@@ -22,7 +21,6 @@ pub record Reading (text : List ℕ) (at line n : ℕ) (w s p : List ℕ) : Type
   pub room : Room w s p
 
 -- the refusal of a task's line that was not read
-abbrev pub refused_line : TaskLine → ℕ → ReadAnswer
-refused_line Over l = Refused beyond_limit 0
-refused_line Broken l = Refused broken_layout l
-refused_line (Read next edges) l = Refused broken_layout l
+abbrev pub refused_line : TaskError → ℕ → ReadAnswer
+refused_line Over l = Err BeyondLimit
+refused_line Broken l = Err (BrokenLayout l)

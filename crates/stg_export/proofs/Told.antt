@@ -5,12 +5,10 @@ use mathlib.Core.Path.{◌≡◌, refl, ap, subst}
 use mathlib.Core.Logic.{◌↔◌}
 use mathlib.Core.List.{List}
 use native.Mathlib.Omega.{arith}
-use Rattle.task.specs.Refusals.{read_says, write_says}
+use Rattle.std.specs.Prelude.{Err, Ok}
+use Rattle.task.specs.declared.refusal.Refusal.{Refusal}
+use Rattle.task.specs.Refusals.{refusal_number, refusal_detail, read_says, write_says, ReadAnswer, WriteAnswer}
 use Rattle.task.specs.Rows.{Given, Acceptance}
-use Rattle.task.specs.declared.ReadAnswer.{ReadAnswer}
-use Rattle.task.specs.declared.ReadAnswer.TheVariants.{Refused, Accepted}
-use Rattle.task.specs.declared.WriteAnswer.{WriteAnswer}
-use Rattle.task.specs.declared.WriteAnswer.TheVariants as write-answer
 use Rattle.task.proofs.Said.{zero-accepts}
 use Rattle.layout.specs.Reader.{lines, read_text}
 use Rattle.layout.specs.Writer.{write_text, writer_rows, Writes}
@@ -35,12 +33,12 @@ pub read-heard : (text w s p : List ℕ) → 1 ≤ (replied (read_text text w s 
 read-heard text w s p = go (read_text text w s p).answer refl
   where
     go : (a : ReadAnswer) → (read_text text w s p).answer ≡ a → 1 ≤ (replied (read_text text w s p)).reply.number → Leaves text w s p
-    go (Refused n d) e h = refused-leaves text w s p n d (ap read_says e)
-    go (Accepted n x) e h = absurd (omega (arith, rw e at h))
+    go (Err why) e h = refused-leaves text w s p _ _ (ap read_says e)
+    go (Ok (n, x)) e h = absurd (omega (arith, rw e at h))
 
-pub read-replies-hold : ((n d : ℕ) → reply_of (Refused n d) ≡ record { number = n; detail = d; tasks = 0; edges = 0 })
-    × ((n e : ℕ) → reply_of (Accepted n e) ≡ record { number = 0; detail = 0; tasks = n; edges = e })
-read-replies-hold = (λ n d. refl, λ n e. refl)
+pub read-replies-hold : ((why : Refusal) → reply_of (Err why) ≡ record { number = refusal_number why; detail = refusal_detail why; tasks = 0; edges = 0 })
+    × ((n e : ℕ) → reply_of (Ok (n, e)) ≡ record { number = 0; detail = 0; tasks = n; edges = e })
+read-replies-hold = (λ why. refl, λ n e. refl)
 
 module _ (w s p text : List ℕ) where
   pub write-zero : ((write_replied (write_text w s p text)).reply.number ≡ 0) ↔ Acceptance (write_says (write_text w s p text).answer)
@@ -58,11 +56,11 @@ module _ (w s p text : List ℕ) where
       go : (a : WriteAnswer) → (write_text w s p text).answer ≡ a
           → ((write_replied (write_text w s p text)).reply.number ≡ 0 → Writes w s p text (write_replied (write_text w s p text)).reply.used)
           × (1 ≤ (write_replied (write_text w s p text)).reply.number → (write_replied (write_text w s p text)).text ≡ text)
-      go (write-answer.Refused n d) e =
-          (λ z. absurd (subst (λ a. Acceptance (write_says a)) e (write-zero.0 z)), λ _. write-leaves w s p text n d (ap write_says e))
-      go (write-answer.Accepted b) e =
+      go (Err why) e =
+          (λ z. absurd (subst (λ a. Acceptance (write_says a)) e (write-zero.0 z)), λ _. write-leaves w s p text _ _ (ap write_says e))
+      go (Ok b) e =
           (λ _. rw e (writes w s p text b (ap write_says e)), λ h. absurd (omega (arith, rw e at h)))
 
-pub write-replies-hold : ((n d : ℕ) → write_reply_of (write-answer.Refused n d) ≡ record { number = n; detail = d; used = 0 })
-    × ((b : ℕ) → write_reply_of (write-answer.Accepted b) ≡ record { number = 0; detail = 0; used = b })
-write-replies-hold = (λ n d. refl, λ b. refl)
+pub write-replies-hold : ((why : Refusal) → write_reply_of (Err why) ≡ record { number = refusal_number why; detail = refusal_detail why; used = 0 })
+    × ((b : ℕ) → write_reply_of (Ok b) ≡ record { number = 0; detail = 0; used = b })
+write-replies-hold = (λ why. refl, λ b. refl)

@@ -1,8 +1,6 @@
 -- What the exported reader and writer answer: "the number and a detail", 0 and 0 where accepted, then "N and E", or the bytes used.
 use Rattle.std.specs.Prelude.{List, ℕ}
-use Rattle.task.specs.Refusals.{number_of, detail_of, value_at, read_says, write_says}
-use Rattle.task.specs.declared.ReadAnswer.{ReadAnswer}
-use Rattle.task.specs.declared.WriteAnswer.{WriteAnswer}
+use Rattle.task.specs.Refusals.{number_of, detail_of, value_at, read_says, write_says, ReadAnswer, WriteAnswer}
 use Rattle.layout.specs.Reader.{Read}
 use Rattle.layout.specs.Writer.{Saved}
 use Rattle.stg_export.specs.declared.ReadReply.{ReadReply}

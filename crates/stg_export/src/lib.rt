@@ -30,13 +30,13 @@ fn reply_of(answer: ReadAnswer) -> ReadReply
     ensures { result ≡ reply_of answer }
 {
     match answer {
-        ReadAnswer::Refused(number, detail) => ReadReply {
-            number,
-            detail,
+        Err(why) => ReadReply {
+            number: why.number(),
+            detail: why.detail(),
             tasks: 0,
             edges: 0,
         },
-        ReadAnswer::Accepted(tasks, edges) => ReadReply {
+        Ok((tasks, edges)) => ReadReply {
             number: 0,
             detail: 0,
             tasks,
@@ -63,12 +63,12 @@ fn write_reply_of(answer: WriteAnswer) -> WriteReply
     ensures { result ≡ write_reply_of answer }
 {
     match answer {
-        WriteAnswer::Refused(number, detail) => WriteReply {
-            number,
-            detail,
+        Err(why) => WriteReply {
+            number: why.number(),
+            detail: why.detail(),
             used: 0,
         },
-        WriteAnswer::Accepted(used) => WriteReply {
+        Ok(used) => WriteReply {
             number: 0,
             detail: 0,
             used,

@@ -33,15 +33,6 @@ pub record Stripping (g : Graph) (left queue : List ℕ) (head tail : ℕ) : Typ
   pub some : length (sinks_of g) ≤ tail
   pub first : take (length (sinks_of g)) queue ≡ sinks_of g
 
--- where task t's predecessors stand
-pub record Ranges (g : Graph) (t : ℕ) : Type 0 where
-  pub task : t < g.tasks
-  pub small : t < 1024
-  pub starts : t + 1 < length g.starts
-  pub rises : get_or g.starts t 0 ≤ get_or g.starts (t + 1) 0
-  pub inside : get_or g.starts (t + 1) 0 ≤ length g.preds
-  pub edges : length g.preds ≤ 8192
-
 module _ (g : Graph) (sound : Sound g) (left queue : List ℕ) where
   -- the counts at the start: none exactly for a task without successors
   module _ (e : (u : ℕ) → get_or left u 0 ≡ occ u g.preds) where
@@ -107,20 +98,9 @@ module _ (g : Graph) (sound : Sound g) (left queue : List ℕ) where
       next-new : occ (get_or queue head 0) (take head queue) ≡ 0
       next-new = omega (arith, occ-more-hit queue head (omega (arith, queue-length)) (get_or queue head 0) refl, part-once (head + 1) (omega arith) (get_or queue head 0))
 
-      next-task : get_or queue head 0 < g.tasks
+      -- the next of the queue is a task
+      pub next-task : get_or queue head 0 < g.tasks
       next-task = queued-below (get_or queue head 0) next-queued
-
-      -- the next task of the queue
-      pub next-ranges : Ranges g (get_or queue head 0)
-      next-ranges =
-          record {
-            task = next-task;
-            small = omega (arith, next-task, sound.sized.tasks);
-            starts = omega (arith, next-task, sound.sized.starts);
-            rises = (sound.good (get_or queue head 0) next-task).rises;
-            inside = (sound.good (get_or queue head 0) next-task).inside;
-            edges = sound.sized.edges;
-          }
 
       -- its predecessors have as many successors left as it takes
       pub next-counts : (u : ℕ) → occ u (preds_of g (get_or queue head 0)) ≤ get_or left u 0

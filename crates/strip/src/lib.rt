@@ -10,15 +10,15 @@ ghost use Rattle.graph.specs.Conditions.{Sound, ToCycle};
 ghost use Rattle.graph.specs.Stripping.{keep_if, HandsOut};
 ghost use Rattle.strip.specs.Queue.{Queued, Falling, Lowered};
 
+use tables::Table;
+
 // Queues the tasks without successors, the last first, and answers how many there are.
 fn queue_sinks(n: usize, left: &[u32], queue: &mut [u32]) -> usize
     requires { (n ≤ 1024) × ((length left.now ≡ 1024) × (length queue.old ≡ 1024)) }
     ensures { Falling 0 n left.now queue.old queue.new result }
 {
     let mut tail = 0;
-    let mut t = n;
-    while 0 < t {
-        t -= 1;
+    for t in (0..n).rev() {
         tail = queue_if(left, queue, tail, t);
     }
     tail
@@ -57,11 +57,8 @@ fn lower_all(words: &[u32], left: &mut [u32], queue: &mut [u32], from: usize) ->
     ensures { Lowered words.now left.old left.new queue.old queue.new from result }
 {
     let mut tail = from;
-    let mut i = 0;
-    while i < words.len() {
-        let u = words[i] as usize;
-        tail = lower(left, queue, tail, u);
-        i += 1;
+    for &word in words {
+        tail = lower(left, queue, tail, word as usize);
     }
     tail
 }
@@ -74,13 +71,16 @@ pub fn strip(n: usize, starts: &[u32], preds: &[u32], left: &mut [u32], order: &
     ensures { HandsOut (graph_of n starts.now preds.now) order.old order.new result
         × ((t : ℕ) → t < n → (0 < get_or left.new t 0) ↔ ToCycle (graph_of n starts.now preds.now) t) }
 {
+    let table = Table {
+        tasks: n,
+        starts,
+        words: preds,
+    };
     let mut tail = queue_sinks(n, left, order);
     let mut head = 0;
+    // kept: the bound moves, as what a turn queues is a turn to come
     while head < tail {
-        let t = order[head] as usize;
-        let a = starts[t] as usize;
-        let e = starts[t + 1] as usize;
-        tail = lower_all(&preds[a..e], left, order, tail);
+        tail = lower_all(table.part(order[head] as usize), left, order, tail);
         head += 1;
     }
     tail

@@ -14,7 +14,7 @@ use Rattle.graph.specs.Conditions.{Sound}
 use Rattle.graph.specs.Successors.{succs_below, succs_of, succ_start, succ_starts_of, succ_words, degree_list}
 use Rattle.graph.proofs.Parts.{length_part}
 use Rattle.graph.proofs.Reversed.{length-succs_below, length-succs, length-succ_words}
-use Rattle.successors.specs.Filling.{Starts, gaps, sum_below, Summed, placed_of, place_all, Room, Begun}
+use Rattle.successors.specs.Filling.{gaps, sum_below, Summed, placed_of, place_all, Room, Begun}
 use Rattle.successors.proofs.Places.{Filled, filled-same, filled-room, filled-all, filled-whole}
 
 module _ (g : Graph) where
@@ -94,9 +94,6 @@ module _ (g : Graph) (next₀ succs₀ : List ℕ) (b : Begun g next₀ succs₀
 
 -- what the filling's steps hand on, in a sound graph, from the counts of the predecessors
 module _ (g : Graph) (s : Sound g) where
-  pub sound-starts : Starts g.tasks g.starts
-  sound-starts = record { whole = s.sized.starts; rises = λ t h. (s.good t h).rises }
-
   pub gaps-degrees : (degrees : List ℕ) → degrees ≡ gaps g.tasks g.starts → degrees ≡ degree_list g
   unfolding gaps degree_list
   gaps-degrees degrees e = e ∙ tabulate-same g.tasks _ _ (λ t h. sym (length_part (s.good t h)))

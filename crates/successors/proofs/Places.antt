@@ -49,9 +49,6 @@ pub record Placing (t : ℕ) (words next₀ succs₀ next succs : List ℕ) (i :
   pub kept_next : length next ≡ length next₀
   pub kept-succs : length succs ≡ length succs₀
 
-pub placing-none : (t : ℕ) (words next succs : List ℕ) → Room words next succs → Placing t words next succs next succs 0
-placing-none t words next succs r = record { upto = omega arith; same = refl; room = r; kept_next = refl; kept-succs = refl }
-
 place-step : (t u : ℕ) (words : List ℕ) (p : Placed) → place_all t (u ∷ words) p ≡ place_all t words (place_one t u p)
 unfolding place_all
 place-step t u words p = refl

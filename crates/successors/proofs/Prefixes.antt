@@ -41,18 +41,7 @@ pub record Spacing (n : ℕ) (starts degrees : List ℕ) (t : ℕ) : Type 0 wher
   pub whole : length degrees ≡ n
   pub laid : Prefix t (gap starts) degrees
 
-pub spacing-none : (n : ℕ) (starts degrees : List ℕ) → length degrees ≡ n → Spacing n starts degrees 0
-spacing-none n starts degrees e = record { upto = omega arith; whole = e; laid = prefix-none (gap starts) degrees }
-
 module _ (n : ℕ) (starts degrees : List ℕ) (t : ℕ) (s : Spacing n starts degrees t) where
-  pub spacing-more : t < n → Spacing n starts (set degrees t (gap starts t)) (t + 1)
-  spacing-more h =
-      record {
-        upto = omega arith;
-        whole = length-set degrees t (gap starts t) ∙ s.whole;
-        laid = prefix-more t (gap starts) degrees (gap starts t) s.laid (omega (arith, s.whole)) refl;
-      }
-
   pub spacing-whole : n ≤ t → degrees ≡ gaps n starts
   unfolding gaps
   spacing-whole h = prefix-whole n t (gap starts) degrees s.laid h s.whole

@@ -5,17 +5,18 @@ ghost use Rattle.std.specs.Prelude.{◌≡◌, ◌+◌, ◌≤◌, ◌<◌, leng
 ghost use Rattle.graph.specs.Graph.{graph_of};
 ghost use Rattle.graph.specs.Conditions.{Sound};
 ghost use Rattle.graph.specs.Successors.{succ_starts_of, succ_words, degree_list};
+ghost use Rattle.tables.specs.Tables.{graph_in};
 ghost use Rattle.successors.specs.Filling.{Starts, gaps, sum_below, Summed, placed_of, place_all, Room, Begun};
+
+use tables::Table;
 
 // Each task's degree is the number of its predecessors.
 fn fill_degrees(n: usize, starts: &[u32], degrees: &mut [u32])
     requires { Starts n starts.now × (length degrees.old ≡ n) }
     ensures { degrees.new ≡ gaps n starts.now }
 {
-    let mut t = 0;
-    while t < n {
+    for t in 0..n {
         degrees[t] = starts[t + 1] - starts[t];
-        t += 1;
     }
 }
 
@@ -26,13 +27,11 @@ fn fill_starts(n: usize, counts: &mut [u32], starts: &mut [u32])
     ensures { Summed n counts.old counts.new starts.new }
 {
     let mut sum = 0u32;
-    let mut u = 0;
-    while u < n {
+    for u in 0..n {
         let count = counts[u];
         counts[u] = sum;
         starts[u] = sum;
         sum += count;
-        u += 1;
     }
     starts[n] = sum;
 }
@@ -54,25 +53,18 @@ fn place_all(words: &[u32], next: &mut [u32], succs: &mut [u32], t: u32)
     ensures { placed_of next.new succs.new ≡ place_all t words.now (placed_of next.old
         succs.old) }
 {
-    let mut i = 0;
-    while i < words.len() {
-        let u = words[i] as usize;
-        place(next, succs, u, t);
-        i += 1;
+    for &word in words {
+        place(next, succs, word as usize, t);
     }
 }
 
 // The tasks rising, so that each task's successors rise.
-fn fill_words(n: usize, starts: &[u32], preds: &[u32], next: &mut [u32], succs: &mut [u32])
-    requires { Begun (graph_of n starts.now preds.now) next.old succs.old }
-    ensures { succs.new ≡ succ_words (graph_of n starts.now preds.now) }
+fn fill_words(table: Table, next: &mut [u32], succs: &mut [u32])
+    requires { Begun (graph_in table) next.old succs.old }
+    ensures { succs.new ≡ succ_words (graph_in table.entry) }
 {
-    let mut t = 0;
-    while t < n {
-        let a = starts[t] as usize;
-        let e = starts[t + 1] as usize;
-        place_all(&preds[a..e], next, succs, t as u32);
-        t += 1;
+    for t in 0..table.tasks {
+        place_all(table.part(t), next, succs, t as u32);
     }
 }
 
@@ -91,9 +83,14 @@ pub fn fill(
         × ((succs.new ≡ succ_words (graph_of n starts.now preds.now))
         × (degrees.new ≡ degree_list (graph_of n starts.now preds.now))) }
 {
+    let table = Table {
+        tasks: n,
+        starts,
+        words: preds,
+    };
     let mut next = [0u32; 1024];
     tables::count_words(preds, &mut next);
     fill_starts(n, &mut next, succ_starts);
-    fill_words(n, starts, preds, &mut next, succs);
+    fill_words(table, &mut next, succs);
     fill_degrees(n, starts, degrees);
 }

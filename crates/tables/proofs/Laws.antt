@@ -1,14 +1,15 @@
 -- Laws over plain lists and numbers that the leaves' proofs cite.
 use Prim.Native.Nat.{ℕ, ◌+◌, ◌-◌, ◌≤◌, ◌<◌}
 use mathlib.Core.Path.{◌≡◌, refl, sym, ◌∙◌}
+use mathlib.Core.Logic.{◌↔◌}
 use mathlib.Core.List.{List}
 use native.Mathlib.Omega.{arith}
 use native.Mathlib.Decide.{ℕ_discrete, dec_le, dec_lt}
 use native.Mathlib.Numerals.{add-one}
 use mathlib.Core.Bool.{Bool, true, false, not, ◌&&◌}
-use borrow.Author.Tests.{eq-eqb, ne_eqb, not-true, not-false, leb-true, ltb-true, ltb-false}
+use borrow.Author.Tests.{not-true, not-false, ltb-true, ltb-false}
 use borrow.Author.Count.{below_more}
-use lib.Dec.{leb, ltb, eqb}
+use lib.Dec.{leb, ltb}
 use lib.ListN.{length, get_or, set, take, drop, length-take, length-drop}
 use lib.Seq.{take_all, length-take-le, get_or-set_same, get_or-set_other}
 use Rattle.lists.specs.Lists.{occ}
@@ -21,7 +22,7 @@ use Rattle.task.specs.Types.{capped}
 use Rattle.task.specs.declared.Limits.{Limits}
 use Rattle.graph.specs.Graph.{Among, part, Graph, graph_of, preds_of}
 use Rattle.graph.specs.Conditions.{Good, Twice, Sound}
-use Rattle.graph.specs.Decide.{light?, among?, good?, bad?, ends_fit?, twice_in?, twice?}
+use Rattle.graph.specs.Decide.{light?, among?, good?, bad?, twice_in?, twice?}
 use Rattle.graph.specs.Check.{sizes_fit, first_bad, first_twice}
 use Rattle.graph.proofs.Parts.{occ-preds}
 use Rattle.lists.proofs.Sums.{sum-suc}
@@ -69,15 +70,17 @@ unfolding sizes_fit
 sizes-made l k n e h = rw h
 
 -- Words below n.
-module _ (words : List ℕ) (n i : ℕ) where
-  pub word-beyond : i < length words → n ≤ get_or words i 0 → false ≡ holds (among? (λ u. dec_lt u n) words)
-  word-beyond h b = sym (no-holds (among? (λ u. dec_lt u n) words) (λ f. omega (arith, word_below words i h n f)))
-
-  pub words-below : length words ≤ i → ((k : ℕ) → k < i → get_or words k 0 < n) → true ≡ holds (among? (λ u. dec_lt u n) words)
-  words-below h f = sym (yes-holds (among? (λ u. dec_lt u n) words) all)
+module _ (words : List ℕ) (n : ℕ) where
+  pub words-below : (i : ℕ) → length words ≤ i → ((k : ℕ) → k < i → get_or words k 0 < n) → true ≡ holds (among? (λ u. dec_lt u n) words)
+  words-below i h f = sym (yes-holds (among? (λ u. dec_lt u n) words) all)
     where
       all : (u : ℕ) → Among u words → u < n
       all u m = let w : (k : ℕ) × (k < length words) × (get_or words k 0 ≡ u) = occ-at ℕ_discrete 0 u words m in omega (arith, f w.0 (omega (arith, w.1)), w.2)
+
+  -- what tells of each word decides
+  pub below-told : (r : Bool) → (r ≡ true) ↔ ((k : ℕ) → k < length words → get_or words k 0 < n) → r ≡ holds (among? (λ u. dec_lt u n) words)
+  below-told true f = words-below (length words) (omega arith) (f.0 refl)
+  below-told false f = sym (no-holds (among? (λ u. dec_lt u n) words) (λ g. true-and-false (f.1 (λ k h. word_below words k h n g)) refl))
 
 -- Of the first i words, whether all are below n.
 pub record BelowTo (words : List ℕ) (n i : ℕ) (below : Bool) : Type 0 where
@@ -85,9 +88,6 @@ pub record BelowTo (words : List ℕ) (n i : ℕ) (below : Bool) : Type 0 where
   pub some : below ≡ false → ¬ ((u : ℕ) → Among u words → u < n)
 
 module _ (words : List ℕ) (n : ℕ) where
-  pub below_none : BelowTo words n 0 true
-  below_none = record { all = λ e k h. absurd (omega (arith, h)); some = λ e f. true-and-false refl e }
-
   pub below_on : (i : ℕ) (below : Bool) → BelowTo words n i below → i < length words → BelowTo words n (i + 1) (below && ltb (get_or words i 0) n)
   below_on i true b h =
       record {
@@ -111,33 +111,8 @@ light-made weights false e = sym (no-holds (light? weights) (λ f. holds-no (amo
         let w : (k : ℕ) × (k < length weights) × (get_or weights k 0 ≡ u) = occ-at ℕ_discrete 0 u weights m in
         omega (arith, f w.0 w.1, w.2)
 
--- Of the first i ranges, whether all rise.
-pub record RisesTo (starts : List ℕ) (most i : ℕ) (rise : Bool) : Type 0 where
-  pub all : rise ≡ true → RangesRise i starts most
-
-module _ (starts : List ℕ) (most : ℕ) where
-  pub rises-none : RisesTo starts most 0 true
-  rises-none = record { all = λ e t h. absurd (omega (arith, h)) }
-
-  pub rises-on : (i : ℕ) (rise : Bool) → RisesTo starts most i rise
-      → RisesTo starts most (i + 1) (rise && (leb (get_or starts i 0) (get_or starts (i + 1) 0) && leb (get_or starts (i + 1) 0) most))
-  rises-on i rise r =
-      record {
-        all =
-            λ e.
-            let b = and-true _ _ e in
-            let f = and-true _ _ b.1 in
-            below_more _ _ (r.all b.0) (leb-true _ _ f.0, leb-true _ _ f.1);
-      }
-
 -- A part: its range, and its words.
 module _ (n : ℕ) (starts words : List ℕ) (t : ℕ) where
-  pub part_falls : get_or starts (t + 1) 0 < get_or starts t 0 → false ≡ holds (good? n starts words t)
-  part_falls h = sym (no-holds (good? n starts words t) (λ g. omega (arith, g.rises)))
-
-  pub part-outside : length words < get_or starts (t + 1) 0 → false ≡ holds (good? n starts words t)
-  part-outside h = sym (no-holds (good? n starts words t) (λ g. omega (arith, g.inside)))
-
   pub part-words : (r : Bool) → get_or starts t 0 ≤ get_or starts (t + 1) 0 → get_or starts (t + 1) 0 ≤ length words
       → r ≡ holds (among? (λ u. dec_lt u n) (take (get_or starts (t + 1) 0 - get_or starts t 0) (drop (get_or starts t 0) words)))
       → r ≡ holds (good? n starts words t)
@@ -177,21 +152,6 @@ flat_good n starts preds bound most h l below rise e b r = bad-none n starts pre
           inside = omega (arith, (r both.1 k m).1);
           below = λ u q. omega (arith, holds-yes (among? (λ u. dec_lt u bound) preds) (sym b ∙ both.0) u (inside-among u (get_or starts k 0) (get_or starts (k + 1) 0 - get_or starts k 0) preds q));
         }
-
--- The first and the last start.
-pub ends-made : (n : ℕ) (starts preds : List ℕ)
-    → eqb (get_or starts 0 0) 0 && eqb (get_or starts n 0) (length preds) ≡ holds (ends_fit? (graph_of n starts preds))
-ends-made n starts preds = go (ℕ_discrete (get_or starts 0 0) 0) (ℕ_discrete (get_or starts n 0) (length preds))
-  where
-    go : Dec (◌≡◌ {A = ℕ} (get_or starts 0 0) 0) → Dec (get_or starts n 0 ≡ length preds)
-        → eqb (get_or starts 0 0) 0 && eqb (get_or starts n 0) (length preds) ≡ holds (ends_fit? (graph_of n starts preds))
-    go (yes a) (yes b) =
-        rw (eq-eqb (get_or starts 0 0) 0 a, eq-eqb (get_or starts n 0) (length preds) b)
-        (sym (yes-holds (ends_fit? (graph_of n starts preds)) (record { first = a; last = b })))
-    go (yes a) (no m) =
-        rw (eq-eqb (get_or starts 0 0) 0 a, ne_eqb (get_or starts n 0) (length preds) m)
-        (sym (no-holds (ends_fit? (graph_of n starts preds)) (λ f. m f.last)))
-    go (no m) b = rw (ne_eqb (get_or starts 0 0) 0 m) (sym (no-holds (ends_fit? (graph_of n starts preds)) (λ f. m f.first)))
 
 -- After i words no word was met twice, and those that were met are the ones whose mark carries the stamp.
 pub record Met (words marks : List ℕ) (stamp i : ℕ) : Type 0 where
@@ -245,28 +205,23 @@ module _ {words marks : List ℕ} {stamp i : ℕ} (k : Met words marks stamp i) 
       sym (no-holds (twice_in? words) (λ w. omega (arith, w.1, rw (take_all i words h) at (k.once w.0))))
 
 -- The first part with a word twice.
-module _ {n : ℕ} {starts preds : List ℕ} (s : Sound (graph_of n starts preds)) (t : ℕ) where
-  pub part_small : t < n → (u : ℕ) → Among u (take (get_or starts (t + 1) 0 - get_or starts t 0) (drop (get_or starts t 0) preds)) → u < 1024
-  unfolding part
+module _ {g : Graph} (s : Sound g) (t : ℕ) where
+  pub part_small : t < g.tasks → (u : ℕ) → Among u (preds_of g t) → u < 1024
   part_small h u m = omega (arith, s.sized.tasks, (s.good t h).below u m)
 
-  pub twice_found : (r : Bool) → t < n → r ≡ true → r ≡ holds (twice_in? (take (get_or starts (t + 1) 0 - get_or starts t 0) (drop (get_or starts t 0) preds)))
-      → ((k : ℕ) → k < t → ¬ (Twice (graph_of n starts preds) k)) → t ≡ first_twice (graph_of n starts preds)
-  unfolding part first_twice
-  twice_found r h e m f =
-      first-is n (twice? (graph_of n starts preds)) t h
-      (holds-yes (twice_in? (take (get_or starts (t + 1) 0 - get_or starts t 0) (drop (get_or starts t 0) preds))) (sym m ∙ e)) f
-
-  pub once-found : (r : Bool) → r ≡ false → r ≡ holds (twice_in? (take (get_or starts (t + 1) 0 - get_or starts t 0) (drop (get_or starts t 0) preds)))
-      → ¬ (Twice (graph_of n starts preds) t)
-  unfolding part
-  once-found r e m = holds-no (twice_in? (take (get_or starts (t + 1) 0 - get_or starts t 0) (drop (get_or starts t 0) preds))) (sym m ∙ e)
-
-  pub twice-none : n ≤ t → ((k : ℕ) → k < t → ¬ (Twice (graph_of n starts preds) k)) → n ≡ first_twice (graph_of n starts preds)
+  pub twice_found : (r : Bool) → t < g.tasks → r ≡ true → r ≡ holds (twice_in? (preds_of g t)) → ((k : ℕ) → k < t → ¬ (Twice g k)) → t ≡ first_twice g
   unfolding first_twice
-  twice-none h f = first-none n (twice? (graph_of n starts preds)) (λ k l. f k (omega arith))
+  twice_found r h e m f = first-is g.tasks (twice? g) t h (holds-yes (twice_in? (preds_of g t)) (sym m ∙ e)) f
 
-pub part-short : (starts words : List ℕ) (t n : ℕ) → length words ≤ n → length (take (get_or starts (t + 1) 0 - get_or starts t 0) (drop (get_or starts t 0) words)) ≤ n
+  pub once-found : (r : Bool) → r ≡ false → r ≡ holds (twice_in? (preds_of g t)) → ¬ (Twice g t)
+  once-found r e m = holds-no (twice_in? (preds_of g t)) (sym m ∙ e)
+
+  pub twice-none : g.tasks ≤ t → ((k : ℕ) → k < t → ¬ (Twice g k)) → g.tasks ≡ first_twice g
+  unfolding first_twice
+  twice-none h f = first-none g.tasks (twice? g) (λ k l. f k (omega arith))
+
+pub part-short : (starts words : List ℕ) (t n : ℕ) → length words ≤ n → length (part starts words t) ≤ n
+unfolding part
 part-short starts words t n h =
     omega (arith, length-take (get_or starts (t + 1) 0 - get_or starts t 0) (drop (get_or starts t 0) words), length-drop (get_or starts t 0) words)
 

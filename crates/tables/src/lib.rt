@@ -6,13 +6,34 @@ ghost use Rattle.std.specs.Prelude.{◌≡◌, true, false, ℕ, ◌+◌, ◌≤
 ghost use Rattle.std.proofs.Math.Decide.{dec_lt};
 ghost use Rattle.lists.specs.Decided.{holds};
 ghost use Rattle.lists.specs.Lists.{occ};
-ghost use Rattle.graph.specs.Graph.{Among, graph_of};
+ghost use Rattle.graph.specs.Graph.{Among, part, graph_of};
 ghost use Rattle.graph.specs.Conditions.{Sound};
 ghost use Rattle.graph.specs.Decide.{light?, among?, good?, ends_fit?, twice_in?};
 ghost use Rattle.graph.specs.Check.{sizes_fit, first_bad, first_twice};
 ghost use Rattle.tables.specs.Ranges.{RangesRise};
 
 use task::Limits;
+
+// A predecessor table that row 3 does not refuse: its ranges rise and lie inside, and its words are below N.
+#[derive(Clone, Copy)]
+pub struct Table<'a> {
+    pub tasks: usize,
+    pub starts: &'a [u32],
+    pub words: &'a [u32],
+    pub ghost sound: { Sound (graph_of tasks starts.now words.now) },
+}
+
+impl<'a> Table<'a> {
+    // Task t's words.
+    pub fn part(self, t: usize) -> &'a [u32]
+        requires { t < self.tasks }
+        ensures { result.now ≡ part self.entry.starts.now self.entry.words.now t }
+    {
+        let a = self.starts[t] as usize;
+        let e = self.starts[t + 1] as usize;
+        &self.words[a..e]
+    }
+}
 
 // N and E are within the limits.
 pub fn sizes_fit(limits: Limits, n: usize, e: usize) -> bool
@@ -27,10 +48,8 @@ pub fn flat_below(words: &[u32], bound: u32) -> bool
     ensures { result ≡ holds (among? (λ u. dec_lt u bound) words.now) }
 {
     let mut below = true;
-    let mut i = 0;
-    while i < words.len() {
-        below = below & (words[i] < bound);
-        i += 1;
+    for &word in words {
+        below &= word < bound;
     }
     below
 }
@@ -46,14 +65,7 @@ pub fn weights_fit(weights: &[u32]) -> bool
 fn all_below(words: &[u32], n: usize) -> bool
     ensures { result ≡ holds (among? (λ u. dec_lt u n) words.now) }
 {
-    let mut i = 0;
-    while i < words.len() {
-        if n <= words[i] as usize {
-            return false;
-        }
-        i += 1;
-    }
-    true
+    words.iter().all(|&word| (word as usize) < n)
 }
 
 // Task t's range rises and lies inside, and its words are below n.
@@ -77,12 +89,10 @@ fn search_bad(n: usize, starts: &[u32], preds: &[u32]) -> usize
     requires { length starts.now ≡ n + 1 }
     ensures { result ≡ first_bad (graph_of n starts.now preds.now) }
 {
-    let mut t = 0;
-    while t < n {
+    for t in 0..n {
         if !part_good(n, starts, preds, t) {
             return t;
         }
-        t += 1;
     }
     n
 }
@@ -91,7 +101,7 @@ fn search_bad(n: usize, starts: &[u32], preds: &[u32]) -> usize
 fn as_word(n: usize) -> u32
     ensures { result ≤ n }
 {
-    if n <= 4294967295 { n as u32 } else { 0 }
+    u32::try_from(n).unwrap_or(0)
 }
 
 // Every range rises and ends at `most` or before.
@@ -100,10 +110,8 @@ fn ranges_rise(n: usize, starts: &[u32], most: u32) -> bool
     ensures { result ≡ true → RangesRise n starts.now most }
 {
     let mut rise = true;
-    let mut t = 0;
-    while t < n {
-        rise = rise & ((starts[t] <= starts[t + 1]) & (starts[t + 1] <= most));
-        t += 1;
+    for t in 0..n {
+        rise &= (starts[t] <= starts[t + 1]) & (starts[t + 1] <= most);
     }
     rise
 }
@@ -140,42 +148,30 @@ fn has_twice(words: &[u32], marks: &mut [u32], counts: &mut [u32], stamp: u32) -
     ensures { (result ≡ holds (twice_in? words.now)) × (((u : ℕ) → get_or marks.new u 0 ≤ stamp)
         × (result ≡ false → (u : ℕ) → get_or counts.new u 0 ≡ get_or counts.old u 0 + occ u words.now)) }
 {
-    let mut i = 0;
-    while i < words.len() {
-        let u = words[i] as usize;
+    for &word in words {
+        let u = word as usize;
         if marks[u] == stamp {
             return true;
         }
         marks[u] = stamp;
-        counts[u] = counts[u] + 1;
-        i += 1;
+        counts[u] += 1;
     }
     false
 }
 
 // The scan, with marks and counts that start at 0.
-fn scan_twice(
-    n: usize,
-    starts: &[u32],
-    preds: &[u32],
-    marks: &mut [u32],
-    counts: &mut [u32],
-) -> usize
-    requires { Sound (graph_of n starts.now preds.now) × (((length marks.old ≡ 1024) × (length counts.old ≡ 1024))
-        × (((u : ℕ) → get_or marks.old u 0 ≡ 0) × ((u : ℕ) → get_or counts.old u 0 ≡ 0))) }
-    ensures { (result ≡ first_twice (graph_of n starts.now preds.now))
-        × (n ≤ result → (u : ℕ) → get_or counts.new u 0 ≡ occ u preds.now) }
+fn scan_twice(table: Table, marks: &mut [u32], counts: &mut [u32]) -> usize
+    requires { ((length marks.old ≡ 1024) × (length counts.old ≡ 1024))
+        × (((u : ℕ) → get_or marks.old u 0 ≡ 0) × ((u : ℕ) → get_or counts.old u 0 ≡ 0)) }
+    ensures { (result ≡ first_twice (graph_of table.entry.tasks table.entry.starts.now table.entry.words.now))
+        × (table.entry.tasks ≤ result → (u : ℕ) → get_or counts.new u 0 ≡ occ u table.entry.words.now) }
 {
-    let mut t = 0;
-    while t < n {
-        let a = starts[t] as usize;
-        let e = starts[t + 1] as usize;
-        if has_twice(&preds[a..e], marks, counts, t as u32 + 1) {
+    for t in 0..table.tasks {
+        if has_twice(table.part(t), marks, counts, t as u32 + 1) {
             return t;
         }
-        t += 1;
     }
-    n
+    table.tasks
 }
 
 // The smallest task with a predecessor twice, or n; then the counts, 0 before, are the numbers of successors.
@@ -185,7 +181,12 @@ pub fn first_twice(n: usize, starts: &[u32], preds: &[u32], counts: &mut [u32]) 
         × (n ≤ result → (u : ℕ) → get_or counts.new u 0 ≡ occ u preds.now) }
 {
     let mut marks = [0u32; 1024];
-    scan_twice(n, starts, preds, &mut marks, counts)
+    let table = Table {
+        tasks: n,
+        starts,
+        words: preds,
+    };
+    scan_twice(table, &mut marks, counts)
 }
 
 // How often each number stands in the list; the counts start at 0.
@@ -193,10 +194,7 @@ pub fn count_words(words: &[u32], counts: &mut [u32])
     requires { ((u : ℕ) → Among u words.now → u < length counts.old) × ((length words.now ≤ 8192) × ((u : ℕ) → get_or counts.old u 0 ≡ 0)) }
     ensures { (u : ℕ) → get_or counts.new u 0 ≡ occ u words.now }
 {
-    let mut i = 0;
-    while i < words.len() {
-        let u = words[i] as usize;
-        counts[u] = counts[u] + 1;
-        i += 1;
+    for &word in words {
+        counts[word as usize] += 1;
     }
 }

@@ -10,10 +10,10 @@ use borrow.Author.Tests.{ltb-true, ltb-false}
 use Rattle.lists.specs.Decided.{first_below, Smallest}
 use Rattle.lists.proofs.Decided.{first-smallest, first-least, smallest-unique}
 use Rattle.lists.proofs.Told.{Told, told-true, told-false, told}
-use Rattle.task.specs.Refusals.{Said, refused, answered, accepted, answer_says, refused_if, and_then}
+use Rattle.std.specs.Prelude.{Ok, Err}
+use Rattle.task.specs.Refusals.{Said, refused, answered, accepted, Answer, refusal_number, refusal_detail, refusal_says, answer_says, refused_if, and_then}
 use Rattle.task.specs.Rows.{Refusal, row, only, Passed, Given, Clear, Acceptance, Follows}
-use Rattle.task.specs.declared.Answer.{Answer}
-use Rattle.task.specs.declared.Answer.TheVariants.{Refused, Accepted}
+use Rattle.task.specs.declared.refusal.Refusal as why
 
 -- no row is left, and the call is accepted
 pub follows-none : (said : Said) → Acceptance said → Follows [] said
@@ -36,24 +36,25 @@ follows-passed r rs said p f = record { refuses = λ n d. (λ e. inr (p, (f.refu
     back n d (inr q) = (f.refuses n d).1 q.1
 
 -- the row that a test stands for, and then the rows after it
-pub test-row : (b : Bool) {C : Type 0} (n x : ℕ) (rest : List Refusal) (a : Answer) → Told b C (¬ C) → (b ≡ false → Follows rest (answer_says a))
-    → Follows (row n (only x C) ∷ rest) (answer_says (refused_if b n x a))
-test-row b {C} n x rest a (told-true e c) r = rw e (follows-given (row n (only x C)) rest x (refl, c) (λ y p. p.0))
-test-row b {C} n x rest a (told-false e f) r = rw e (follows-passed (row n (only x C)) rest (answer_says a) (λ d c. f c.1) (r e))
+pub test-row : (b : Bool) {C : Type 0} (y : why.Refusal) (rest : List Refusal) (a : Answer) → Told b C (¬ C) → (b ≡ false → Follows rest (answer_says a))
+    → Follows (row (refusal_number y) (only (refusal_detail y) C) ∷ rest) (answer_says (refused_if b y a))
+test-row b {C} y rest a (told-true e c) r = rw e (follows-given (row (refusal_number y) (only (refusal_detail y) C)) rest (refusal_detail y) (refl, c) (λ x p. p.0))
+test-row b {C} y rest a (told-false e f) r = rw e (follows-passed (row (refusal_number y) (only (refusal_detail y) C)) rest (answer_says a) (λ d c. f c.1) (r e))
 
 -- the row of the smallest task that has a property, and then the rows after it
-module _ (n : ℕ) {P : ℕ → Type 0} (d : (t : ℕ) → Dec (P t)) (Q : ℕ → Type 0) (to : (t : ℕ) → (t < n) × P t → Q t) (from : (t : ℕ) → Q t → (t < n) × P t) (k : ℕ) (rest : List Refusal) (a : Answer) where
+module _ (n : ℕ) {P : ℕ → Type 0} (d : (t : ℕ) → Dec (P t)) (Q : ℕ → Type 0) (to : (t : ℕ) → (t < n) × P t → Q t) (from : (t : ℕ) → Q t → (t < n) × P t) (y : ℕ → why.Refusal)
+    (k : ℕ) (told_by : (t : ℕ) → refusal_says (y t) ≡ refused k t) (rest : List Refusal) (a : Answer) where
   found : first_below n d < n → Smallest Q (first_below n d)
   found h =
       let s : Smallest (λ t. (t < n) × P t) (first_below n d) = first-smallest n d h in
       record { such = to (first_below n d) s.such; least = λ t l q. s.least t l (from t q) }
 
   pub smallest-row : (((t : ℕ) → t < n → ¬ (P t)) → Follows rest (answer_says a))
-      → Follows (row k (Smallest Q) ∷ rest) (answer_says (refused_if (ltb (first_below n d) n) k (first_below n d) a))
+      → Follows (row k (Smallest Q) ∷ rest) (answer_says (refused_if (ltb (first_below n d) n) (y (first_below n d)) a))
   smallest-row r = go (told (ltb (first_below n d) n) (ltb-true (first_below n d) n) (ltb-false (first_below n d) n))
     where
-      go : Told (ltb (first_below n d) n) (first_below n d < n) (n ≤ first_below n d) → Follows (row k (Smallest Q) ∷ rest) (answer_says (refused_if (ltb (first_below n d) n) k (first_below n d) a))
-      go (told-true e h) = rw e (follows-given (row k (Smallest Q)) rest (first_below n d) (found h) (λ x s. smallest-unique s (found h)))
+      go : Told (ltb (first_below n d) n) (first_below n d < n) (n ≤ first_below n d) → Follows (row k (Smallest Q) ∷ rest) (answer_says (refused_if (ltb (first_below n d) n) (y (first_below n d)) a))
+      go (told-true e h) = rw (e, told_by (first_below n d)) (follows-given (row k (Smallest Q)) rest (first_below n d) (found h) (λ x s. smallest-unique s (found h)))
       go (told-false e h) =
           rw e (follows-passed (row k (Smallest Q)) rest (answer_says a)
           (λ x s. first-least n d x (omega (arith, (from x s.such).0)) (from x s.such).1)
@@ -86,18 +87,18 @@ given-parts (r ∷ rows) rest n d (inr (p, g)) = go (given-parts rows rest n d g
     go (inr (c, h)) = inr ((p, c), h)
 
 -- two answers after each other follow the rows of the first and then those of the second
-pub follows_then : (rows rest : List Refusal) (a b : Answer) → Follows rows (answer_says a) → (a ≡ Accepted → Follows rest (answer_says b))
+pub follows_then : (rows rest : List Refusal) (a b : Answer) → Follows rows (answer_says a) → (a ≡ Ok tt → Follows rest (answer_says b))
     → Follows (rows ++ rest) (answer_says (and_then a b))
-follows_then rows rest (Refused x y) b f g =
+follows_then rows rest (Err y) b f g =
     record {
       refuses = λ n d. (λ e. given-former rows rest n d ((f.refuses n d).0 e), λ h. back n d (given-parts rows rest n d h));
       accepts = (λ a. absurd a, λ c. f.accepts.1 ((clear-parts rows rest).0 c).0);
     }
   where
-    back : (n d : ℕ) → Given rows n d ⊎ (Clear rows × Given rest n d) → refused x y ≡ refused n d
+    back : (n d : ℕ) → Given rows n d ⊎ (Clear rows × Given rest n d) → refusal_says y ≡ refused n d
     back n d (inl h) = (f.refuses n d).1 h
     back n d (inr h) = absurd (f.accepts.1 h.0)
-follows_then rows rest Accepted b f g =
+follows_then rows rest (Ok u) b f g =
     record {
       refuses = λ n d. (λ e. given-latter rows rest n d (f.accepts.0 tt) (((g refl).refuses n d).0 e), λ h. back n d (given-parts rows rest n d h));
       accepts = (λ a. (clear-parts rows rest).1 (f.accepts.0 tt, (g refl).accepts.0 a), λ c. (g refl).accepts.1 ((clear-parts rows rest).0 c).1);

@@ -9,27 +9,66 @@ use lib.ListN.{get_or}
 use lib.Dec.{eqb, leb}
 use borrow.Author.Tests.{leb-true}
 use Rattle.lists.proofs.Told.{and-true}
-use Rattle.task.specs.Refusals.{Said, refused, answered, step_says, number_of}
+use Rattle.std.specs.Prelude.{Ok, Err, ◌-◌}
+use Rattle.task.specs.Refusals.{Said, refused, answered, StepAnswer, refusal_number, refusal_detail, step_says, number_of}
 use Rattle.task.specs.Rows.{Refusal, Given, Acceptance, Follows}
-use Rattle.task.specs.declared.StepAnswer.{StepAnswer}
-use Rattle.task.specs.declared.StepAnswer.TheVariants.{Refused, Accepted}
+use Rattle.task.specs.declared.refusal.Refusal as why
+use Rattle.task.specs.declared.refusal.Refusal.TheVariants.{WrongLength, BeyondLimit, BadTable, Duplicate, Cycle, TooManyRoots, NoSuchWorker, Damaged, WrongPhase, NothingThere, RingsFull, RecordFull, BrokenLayout, NoDummies, BadWindow}
 use Rattle.task.specs.declared.StepOutcome.TheVariants.{Moved, Fetched, Released}
 use Rattle.task.specs.declared.ReleaseOutcome.TheVariants.{DegreeLeft, Placed}
 
+-- the refusal with this number and detail; no other refusal has them
+abbrev pub refusal_of : ℕ → ℕ → why.Refusal
+refusal_of n d =
+    get_or
+    (WrongLength
+    ∷ BeyondLimit
+    ∷ BadTable d
+    ∷ Duplicate d
+    ∷ Cycle d
+    ∷ TooManyRoots d
+    ∷ NoSuchWorker d
+    ∷ Damaged
+    ∷ WrongPhase d
+    ∷ NothingThere
+    ∷ RingsFull d
+    ∷ RecordFull
+    ∷ BrokenLayout d
+    ∷ NoDummies
+    ∷ BadWindow
+    ∷ []) (n - 1) Damaged
+
+pub refusal-of : (y : why.Refusal) → refusal_of (refusal_number y) (refusal_detail y) ≡ y
+refusal-of WrongLength = refl
+refusal-of BeyondLimit = refl
+refusal-of (BadTable d) = refl
+refusal-of (Duplicate d) = refl
+refusal-of (Cycle d) = refl
+refusal-of (TooManyRoots d) = refl
+refusal-of (NoSuchWorker d) = refl
+refusal-of Damaged = refl
+refusal-of (WrongPhase d) = refl
+refusal-of NothingThere = refl
+refusal-of (RingsFull d) = refl
+refusal-of RecordFull = refl
+refusal-of (BrokenLayout d) = refl
+refusal-of NoDummies = refl
+refusal-of BadWindow = refl
+
 -- the step answer that says this; no step says anything else
 abbrev answer_of : Said → StepAnswer
-answer_of (refused n d) = Refused n d
+answer_of (refused n d) = Err (refusal_of n d)
 answer_of (answered k vs) =
-    cond (eqb k 1) (Accepted (Fetched (record { 0 = get_or vs 0 0 })))
-    (cond (eqb k 2) (Accepted (Released (DegreeLeft (get_or vs 0 0))))
-    (cond (eqb k 3) (Accepted (Released (Placed (record { 0 = get_or vs 0 0 }) (record { 0 = get_or vs 1 0 })))) (Accepted Moved)))
+    cond (eqb k 1) (Ok (Fetched (record { 0 = get_or vs 0 0 })))
+    (cond (eqb k 2) (Ok (Released (DegreeLeft (get_or vs 0 0))))
+    (cond (eqb k 3) (Ok (Released (Placed (record { 0 = get_or vs 0 0 }) (record { 0 = get_or vs 1 0 })))) (Ok Moved)))
 
 answer-of : (a : StepAnswer) → answer_of (step_says a) ≡ a
-answer-of (Refused n d) = refl
-answer-of (Accepted Moved) = refl
-answer-of (Accepted (Fetched t)) = refl
-answer-of (Accepted (Released (DegreeLeft d))) = refl
-answer-of (Accepted (Released (Placed t w))) = refl
+answer-of (Err y) = ap Err (refusal-of y)
+answer-of (Ok Moved) = refl
+answer-of (Ok (Fetched t)) = refl
+answer-of (Ok (Released (DegreeLeft d))) = refl
+answer-of (Ok (Released (Placed t w))) = refl
 
 -- PROMISE: no two step answers say the same, so what a step says is as good as its answer
 pub step-said : (a b : StepAnswer) → step_says a ≡ step_says b → a ≡ b

@@ -1,10 +1,8 @@
 -- "Which step suits which phase is a fixed table of phase against step: Release 0→0, Fetch 0→1, Start 1→2, Complete 2→0;
 -- the other eight pairs are refused."
-use Rattle.std.specs.Prelude.{ℕ, cond, eqb}
+use Rattle.std.specs.Prelude.{ℕ, cond, eqb, Option, Some, None}
 use Rattle.task.specs.declared.Step.{Step}
 use Rattle.task.specs.declared.Step.TheVariants.{Fetch, Start, Complete, Release}
-use Rattle.task.specs.declared.Next.{Next}
-use Rattle.task.specs.declared.Next.TheVariants.{Refused, To}
 
 -- the phase that a step suits
 abbrev pub suits : Step → ℕ
@@ -20,8 +18,9 @@ leads_to Fetch = 1
 leads_to Start = 2
 leads_to Complete = 0
 
-unfoldable pub next_phase : ℕ → Step → Next
-next_phase phase step = cond (eqb phase (suits step)) (To (leads_to step)) Refused
+-- the phase after a step, or none where the step is refused
+unfoldable pub next_phase : ℕ → Step → Option ℕ
+next_phase phase step = cond (eqb phase (suits step)) (Some (leads_to step)) None
 
 -- the steps' columns in the table
 abbrev pub step_number : Step → ℕ

@@ -1,17 +1,11 @@
 -- The numbers of document 01's table of refused calls, and what each answer says in the paper's terms.
-use Rattle.std.specs.Prelude.{ℕ, Bool, cond, List, [], ◌∷◌, get_or}
-use Rattle.task.specs.declared.Answer.{Answer}
-use Rattle.task.specs.declared.Answer.TheVariants as answer
-use Rattle.task.specs.declared.ReadAnswer.{ReadAnswer}
-use Rattle.task.specs.declared.ReadAnswer.TheVariants as read_answer
-use Rattle.task.specs.declared.WriteAnswer.{WriteAnswer}
-use Rattle.task.specs.declared.WriteAnswer.TheVariants as write-answer
+use Rattle.std.specs.Prelude.{ℕ, Bool, cond, List, [], ◌∷◌, get_or, Result, Ok, Err}
+use Rattle.task.specs.declared.refusal.Refusal.{Refusal}
+use Rattle.task.specs.declared.refusal.Refusal.TheVariants.{WrongLength, BeyondLimit, BadTable, Duplicate, Cycle, TooManyRoots, NoSuchWorker, Damaged, WrongPhase, NothingThere, RingsFull, RecordFull, BrokenLayout, NoDummies, BadWindow}
 use Rattle.task.specs.declared.ReleaseOutcome.{ReleaseOutcome}
 use Rattle.task.specs.declared.ReleaseOutcome.TheVariants.{DegreeLeft, Placed}
 use Rattle.task.specs.declared.StepOutcome.{StepOutcome}
 use Rattle.task.specs.declared.StepOutcome.TheVariants.{Moved, Fetched, Released}
-use Rattle.task.specs.declared.StepAnswer.{StepAnswer}
-use Rattle.task.specs.declared.StepAnswer.TheVariants as step-answer
 
 -- "a lent length isn't the stated one"; of the writer "a buffer too small"
 abbrev pub wrong_length : ℕ
@@ -73,6 +67,54 @@ no_dummies = 14
 abbrev pub bad_window : ℕ
 bad_window = 15
 
+-- the row of the table that a refusal is, and its detail: "A later refusal without a stated detail has detail 0."
+abbrev pub refusal_number : Refusal → ℕ
+refusal_number WrongLength = wrong_length
+refusal_number BeyondLimit = beyond_limit
+refusal_number (BadTable d) = bad_table
+refusal_number (Duplicate d) = duplicate
+refusal_number (Cycle d) = cycle
+refusal_number (TooManyRoots d) = too_many_roots
+refusal_number (NoSuchWorker d) = no_such_worker
+refusal_number Damaged = damaged
+refusal_number (WrongPhase d) = wrong_phase
+refusal_number NothingThere = nothing_there
+refusal_number (RingsFull d) = rings_full
+refusal_number RecordFull = record_full
+refusal_number (BrokenLayout d) = broken_layout
+refusal_number NoDummies = no_dummies
+refusal_number BadWindow = bad_window
+
+abbrev pub refusal_detail : Refusal → ℕ
+refusal_detail WrongLength = 0
+refusal_detail BeyondLimit = 0
+refusal_detail (BadTable d) = d
+refusal_detail (Duplicate d) = d
+refusal_detail (Cycle d) = d
+refusal_detail (TooManyRoots d) = d
+refusal_detail (NoSuchWorker d) = d
+refusal_detail Damaged = 0
+refusal_detail (WrongPhase d) = d
+refusal_detail NothingThere = 0
+refusal_detail (RingsFull d) = d
+refusal_detail RecordFull = 0
+refusal_detail (BrokenLayout d) = d
+refusal_detail NoDummies = 0
+refusal_detail BadWindow = 0
+
+-- what the calls answer: acceptance with what it answers, or why they are refused
+abbrev pub Answer : Type 0
+Answer = Result (Unit {0}) Refusal
+
+abbrev pub ReadAnswer : Type 0
+ReadAnswer = Result (ℕ × ℕ) Refusal
+
+abbrev pub WriteAnswer : Type 0
+WriteAnswer = Result ℕ Refusal
+
+abbrev pub StepAnswer : Type 0
+StepAnswer = Result StepOutcome Refusal
+
 -- what an answer says: a refusal's number and detail, or acceptance with the numbers that the call answers; what they are, the kind tells
 pub data Said : Type 0 where
   refused : (number detail : ℕ) → Said
@@ -119,17 +161,21 @@ abbrev pub value_at : ℕ → Said → ℕ
 value_at i (refused n d) = 0
 value_at i (answered k vs) = get_or vs i 0
 
+-- "Answer: the number and a detail"
+abbrev pub refusal_says : Refusal → Said
+refusal_says why = refused (refusal_number why) (refusal_detail why)
+
 abbrev pub answer_says : Answer → Said
-answer_says (answer.Refused n d) = refused n d
-answer_says answer.Accepted = accepted
+answer_says (Err why) = refusal_says why
+answer_says (Ok u) = accepted
 
 abbrev pub read_says : ReadAnswer → Said
-read_says (read_answer.Refused n d) = refused n d
-read_says (read_answer.Accepted n e) = graph_read n e
+read_says (Err why) = refusal_says why
+read_says (Ok (n, e)) = graph_read n e
 
 abbrev pub write_says : WriteAnswer → Said
-write_says (write-answer.Refused n d) = refused n d
-write_says (write-answer.Accepted b) = bytes_used b
+write_says (Err why) = refusal_says why
+write_says (Ok b) = bytes_used b
 
 abbrev pub release_says : ReleaseOutcome → Said
 release_says (DegreeLeft d) = degree_left d
@@ -141,14 +187,14 @@ outcome_says (Fetched t) = task_fetched t.0
 outcome_says (Released o) = release_says o
 
 abbrev pub step_says : StepAnswer → Said
-step_says (step-answer.Refused n d) = refused n d
-step_says (step-answer.Accepted o) = outcome_says o
+step_says (Err why) = refusal_says why
+step_says (Ok o) = outcome_says o
 
 -- a test that refuses, and what is answered where it doesn't
-abbrev pub refused_if : Bool → ℕ → ℕ → Answer → Answer
-refused_if test n d rest = cond test (answer.Refused n d) rest
+abbrev pub refused_if : Bool → Refusal → Answer → Answer
+refused_if test why rest = cond test (Err why) rest
 
 -- the second answer where the first accepts
 abbrev pub and_then : Answer → Answer → Answer
-and_then (answer.Refused n d) b = answer.Refused n d
-and_then answer.Accepted b = b
+and_then (Err why) b = Err why
+and_then (Ok u) b = b

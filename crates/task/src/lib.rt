@@ -8,6 +8,8 @@ ghost use Rattle.std.specs.Prelude.{◌≡◌, ◌<◌, min};
 ghost use Rattle.task.specs.Types.{nil, idle, engine, preview, capped};
 ghost use Rattle.task.specs.Phases.{next_phase};
 
+pub use refusal::{Damaged, Refusal};
+
 // A task's number. NIL stands for "no task" in a worker's row.
 #[repr(C)]
 #[derive(Clone, Copy)]
@@ -94,25 +96,19 @@ pub enum Step {
     Release,
 }
 
-// The phase after a step, or refused where the step does not suit the phase.
-#[derive(Clone, Copy)]
-pub enum Next {
-    Refused,
-    To(u32),
-}
-
-// Phases 0 idle, 1 fetched, 2 running, against Fetch, Start, Complete, Release.
-const PHASES: [[Next; 4]; 3] = [
-    [Next::To(1), Next::Refused, Next::Refused, Next::To(0)],
-    [Next::Refused, Next::To(2), Next::Refused, Next::Refused],
-    [Next::Refused, Next::Refused, Next::To(0), Next::Refused],
+// Phases 0 idle, 1 fetched, 2 running, against Fetch, Start, Complete, Release: the phase after the step, or none where the step is
+// refused.
+const PHASES: [[Option<u32>; 4]; 3] = [
+    [Some(1), None, None, Some(0)],
+    [None, Some(2), None, None],
+    [None, None, Some(0), None],
 ];
 
 // No step suits a word that is no phase.
-const NO_PHASE: [Next; 4] = [Next::Refused, Next::Refused, Next::Refused, Next::Refused];
+const NO_PHASE: [Option<u32>; 4] = [None, None, None, None];
 
 // The phase after a step taken in this phase. Read at constant places the table takes no memory.
-pub fn next_phase(phase: u32, step: Step) -> Next
+pub fn next_phase(phase: u32, step: Step) -> Option<u32>
     ensures { result ≡ next_phase phase step }
 {
     let row = match phase {
@@ -192,27 +188,14 @@ pub fn smaller(a: usize, b: usize) -> usize
     if a < b { a } else { b }
 }
 
-// The answer of begin, of the calls on a graph and of lookup's judging call: refused with its number and detail, or
-// accepted.
-#[derive(Clone, Copy)]
-pub enum Answer {
-    Refused(u32, u32),
-    Accepted,
-}
+// The answer of begin, of the calls on a graph and of lookup's judging call: accepted, or refused.
+pub type Answer = Result<(), Refusal>;
 
-// The reader's answer: refused, or accepted with N and E.
-#[derive(Clone, Copy)]
-pub enum ReadAnswer {
-    Refused(u32, u32),
-    Accepted(u32, u32),
-}
+// The reader's answer: N and E, or refused.
+pub type ReadAnswer = Result<(u32, u32), Refusal>;
 
-// The writer's answer: refused, or accepted with the bytes used.
-#[derive(Clone, Copy)]
-pub enum WriteAnswer {
-    Refused(u32, u32),
-    Accepted(u32),
-}
+// The writer's answer: the bytes used, or refused.
+pub type WriteAnswer = Result<u32, Refusal>;
 
 // What a Release did: the degree left, or the task placed and its new owner.
 #[derive(Clone, Copy)]
@@ -229,9 +212,5 @@ pub enum StepOutcome {
     Released(ReleaseOutcome),
 }
 
-// A step's answer: refused with its number and detail, or accepted with its outcome.
-#[derive(Clone, Copy)]
-pub enum StepAnswer {
-    Refused(u32, u32),
-    Accepted(StepOutcome),
-}
+// A step's answer: its outcome, or refused.
+pub type StepAnswer = Result<StepOutcome, Refusal>;

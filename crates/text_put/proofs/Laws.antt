@@ -3,22 +3,15 @@ use Prim.Native.Nat.{ℕ, zero, suc, ◌+◌, ◌-◌, ◌/◌, ◌%◌, ◌≤�
 use mathlib.Core.Path.{◌≡◌, refl, sym, ap, ◌∙◌}
 use mathlib.Core.List.{List, [], ◌∷◌, ◌++◌, append_assoc, append-nil}
 use native.Mathlib.Omega.{arith}
-use native.Mathlib.Nat.{add_assoc, add-zero}
-use lib.ListN.{length, get_or, take, drop, set, length-append, length-set, length-drop, take-append-drop}
-use lib.Seq.{drop-drop, drop-set-lt, take-length, take-set-lt, take-suc-set, set-append_left, append_snoc, take_at, drop_at, length-take-le}
-use Rattle.lists.proofs.Prefixes.{take_more, take-store}
+use lib.ListN.{length, take, drop, set, length-append, length-drop, take-append-drop}
+use lib.Seq.{drop-drop, take-set-lt, take-suc-set, set-append_left, append_snoc, take_at, drop_at, length-take-le}
+use borrow.Rule.Slice.PartMut.{put_mid}
 use Rattle.layout.specs.Marks.{digit0}
 use Rattle.layout.specs.Digits.{digits_before, digits_of}
 use Rattle.layout.proofs.Digits.{tenth-less, last_turn, next-turn, by_digits, spelled}
 use Rattle.text_put.specs.Appending.{Appends}
 
--- Nothing put, a byte put, and bytes put behind others.
-pub nothing_put : (at : ℕ) (before : List ℕ) → Appends at [] before before at
-nothing_put at before = record { size = refl; end = omega arith; text = sym (append-nil (take at before)); rest = refl }
-
-pub byte_put : (at x : ℕ) (before : List ℕ) → at < length before → Appends at (x ∷ []) before (set before at x) (at + 1)
-byte_put at x before h =
-    record { size = length-set before at x; end = refl; text = take-store before at x h; rest = drop-set-lt (at + 1) before at x (omega arith) }
+-- Bytes put behind others.
 
 -- what stays from one place on stays from every later one
 drop-later : (a b : ℕ) (l k : List ℕ) → a ≤ b → drop a l ≡ drop a k → drop b l ≡ drop b k
@@ -43,9 +36,6 @@ pub record Underway (text : List ℕ) (rest : ℕ → List ℕ) (at : ℕ) (befo
   pub whole : text ≡ done ++ rest i
 
 module _ (text : List ℕ) (rest : ℕ → List ℕ) (at : ℕ) (before : List ℕ) where
-  pub none_done : text ≡ rest 0 → Underway text rest at before 0 before at
-  none_done e = record { done = []; put = nothing_put at before; whole = e }
-
   module _ (i : ℕ) (out : List ℕ) (end : ℕ) (u : Underway text rest at before i out end) where
     module _ (piece : List ℕ) (j : ℕ) (e : rest i ≡ piece ++ rest j) where
       piece-whole : text ≡ (u.done ++ piece) ++ rest j
@@ -60,19 +50,6 @@ module _ (text : List ℕ) (rest : ℕ → List ℕ) (at : ℕ) (before : List �
 
     pub all_done : rest i ≡ [] → Appends at text before out end
     all_done e = rw (rw (e, append-nil u.done) at u.whole) u.put
-
--- The first i of some bytes put.
-module _ (at : ℕ) (bytes before : List ℕ) where
-  pub no_bytes : Appends at (take 0 bytes) before before (at + 0)
-  no_bytes = rw (add-zero at) (nothing_put at before)
-
-  module _ (i : ℕ) (out : List ℕ) (p : Appends at (take i bytes) before out (at + i)) where
-    pub next-byte : i < length bytes → at + i < length out
-        → Appends at (take (i + 1) bytes) before (set out (at + i) (get_or bytes i 0)) (at + (i + 1))
-    next-byte h k = rw (take_more bytes i h, ← add_assoc at i 1) (appends-then p (byte_put (at + i) (get_or bytes i 0) out k))
-
-    pub all-bytes : i ≡ length bytes → Appends at bytes before out (at + length bytes)
-    all-bytes h = rw (h, take-length bytes) at p
 
 -- The digits of a number before others, with turns enough, are its digits and the others.
 digits-before : (f g n : ℕ) (rest later : List ℕ) → n < f → n < g → digits_before g n (rest ++ later) ≡ digits_before f n rest ++ later
@@ -126,6 +103,11 @@ laid at bytes before h =
 
     whole : first ++ behind ≡ take at before ++ (bytes ++ behind)
     whole = append_assoc (take at before) bytes behind
+
+-- bytes written over the part of a buffer that is as long as they are
+pub bytes_put : (at k : ℕ) (bytes before new : List ℕ) → new ≡ bytes → k ≡ length bytes → at + length bytes ≤ length before
+    → Appends at bytes before (put_mid at k before new) (at + length bytes)
+bytes_put at k bytes before new e d h = rw (e, d, drop-drop (length bytes) at before) (laid at bytes before h)
 
 -- A number's last digits put, back from its end: n is left of it, and its digits go before the others, up to `place`.
 pub record Partly (at number : ℕ) (before : List ℕ) (n place : ℕ) (out : List ℕ) : Type 0 where

@@ -10,22 +10,22 @@
 
 ghost use Rattle.std.specs.Prelude.{◌<◌, length};
 
+use cases::show::Left;
 use cases::{lines, read, show};
-use std::io;
 use std::io::Write;
+use std::{fmt, io};
 use task::ReadAnswer;
 
-fn four<W: Write>(out: &mut W, a: u32, b: u32, c: u32, d: u32) -> io::Result<()> {
-    show::pair(out, a, b)?;
-    show::say(out, b" ")?;
-    show::pair(out, c, d)
-}
-
 // The number and the detail, then N and E; 0 and 0 where there are none.
-fn answer<W: Write>(out: &mut W, answer: ReadAnswer) -> io::Result<()> {
-    match answer {
-        ReadAnswer::Refused(number, detail) => four(out, number, detail, 0, 0),
-        ReadAnswer::Accepted(n, e) => four(out, 0, 0, n, e),
+#[derive(Clone, Copy)]
+struct Told(ReadAnswer);
+
+impl fmt::Display for Told {
+    fn fmt<W: fmt::Write>(&self, f: &mut fmt::Formatter<W>) -> fmt::Result {
+        match self.0 {
+            Err(why) => write!(f, "{} {} 0 0", why.number(), why.detail()),
+            Ok((n, e)) => write!(f, "0 0 {n} {e}"),
+        }
     }
 }
 
@@ -41,13 +41,14 @@ fn read_lent<W: Write>(
     show::put_marks(starts);
     show::put_marks(preds);
     let read = stg::read(text, weights, starts, preds);
-    show::say(out, b"read ")?;
-    answer(out, read)?;
-    show::say(out, b" : ")?;
-    show::left(out, weights)?;
-    show::lent(out, starts)?;
-    show::lent(out, preds)?;
-    show::say(out, b"\n")
+    writeln!(
+        out,
+        "read {} : {} | {} | {}",
+        Told(read),
+        Left(weights),
+        Left(starts),
+        Left(preds)
+    )
 }
 
 // Lends lists of the lengths named behind the text's own.
@@ -57,7 +58,7 @@ fn lend<W: Write>(out: &mut W, text: &[u8], numbers: &[u32]) -> io::Result<()>
     let a = read::length_at(numbers, 1);
     let b = read::length_at(numbers, 2);
     let c = read::length_at(numbers, 3);
-    if 8200 < read::larger(a, read::larger(b, c)) {
+    if 8200 < a.max(b).max(c) {
         return show::unreadable(out);
     }
     let mut weights = [0u32; 8200];
@@ -75,14 +76,13 @@ fn lend<W: Write>(out: &mut W, text: &[u8], numbers: &[u32]) -> io::Result<()>
 fn run<W: Write>(out: &mut W, input: &[u8]) -> io::Result<()> {
     let mut words = [0u32; 8];
     let mut at = 0;
+    // kept: a case says itself where the next one starts
     while at < input.len() {
-        let text = lines::text_at(out, input, at, 4, &mut words)?;
-        let from = text.from;
-        let end = text.end;
-        if text.good {
-            lend(out, &input[from..end], &words)?;
+        let case = lines::text_at(out, input, at, 4, &mut words)?;
+        if let Some(text) = case.text {
+            lend(out, &input[text.start..text.end], &words)?;
         }
-        at = text.next;
+        at = case.next;
     }
     Ok(())
 }

@@ -4,21 +4,19 @@ use mathlib.Core.Path.{◌≡◌, refl, sym, ap, ◌∙◌}
 use mathlib.Core.Bool.{Bool, true, false, not, ◌&&◌}
 use mathlib.Core.List.{List, [], ◌∷◌, ◌++◌, append_assoc}
 use native.Mathlib.Omega.{arith}
-use native.Mathlib.Nat.{sub-zero}
 use native.Mathlib.Numerals.{add-one}
 use borrow.Author.Tests.{leb-true, lt-ltb, le-ltb, le-leb, lt-leb, not-false}
 use lib.Dec.{leb, eqb}
-use lib.ListN.{length, get_or, take, drop, length-append, take-append-drop}
-use lib.Seq.{drop-cons, drop-length, take-length}
-use Rattle.lists.specs.Sums.{sum_to, sum_of}
-use Rattle.lists.proofs.Prefixes.{take_more}
-use Rattle.lists.proofs.Sums.{sum-suc, sum_of-nil, sum_of-snoc}
+use lib.ListN.{length, get_or, drop, length-append, take-append-drop}
+use lib.Seq.{drop-cons, drop-length}
+use Rattle.std.specs.Prelude.{Err, Ok}
+use Rattle.task.specs.declared.refusal.Refusal.{Refusal}
+use Rattle.task.specs.declared.refusal.Refusal.TheVariants.{NoDummies, WrongLength}
+use Rattle.lists.specs.Sums.{sum_to}
+use Rattle.lists.proofs.Sums.{sum-suc}
 use Rattle.lists.proofs.Told.{and-true}
 use Rattle.task.specs.Types.{engine}
-use Rattle.task.specs.Refusals.{wrong_length, no_dummies, answer_says}
-use Rattle.task.specs.declared.Answer.{Answer}
-use Rattle.task.specs.declared.Answer.TheVariants as answer
-use Rattle.task.specs.declared.WriteAnswer.TheVariants as write-answer
+use Rattle.task.specs.Refusals.{answer_says, Answer}
 use Rattle.graph.specs.Graph.{part, graph_of}
 use Rattle.graph.specs.Conditions.{Sound, GraphFits}
 use Rattle.graph.specs.Check.{check_answer}
@@ -27,11 +25,11 @@ use Rattle.layout.specs.Marks.{lf, space, Numbers}
 use Rattle.layout.specs.Digits.{digits_of}
 use Rattle.layout.specs.Tasks.{task, tables}
 use Rattle.layout.specs.Layout.{task_row, task_rows}
-use Rattle.layout.specs.Plain.{spaced, line_text, rows_text, tasks_at, text_of, line_size, pred_size}
+use Rattle.layout.specs.Plain.{spaced, line_text, rows_text, tasks_at, text_of, line_size}
 use Rattle.layout.specs.Writer.{dummies_fit, write_answer, saved_as, write_text}
 use Rattle.layout.proofs.Sizes.{text-short}
 use Rattle.text_put.specs.Appending.{Appends}
-use Rattle.text_put.proofs.Laws.{appends-then, Underway, none_done, piece-room, next-piece, all_done}
+use Rattle.text_put.proofs.Laws.{appends-then, Underway, piece-room, next-piece, all_done}
 
 -- The dummies.
 module _ (w s : List ℕ) where
@@ -58,28 +56,10 @@ pub next-line : (w s : List ℕ) (t : ℕ) {size number time count : ℕ} → si
 unfolding line_size
 next-line w s t e n m c = omega (arith, e, n, m, c, sum-suc t (line_size w s), ap (λ (k : ℕ). sum_to k (line_size w s)) (add-one t))
 
-pub all_lines : (w s : List ℕ) (t : ℕ) {size : ℕ} → size ≡ sum_to t (line_size w s) → t ≡ length w → size ≡ sum_to (length w) (line_size w s)
-all_lines w s t e h = rw (← h) e
-
-pub no-preds : (preds : List ℕ) → ◌≡◌ {A = ℕ} 0 (sum_of pred_size (take 0 preds))
-no-preds preds = sym (sum_of-nil pred_size)
-
-pub next-pred : (preds : List ℕ) (i : ℕ) {size width : ℕ} → size ≡ sum_of pred_size (take i preds) → i < length preds
-    → width ≡ length (digits_of (get_or preds i 0)) → size + (width + 1) ≡ sum_of pred_size (take (i + 1) preds)
-unfolding pred_size
-next-pred preds i e h k =
-    rw (take_more preds i h) (omega (arith, e, k, sum_of-snoc pred_size (take i preds) (get_or preds i 0)))
-
-pub all-preds : (preds : List ℕ) (i : ℕ) {size : ℕ} → size ≡ sum_of pred_size (take i preds) → i ≡ length preds → size ≡ sum_of pred_size preds
-all-preds preds i e h = e ∙ rw h (ap (sum_of pred_size) (take-length preds))
-
 -- Numbers put with a space before each, i of them done.
 module _ (at : ℕ) (numbers before : List ℕ) where
   abbrev pub Spacing : ℕ → List ℕ → ℕ → Type 0
   Spacing = Underway (spaced numbers) (λ k. spaced (drop k numbers)) at before
-
-  pub none-spaced : Spacing 0 before at
-  none-spaced = none_done (spaced numbers) (λ k. spaced (drop k numbers)) at before refl
 
   module _ (i : ℕ) (out : List ℕ) (end : ℕ) (u : Underway (spaced numbers) (λ k. spaced (drop k numbers)) at before i out end) where
     due : i < length numbers → spaced (drop i numbers) ≡ (space ∷ digits_of (get_or numbers i 0)) ++ spaced (drop (i + 1) numbers)
@@ -151,9 +131,6 @@ module _ (at : ℕ) (w s p before : List ℕ) where
   abbrev pub TasksPut : ℕ → List ℕ → ℕ → Type 0
   TasksPut = Underway (rows_text (task_rows 0 (tasks_at (tables w s p) (length w) 0))) lines_from at before
 
-  pub no-tasks : TasksPut 0 before at
-  no-tasks = none_done _ lines_from at before (rw (sub-zero (length w)))
-
   module _ (t : ℕ) (out : List ℕ) (end : ℕ) (u : TasksPut t out end) where
     abbrev line_at : List ℕ
     line_at = line_text (task_row t (task (get_or w t 0) (part s p t)))
@@ -205,11 +182,11 @@ module _ (w s p : List ℕ) where
 
 -- The answers: refused, and the buffer stays; accepted, and what the check has shown lets the text be written.
 module _ (w s p : List ℕ) (a : Answer) (ha : a ≡ check_answer engine true true w s p) where
-  pub write-refused : (text : List ℕ) (n d : ℕ) → a ≡ answer.Refused n d → saved_as (write-answer.Refused n d) text ≡ write_text w s p text
+  pub write-refused : (text : List ℕ) (why : Refusal) → a ≡ Err why → saved_as (Err why) text ≡ write_text w s p text
   unfolding write_text write_answer
-  write-refused text n d e = rw (← ha, e)
+  write-refused text why e = rw (← ha, e)
 
-  module _ (e : a ≡ answer.Accepted) where
+  module _ (e : a ≡ Ok tt) where
     fits : GraphFits engine w s p
     fits = (graph-accepted-iff engine w s p).0 (ap answer_says (sym ha ∙ e))
 
@@ -221,17 +198,17 @@ module _ (w s p : List ℕ) (a : Answer) (ha : a ≡ check_answer engine true tr
     write_word q = omega (arith, q.end, text-short w s p write-sound fits.light)
 
     module _ (b : Bool) (hb : b ≡ dummies_fit w s) where
-      pub write-dummies : (text : List ℕ) → not b ≡ true → saved_as (write-answer.Refused no_dummies 0) text ≡ write_text w s p text
+      pub write-dummies : (text : List ℕ) → not b ≡ true → saved_as (Err NoDummies) text ≡ write_text w s p text
       unfolding write_text write_answer
       write-dummies text h = rw (← ha, e, ← hb, h)
 
       module _ (hn : not b ≡ false) (text : List ℕ) where
-        pub write-small : length text < length (text_of (tables w s p)) → saved_as (write-answer.Refused wrong_length 0) text ≡ write_text w s p text
+        pub write-small : length text < length (text_of (tables w s p)) → saved_as (Err WrongLength) text ≡ write_text w s p text
         unfolding write_text write_answer
         write-small h = rw (← ha, e, ← hb, hn, lt-ltb (length text) (length (text_of (tables w s p))) h)
 
         pub write-whole : (out : List ℕ) (used : ℕ) → length (text_of (tables w s p)) ≤ length text → Appends 0 (text_of (tables w s p)) text out used
-            → saved_as (write-answer.Accepted used) out ≡ write_text w s p text
+            → saved_as (Ok used) out ≡ write_text w s p text
         unfolding write_text write_answer
         write-whole out used h q =
             let size : used ≡ length (text_of (tables w s p)) = omega (arith, q.end) in

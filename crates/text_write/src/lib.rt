@@ -13,7 +13,7 @@ ghost use Rattle.layout.specs.Plain.{spaced, line_text, rows_text, tasks_of, tex
 ghost use Rattle.layout.specs.Writer.{dummies_fit, saved_as, write_text};
 ghost use Rattle.text_put.specs.Appending.{Appends};
 
-use task::{Answer, Limits, WriteAnswer, refusal};
+use task::{Limits, Refusal, WriteAnswer};
 
 fn dummies_fit(weights: &[u32], starts: &[u32]) -> bool
     requires { length starts.now ≡ length weights.now + 1 }
@@ -34,14 +34,12 @@ fn lines_size(weights: &[u32], starts: &[u32]) -> usize
     ensures { result ≡ sum_to (length weights.now) (line_size weights.now starts.now) }
 {
     let mut size = 0;
-    let mut t = 0;
-    while t < weights.len() {
+    for t in 0..weights.len() {
         let count = starts[t + 1] - starts[t];
         size += text_put::width(t as u32)
             + text_put::width(weights[t])
             + text_put::width(count)
             + 3;
-        t += 1;
     }
     size
 }
@@ -50,13 +48,7 @@ fn preds_size(preds: &[u32]) -> usize
     requires { length preds.now ≤ 8192 }
     ensures { result ≡ sum_of pred_size preds.now }
 {
-    let mut size = 0;
-    let mut i = 0;
-    while i < preds.len() {
-        size += text_put::width(preds[i]) + 1;
-        i += 1;
-    }
-    size
+    preds.iter().map(|&pred| text_put::width(pred) + 1).sum()
 }
 
 fn text_size(weights: &[u32], starts: &[u32], preds: &[u32]) -> usize
@@ -82,10 +74,8 @@ fn put_spaced(out: &mut [u8], at: usize, numbers: &[u32]) -> usize
     ensures { Appends at (spaced numbers.now) out.old out.new result }
 {
     let mut end = at;
-    let mut i = 0;
-    while i < numbers.len() {
-        end = put_next(out, end, numbers[i]);
-        i += 1;
+    for &number in numbers {
+        end = put_next(out, end, number);
     }
     end
 }
@@ -112,12 +102,10 @@ fn put_tasks(out: &mut [u8], at: usize, weights: &[u32], starts: &[u32], preds: 
         out.old out.new result }
 {
     let mut end = at;
-    let mut t = 0;
-    while t < weights.len() {
+    for t in 0..weights.len() {
         let from = starts[t] as usize;
         let to = starts[t + 1] as usize;
         end = put_task(out, end, t, weights[t], &preds[from..to]);
-        t += 1;
     }
     end
 }
@@ -142,16 +130,13 @@ pub fn write(weights: &[u32], starts: &[u32], preds: &[u32], text: &mut [u8]) ->
     let mut order = [0u32; 1024];
     let limits = Limits::ENGINE;
     let check = graph_check::check_graph(limits, true, true, weights, starts, preds, &mut order);
-    let answer = check.answer;
-    if let Answer::Refused(number, detail) = answer {
-        return WriteAnswer::Refused(number, detail);
-    }
+    check.answer?;
     if !dummies_fit(weights, starts) {
-        return WriteAnswer::Refused(refusal::NO_DUMMIES, 0);
+        return Err(Refusal::NoDummies);
     }
     if text.len() < text_size(weights, starts, preds) {
-        return WriteAnswer::Refused(refusal::WRONG_LENGTH, 0);
+        return Err(Refusal::WrongLength);
     }
     let used = put_text(text, weights, starts, preds);
-    WriteAnswer::Accepted(used as u32)
+    Ok(used as u32)
 }

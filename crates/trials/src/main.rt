@@ -12,6 +12,7 @@
 
 ghost use Rattle.std.specs.Prelude.{◌≤◌, ◌<◌, length};
 
+use cases::show::{Left, List, Told};
 use cases::{lines, read, show};
 use std::io;
 use std::io::Write;
@@ -39,10 +40,8 @@ fn ask<'a, W: Write>(
     let on = side_of(side);
     let named = TaskId::new(task);
     let answer = lookup::judge(weights, pred_starts, preds, succ_starts, succs, on, named);
-    show::answer(out, answer)?;
-    show::say(out, b" : ")?;
     let found = lookup::neighbours(weights, pred_starts, preds, succ_starts, succs, on, named);
-    show::list(out, found)
+    write!(out, "{} : {}", Told(answer), List(found))
 }
 
 fn ask_all<'a, W: Write>(
@@ -54,8 +53,10 @@ fn ask_all<'a, W: Write>(
     succs: &'a [u32],
     asked: &[u32],
 ) -> io::Result<()> {
-    let mut i = 0;
-    while i + 1 < asked.len() {
+    for (i, pair) in asked.chunks_exact(2).enumerate() {
+        if 0 < i {
+            write!(out, " | ")?;
+        }
         ask(
             out,
             weights,
@@ -63,15 +64,11 @@ fn ask_all<'a, W: Write>(
             preds,
             succ_starts,
             succs,
-            asked[i],
-            asked[i + 1],
+            pair[0],
+            pair[1],
         )?;
-        i += 2;
-        if i < asked.len() {
-            show::say(out, b" | ")?;
-        }
     }
-    show::say(out, b"\n")
+    writeln!(out)
 }
 
 fn lookup_case<W: Write>(out: &mut W, case: &[u32]) -> io::Result<()> {
@@ -83,10 +80,7 @@ fn lookup_case<W: Write>(out: &mut W, case: &[u32]) -> io::Result<()> {
     let c = b + read::length_at(case, 2);
     let d = c + read::length_at(case, 3);
     let e = d + read::length_at(case, 4);
-    if case.len() < e {
-        return show::unreadable(out);
-    }
-    if (case.len() - e) % 2 != 0 {
+    if case.len() < e || (case.len() - e) % 2 != 0 {
         return show::unreadable(out);
     }
     ask_all(
@@ -115,10 +109,14 @@ fn link_lent<W: Write>(
     show::put_marks(succs);
     show::put_marks(degrees);
     let answer = link::link_graph(limits, weights, starts, preds, succ_starts, succs, degrees);
-    show::answer(out, answer)?;
-    show::lent(out, succ_starts)?;
-    show::lent(out, succs)?;
-    show::lent(out, degrees)
+    write!(
+        out,
+        "{} | {} | {} | {}",
+        Told(answer),
+        Left(succ_starts),
+        Left(succs),
+        Left(degrees)
+    )
 }
 
 // Lends lists of the lengths named.
@@ -160,17 +158,14 @@ fn run_graph<W: Write>(
     b: usize,
     c: usize,
 ) -> io::Result<()> {
-    if 8200 < read::larger(a, read::larger(b, c)) {
+    if 8200 < a.max(b).max(c) {
         return show::unreadable(out);
     }
-    show::say(out, b"check ")?;
     let mut order = [0u32; 1024];
     let check = graph_check::check_graph(limits, true, true, weights, starts, preds, &mut order);
-    let answer = check.answer;
-    show::answer(out, answer)?;
-    show::say(out, b" | link ")?;
+    write!(out, "check {} | link ", Told(check.answer))?;
     lend(out, limits, weights, starts, preds, a, b, c)?;
-    show::say(out, b"\n")
+    writeln!(out)
 }
 
 // The limits that a case names; the others are the engine's.
@@ -180,8 +175,7 @@ fn limits_of(case: &[u32]) -> Limits
     Limits {
         tasks: read::length_at(case, 0),
         edges: read::length_at(case, 1),
-        workers: 16,
-        slots: 64,
+        ..Limits::engine()
     }
 }
 
@@ -211,39 +205,25 @@ fn graph_case<W: Write>(out: &mut W, case: &[u32]) -> io::Result<()> {
     )
 }
 
-fn note<W: Write>(out: &mut W, line: &[u8]) -> io::Result<()> {
-    show::say(out, line)?;
-    show::say(out, b"\n")
-}
-
 fn run_line<W: Write>(out: &mut W, line: &[u8], words: &mut [u32]) -> io::Result<()> {
-    if line.len() == 0 {
+    if let [b'#', ..] = line {
+        return show::note(out, line);
+    }
+    let Some(count) = read::numbers(line, words) else {
         return show::unreadable(out);
-    }
-    let kind = line[0];
-    if kind == b'#' {
-        return note(out, line);
-    }
-    let numbers = read::numbers(line, words);
-    let count = numbers.count;
-    if !numbers.good {
-        show::unreadable(out)
-    } else if kind == b'g' {
-        graph_case(out, &words[..count])
-    } else if kind == b'n' {
-        lookup_case(out, &words[..count])
-    } else {
-        show::unreadable(out)
+    };
+    let case = &words[..count];
+    match line {
+        [b'g', ..] => graph_case(out, case),
+        [b'n', ..] => lookup_case(out, case),
+        _ => show::unreadable(out),
     }
 }
 
 fn run<W: Write>(out: &mut W, text: &[u8]) -> io::Result<()> {
     let mut words = [0u32; 24576];
-    let mut at = 0;
-    while at < text.len() {
-        let end = read::line_end(text, at);
-        run_line(out, &text[at..end], &mut words)?;
-        at = end + 1;
+    for line in text.split_inclusive(|byte| *byte == b'\n') {
+        run_line(out, line.strip_suffix(b"\n").unwrap_or(line), &mut words)?;
     }
     Ok(())
 }

@@ -5,13 +5,14 @@ use mathlib.Core.List.{List, ◌∷◌}
 use native.Mathlib.Omega.{arith}
 use lib.ListN.{length, get_or, drop, drop_of_length-le}
 use lib.IntN.{ℤ}
+use Rattle.std.specs.Prelude.{Err, Ok}
+use Rattle.task.specs.declared.refusal.Refusal.{Refusal}
+use Rattle.task.specs.Refusals.{StepAnswer}
 use Rattle.task.specs.Types.{engine}
 use Rattle.task.specs.declared.Limits.{Limits}
 use Rattle.task.specs.declared.Step.{Step}
 use Rattle.task.specs.declared.Step.TheVariants.{Fetch}
 use Rattle.task.specs.declared.StepOutcome.{StepOutcome}
-use Rattle.task.specs.declared.StepAnswer.{StepAnswer}
-use Rattle.task.specs.declared.StepAnswer.TheVariants.{Refused, Accepted}
 use Rattle.rules.specs.Memory.{Mem}
 use Rattle.rules.specs.Plans.{result_of}
 use Rattle.rules.specs.Steps.{step}
@@ -59,8 +60,8 @@ module _ (start m : Mem) (i tried : ℕ) (t : Trying start m i tried) (b : tried
   tries-next : first_of a m' (turn engine 2 4 i (drop (tried + 1) tries) m') ≡ turn engine 2 4 i tries start
   tries-next = sym (tried-first _) ∙ ap (λ (ss : List Step). turn engine 2 4 i ss m) next ∙ t.whole
 
-  pub trying-over : (o : StepOutcome) → a ≡ Accepted o → m' ≡ turn engine 2 4 i tries start
+  pub trying-over : (o : StepOutcome) → a ≡ Ok o → m' ≡ turn engine 2 4 i tries start
   trying-over o e = rw e at tries-next
 
-  pub trying-on : (r d : ℕ) → a ≡ Refused r d → Trying start m' i (tried + 1)
-  trying-on r d e = record { whole = rw e at tries-next }
+  pub trying-on : (why : Refusal) → a ≡ Err why → Trying start m' i (tried + 1)
+  trying-on why e = record { whole = rw e at tries-next }

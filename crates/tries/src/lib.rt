@@ -7,7 +7,7 @@ ghost use Rattle.task.specs.declared.Step.{Step};
 ghost use Rattle.rules.specs.Desk.{tries, turn};
 ghost use Rattle.engine_cells.specs.Cells.{cell_mem};
 
-use task::{Limits, RowCell, Step, StepAnswer, WorkerId};
+use task::{Limits, RowCell, Step, WorkerId};
 
 // The steps in the order in which a turn tries them.
 const TRIES: [Step; 4] = [Step::Release, Step::Fetch, Step::Start, Step::Complete];
@@ -67,7 +67,7 @@ pub fn take_turn(
             4,
             worker,
         );
-        let StepAnswer::Refused(_, _) = answer else {
+        let Err(_) = answer else {
             return;
         };
         tried += 1;

@@ -14,9 +14,9 @@ pub record Driving (start m : Mem) (i left : ℕ) : Type 0 where
   pub turn : i < 2
   pub whole : turns engine 2 4 left i m ≡ desk_run start
 
-pub driving-none : (m : Mem) → Driving m m 0 (2 * (3 * tasks m + edges m))
+pub driving-none : (m : Mem) (left : ℕ) → left ≡ 2 * (3 * tasks m + edges m) → Driving m m 0 left
 unfolding desk_run all_steps
-driving-none m = record { turn = omega arith; whole = refl }
+driving-none m left e = record { turn = omega arith; whole = rw e refl }
 
 after_two : (i : ℕ) → i < 2 → after 2 i ≡ 1 - i
 unfolding after
@@ -31,13 +31,10 @@ module _ (start m : Mem) (i left : ℕ) (d : Driving start m i left) where
   pub driving-last : left ≡ 0 → m ≡ desk_run start
   driving-last e = sym (turns-none i m) ∙ (rw e at d).whole
 
-  pub driving-turn : accepted_in m < 3 * tasks m + edges m → 0 < left → (w : ℕ) → w ≡ i → (m' : Mem) → m' ≡ turn engine 2 4 w tries m
-      → Driving start m' (1 - i) (left - 1)
-  driving-turn h p w e m' t =
+  pub driving-turn : accepted_in m < 3 * tasks m + edges m → (next : ℕ) → suc next ≡ left → (w : ℕ) → w ≡ i → (m' : Mem) → m' ≡ turn engine 2 4 w tries m
+      → Driving start m' (1 - i) next
+  driving-turn h next f w e m' t =
       record {
         turn = omega (arith, d.turn);
-        whole = rw (t, e, ← after_two i d.turn, ← turns_more (left - 1) i m (omega (arith, h, all-steps-are m)), one_less) d.whole;
+        whole = rw (t, e, ← after_two i d.turn, ← turns_more next i m (omega (arith, h, all-steps-are m)), f) d.whole;
       }
-    where
-      one_less : suc (left - 1) ≡ left
-      one_less = omega (arith, p)

@@ -37,8 +37,7 @@ pub fn drive(
 {
     let steps = 3 * weights.len() + preds.len();
     let mut worker = 0;
-    let mut left = 2 * steps;
-    while 0 < left {
+    for _turn in 0..2 * steps {
         if steps <= run[1] as usize {
             return;
         }
@@ -59,6 +58,5 @@ pub fn drive(
             WorkerId::new(worker),
         );
         worker = 1 - worker;
-        left -= 1;
     }
 }

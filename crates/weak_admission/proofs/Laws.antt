@@ -7,6 +7,9 @@ use lib.ListN.{length, replicate, length-replicate}
 use lib.Dec.{leb, eqb}
 use lib.IntN.{pos}
 use borrow.Author.Tests.{leb-true, le-ltb, not-true, not-false}
+use Rattle.std.specs.Prelude.{Err, Ok}
+use Rattle.task.specs.declared.refusal.Refusal.{Refusal}
+use Rattle.task.specs.declared.refusal.Refusal.TheVariants.{BeyondLimit, NoSuchWorker, WrongLength}
 use Rattle.lists.proofs.Told.{and-true}
 use Rattle.task.specs.Types.{engine, capped}
 use Rattle.task.specs.declared.Limits.{Limits}
@@ -24,15 +27,11 @@ use Rattle.plans.specs.Sizes.{Fits, numbers_fit, others_fit, lengths_fit}
 use Rattle.plans.proofs.Headers.{fits-are}
 use Rattle.weak_rules.specs.Memory.{weak, Mem, mem_of, tasks, edges}
 use Rattle.weak_rules.specs.Steps.{step_plan}
-use Rattle.admission.specs.Phase.{phase_after}
-use Rattle.admission.specs.declared.Judged.TheVariants as judged
-use Rattle.admission.specs.declared.Phased.{Phased}
-use Rattle.admission.specs.declared.Phased.TheVariants as phased
+use Rattle.admission.specs.Phase.{Phased, phase_after}
 use Rattle.admission.proofs.Phase.{phase-leads, phase-refuses, phase-goes-on}
 use Rattle.admission.proofs.Laws.{numbers-within}
 use Rattle.weak_admission.specs.Admission.{sizes_of, size_at, Judges, Measured, Knows, Allows}
 use Rattle.weak_admission.specs.declared.WeakSizes.{WeakSizes}
-use Rattle.weak_admission.specs.declared.WeakAdmitted.TheVariants.{Refused, To}
 
 -- the tests on the lengths are those on the memory's lists
 module _ (sizes : WeakSizes) (p k : ℕ) (m : Mem) (e : sizes_of m ≡ sizes) where
@@ -58,10 +57,10 @@ module _ (sizes : WeakSizes) (p k : ℕ) (m : Mem) (e : sizes_of m ≡ sizes) wh
 
 -- the phase word of a worker's row, and whether the step suits it
 module _ (row : WeakRow) (s : Step) (x : Phased) (e : x ≡ phase_after row.phase s) where
-  pub row-refused : (n d : ℕ) → x ≡ phased.Refused n d → Allows row s (Refused n d)
-  row-refused n d v rest = phase-refuses row.phase s rest n d (sym e ∙ v)
+  pub row-refused : (why : Refusal) → x ≡ Err why → Allows row s (Err why)
+  row-refused why v rest = phase-refuses row.phase s rest why (sym e ∙ v)
 
-  pub row-admitted : (q : ℕ) → x ≡ phased.To q → Allows row s (To (with_hand q row.held row))
+  pub row-admitted : (q : ℕ) → x ≡ Ok q → Allows row s (Ok (with_hand q row.held row))
   row-admitted q v =
       let (a, l) = phase-leads row.phase s q (sym e ∙ v) in
       ((λ rest. phase-goes-on row.phase s rest q (sym e ∙ v)), (a, rw l refl))
@@ -111,7 +110,7 @@ module _ (limits : Limits) (p k : ℕ) (sizes : WeakSizes) (numbers fit : Bool) 
   limits-are : (m : Mem) → sizes_of m ≡ sizes → numbers_fit limits p k && sizes_fit limits (tasks m) (edges m) ≡ numbers && fit
   limits-are m e = rw (hn, hf, ← e) refl
 
-  pub judged-beyond : not (numbers && fit) ≡ true → (i : ℕ) → Judges limits p k i sizes (judged.Refused 2 0)
+  pub judged-beyond : not (numbers && fit) ≡ true → (i : ℕ) → Judges limits p k i sizes (Err BeyondLimit)
   unfolding step_plan
   judged-beyond n i s m e = rw (limits-are m e ∙ not-true (numbers && fit) n)
 
@@ -131,7 +130,7 @@ module _ (limits : Limits) (p k : ℕ) (sizes : WeakSizes) (numbers fit : Bool) 
         )
 
     module _ (lengths : Bool) (hl : (m : Mem) → sizes_of m ≡ sizes → lengths ≡ lengths_fit p k m) where
-      pub judged-lengths : not lengths ≡ true → (i : ℕ) → Judges limits p k i sizes (judged.Refused 1 0)
+      pub judged-lengths : not lengths ≡ true → (i : ℕ) → Judges limits p k i sizes (Err WrongLength)
       unfolding step_plan
       judged-lengths n i s m e = rw (within m e, sym (hl m e) ∙ not-true lengths n)
 
@@ -139,20 +138,20 @@ module _ (limits : Limits) (p k : ℕ) (sizes : WeakSizes) (numbers fit : Bool) 
         long : (m : Mem) → sizes_of m ≡ sizes → lengths_fit p k m ≡ true
         long m e = sym (hl m e) ∙ not-false lengths l
 
-        pub judged-worker : p ≤ i → Judges limits p k i sizes (judged.Refused 7 i)
+        pub judged-worker : p ≤ i → Judges limits p k i sizes (Err (NoSuchWorker i))
         unfolding step_plan
         judged-worker h s m e = rw (within m e, long m e, le-ltb i p h)
 
         module _ (h : i < p) where
-          pub judged-fit : Judges limits p k i sizes judged.Fit
+          pub judged-fit : Judges limits p k i sizes (Ok tt)
           judged-fit = ((λ m e. (within m e, long m e)), h)
 
-          pub judged-knows : Knows p k i sizes judged.Fit
+          pub judged-knows : Knows p k i sizes (Ok tt)
           judged-knows =
               let m = blank sizes in
               let e = blank-sizes sizes in
               measured limits p k i sizes m e (fits-are limits p k m (within m e) (long m e)) h
 
-pub refused-known : (limits : Limits) (p k i : ℕ) (sizes : WeakSizes) (n d : ℕ) → Judges limits p k i sizes (judged.Refused n d)
-    → Judges limits p k i sizes (judged.Refused n d) × Knows p k i sizes (judged.Refused n d)
-refused-known limits p k i sizes n d h = (h, (limits, h))
+pub refused-known : (limits : Limits) (p k i : ℕ) (sizes : WeakSizes) (why : Refusal) → Judges limits p k i sizes (Err why)
+    → Judges limits p k i sizes (Err why) × Knows p k i sizes (Err why)
+refused-known limits p k i sizes why h = (h, (limits, h))

@@ -10,8 +10,7 @@ ghost use Rattle.weak_admission.specs.Admission.{sizes_of, Judges, Knows, Admits
 ghost use Rattle.weak_task.specs.Types.{copy_of};
 ghost use Rattle.weak_admission.specs.Count.{copy_within, count_of};
 
-use admission::{Judged, Phased};
-use task::{Limits, Step, TaskId, WorkerId, refusal};
+use task::{Answer, Damaged, Limits, Refusal, Step, TaskId, WorkerId};
 use weak_task::{TaskCopy, WeakAnswer, WeakOutcome, WeakRow};
 
 // The lengths of the lent lists; the rings' is counted in copies.
@@ -63,54 +62,32 @@ pub fn lengths_fit(sizes: WeakSizes, p: usize, k: usize) -> bool
 }
 
 // 2, 1 and 7. Apart from what follows, so that it is small enough for the compiler to expand it in each call, where the limits are known.
-pub fn judge(limits: Limits, sizes: WeakSizes, p: usize, k: usize, worker: WorkerId) -> Judged
+pub fn judge(limits: Limits, sizes: WeakSizes, p: usize, k: usize, worker: WorkerId) -> Answer
     ensures judges { Judges limits p k worker.0 sizes result }
     ensures knows { Knows p k worker.0 sizes result }
 {
     if !(admission::numbers_fit(limits, p, k)
         & tables::sizes_fit(limits, sizes.weights, sizes.preds))
     {
-        return Judged::Refused(refusal::BEYOND_LIMIT, 0);
+        return Err(Refusal::BeyondLimit);
     }
     if !lengths_fit(sizes, p, k) {
-        return Judged::Refused(refusal::WRONG_LENGTH, 0);
+        return Err(Refusal::WrongLength);
     }
     if p <= worker.0 as usize {
-        return Judged::Refused(refusal::NO_SUCH_WORKER, worker.0);
+        return Err(Refusal::NoSuchWorker(worker.0));
     }
-    Judged::Fit
+    Ok(())
 }
 
-// Refused, or the worker's row in the phase that the step leads to.
-#[derive(Clone, Copy)]
-pub enum WeakAdmitted {
-    Refused(u32, u32),
-    To(WeakRow),
-}
-
-// What was judged, then the phase word (8) and whether the step suits it (9). The phase is set here alone.
-pub fn admit(judged: Judged, row: WeakRow, step: Step) -> WeakAdmitted
+// The worker's row in the phase that the step leads to: what was judged, then the phase word (8) and whether the step suits it (9). The
+// phase is set here alone.
+pub fn admit(judged: Answer, row: WeakRow, step: Step) -> Result<WeakRow, Refusal>
     ensures { Admits row step judged result }
 {
-    if let Judged::Refused(number, detail) = judged {
-        return WeakAdmitted::Refused(number, detail);
-    }
-    let phased = admission::phase_after(row.phase, step);
-    match phased {
-        Phased::Refused(number, detail) => WeakAdmitted::Refused(number, detail),
-        Phased::To(phase) => {
-            let held = row.held;
-            let pointer = row.pointer;
-            WeakAdmitted::To(WeakRow {
-                phase,
-                held,
-                pointer,
-                read: row.read,
-                write: row.write,
-                cursor: row.cursor,
-            })
-        }
-    }
+    judged?;
+    let phase = admission::phase_after(row.phase, step)?;
+    Ok(WeakRow { phase, ..row })
 }
 
 // Both words of a copy are in their ranges: the task below N, the predecessor NIL or below N.
@@ -122,12 +99,8 @@ pub fn copy_fits(copy: TaskCopy, tasks: usize) -> bool
     ((task as usize) < tasks) & ((predecessor == TaskId::NIL.0) | ((predecessor as usize) < tasks))
 }
 
-// R or the accepted word is damaged, or the accepted word.
-#[derive(Clone, Copy)]
-pub enum Counted {
-    Damaged,
-    At(u32),
-}
+// The accepted word, unless it or R is damaged.
+pub type Counted = Result<u32, Damaged>;
 
 // R, "read just before" the accepted word, and that word, with which a step's checks end.
 pub fn count_of(run: &[u32], tasks: usize, edges: usize) -> Counted
@@ -136,29 +109,23 @@ pub fn count_of(run: &[u32], tasks: usize, edges: usize) -> Counted
 {
     let roots = run[2];
     if tasks < roots as usize {
-        return Counted::Damaged;
+        return Err(Damaged);
     }
     let accepted = run[1];
     if 4 * edges + 3 * roots as usize <= accepted as usize {
-        return Counted::Damaged;
+        return Err(Damaged);
     }
-    Counted::At(accepted)
+    Ok(accepted)
 }
 
-// A step's end: refused, or its outcome and the worker's row after it.
-#[derive(Clone, Copy)]
-pub enum WeakStepped {
-    Refused(u32, u32),
-    Taken(WeakOutcome, WeakRow),
-}
+// A step's end: its outcome and the worker's row after it, or refused.
+pub type WeakStepped = Result<(WeakOutcome, WeakRow), Refusal>;
 
 pub fn answer_of(stepped: WeakStepped) -> WeakAnswer
     ensures { result ≡ answer_of stepped }
 {
-    match stepped {
-        WeakStepped::Refused(number, detail) => WeakAnswer::Refused(number, detail),
-        WeakStepped::Taken(outcome, after) => WeakAnswer::Accepted(outcome),
-    }
+    let (outcome, _) = stepped?;
+    Ok(outcome)
 }
 
 // The worker's row after a step, which had this row before.
@@ -166,7 +133,7 @@ pub fn row_after(stepped: WeakStepped, row: WeakRow) -> WeakRow
     ensures { result ≡ row_after row stepped }
 {
     match stepped {
-        WeakStepped::Refused(number, detail) => row,
-        WeakStepped::Taken(outcome, after) => after,
+        Err(_) => row,
+        Ok((_, after)) => after,
     }
 }

@@ -6,7 +6,7 @@ ghost use Rattle.weak_rows.specs.Copies.{copies_of};
 ghost use Rattle.weak_begin.specs.Begin.{Begins};
 
 use begin::Begun;
-use task::{Answer, Limits};
+use task::Limits;
 use weak_admission::WeakSizes;
 use weak_task::CopyCell;
 
@@ -54,7 +54,7 @@ pub fn begin_lists(
         rows,
     };
     let answer = weak_begin_check::judge(limits, sizes, p, k, weights, pred_starts, preds);
-    let Answer::Accepted = answer else {
+    let Ok(()) = answer else {
         return Begun { answer, rows: 0 };
     };
     let n = weights.len();

@@ -3,7 +3,7 @@
 
 ghost use Rattle.weak_begin_check.specs.Judging.{Judges};
 
-use task::{Answer, Limits, refusal};
+use task::{Answer, Limits, Refusal};
 use weak_admission::WeakSizes;
 
 // Begin's answer, from what is read alone. Products of lengths wait for 2.
@@ -21,19 +21,16 @@ pub fn judge(
     if !(admission::numbers_fit(limits, p, k)
         & tables::sizes_fit(limits, sizes.weights, sizes.preds))
     {
-        return Answer::Refused(refusal::BEYOND_LIMIT, 0);
+        return Err(Refusal::BeyondLimit);
     }
     let others = weak_admission::others_fit(sizes, p, k);
     let mut order = [0u32; 1024];
     let check = graph_check::check_graph(limits, true, others, weights, starts, preds, &mut order);
-    let answer = check.answer;
-    let Answer::Accepted = answer else {
-        return answer;
-    };
+    check.answer?;
     let n = weights.len();
     let found = roots::count_roots(n, starts);
     if p * k < found {
-        return Answer::Refused(refusal::TOO_MANY_ROOTS, found as u32);
+        return Err(Refusal::TooManyRoots(found as u32));
     }
-    answer
+    Ok(())
 }

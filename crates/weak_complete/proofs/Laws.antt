@@ -8,17 +8,19 @@ use lib.Dec.{ltb, leb, eqb}
 use lib.ListN.{length, get_or, set, length-set}
 use lib.IntN.{ℤ, pos, ◌-ℤ◌}
 use borrow.Author.Tests.{ltb-true, le-leb, lt-leb, lt-ltb, le-ltb, eq-eqb, ne_eqb, not-true, not-false}
+use Rattle.std.specs.Prelude.{Err, Ok}
+use Rattle.task.specs.declared.refusal.Refusal.{Refusal}
+use Rattle.task.specs.declared.refusal.Refusal.TheVariants.{Damaged, RecordFull}
 use Rattle.lists.proofs.Places.{place-lt}
 use Rattle.lists.proofs.Told.{and-true, and-false}
 use Rattle.task.specs.Types.{nil, engine}
-use Rattle.task.specs.Refusals.{record_full}
+use Rattle.task.specs.Refusals.{Answer}
 use Rattle.task.specs.declared.Limits.{Limits}
 use Rattle.task.specs.declared.Step.TheVariants.{Complete}
 use Rattle.weak_task.specs.Types.{copy_of, no_copy, idle}
 use Rattle.weak_task.specs.Rows.{with_hand, with_places}
 use Rattle.weak_task.specs.declared.TaskCopy.{TaskCopy}
 use Rattle.weak_task.specs.declared.WeakRow.{WeakRow}
-use Rattle.weak_task.specs.declared.WeakAnswer.TheVariants as answer
 use Rattle.weak_task.specs.declared.WeakOutcome.TheVariants.{Moved}
 use Rattle.memory.specs.Field as list
 use Rattle.memory.specs.Updates.{store_words, updated, written}
@@ -28,24 +30,17 @@ use Rattle.weak_rules.specs.Words.{counter_fits}
 use Rattle.weak_rules.specs.Updates.{Update}
 use Rattle.weak_rules.specs.Plans.{Plan, refuse, accept, refuse_if, checked, with_count, counted, result_of}
 use Rattle.weak_rules.specs.Steps.{complete_copy, complete_sink, complete_inner, complete_last, complete_rule, rule_of}
-use Rattle.admission.specs.declared.Judged.{Judged}
 use Rattle.admission.proofs.Laws.{few-places}
-use Rattle.weak_admission.specs.Admission.{sizes_of, Judges, Measured, Admits, Enters, entered}
+use Rattle.weak_admission.specs.Admission.{sizes_of, Judges, Measured, Admits, Enters, entered, WeakAdmitted, WeakStepped}
 use Rattle.weak_admission.specs.Count.{copy_within}
 use Rattle.weak_admission.specs.declared.WeakSizes.{WeakSizes}
-use Rattle.weak_admission.specs.declared.WeakStepped.{WeakStepped}
-use Rattle.weak_admission.specs.declared.WeakStepped.TheVariants as stepped
-use Rattle.weak_admission.specs.declared.WeakAdmitted.{WeakAdmitted}
-use Rattle.weak_admission.specs.declared.WeakAdmitted.TheVariants as admitted
 use Rattle.weak_admission.proofs.Rows.{admission-entered, admission-refused, admission-enters, word-damaged, word_counts, count-refused, count-accepted, refused-result, rule-refused, rule-accepted}
 use Rattle.weak_complete.specs.Complete.{lent, Completes, HandAndWrite}
-use Rattle.weak_complete.specs.Planned.{sink_updates, inner_updates, plan_of, Plans, PlansLast, Opens, Room, Leaves, Writable, Decides, DecidesLast, DecidesCopy}
+use Rattle.weak_complete.specs.Planned.{CompletePlan, Copy, Sink, Inner, sink_updates, inner_updates, plan_of, Plans, PlansLast, Opens, Room, Leaves, Writable, Decides, DecidesLast, DecidesCopy}
 use Rattle.weak_complete.specs.Written.{let_go_row, Records, Enterable, Lightens, Joinable, WritesCopy, WritesSink, WritesInner}
-use Rattle.weak_complete.specs.declared.CompletePlan.{CompletePlan}
-use Rattle.weak_complete.specs.declared.CompletePlan.TheVariants.{Refused, Copy, Sink, Inner}
 
 -- a place that isn't below n: whether it is n or beyond, the answer is the same
-unplaced : (b : Bool) (rest : Plan) → checked b (checked false rest) ≡ refuse 8 0
+unplaced : (b : Bool) (rest : Plan) → checked b (checked false rest) ≡ refuse Damaged
 unplaced true rest = refl
 unplaced false rest = refl
 
@@ -69,9 +64,9 @@ module _ (n e : ℕ) (run : List ℕ) (entries roots task degree : ℕ) (o : Ope
   few_roots = omega (arith, o.few_roots, o.roots_are)
 
   pub count-ends : 4 * e + 3 * roots ≤ get_or run 1 0 → (m : Mem) → tasks m ≡ n → edges m ≡ e → m.run ≡ run → (us : List Update)
-      → counted m Moved us ≡ refuse 8 0
+      → counted m Moved us ≡ refuse Damaged
   count-ends h m hn he hu us =
-      count-refused n e m (hn, he) Moved us (rw hu (sym (word-damaged n e run few_roots (omega (arith, h, o.roots_are)))))
+      count-refused n e m (hn, he) Moved us (record {}) (rw hu (sym (word-damaged n e run few_roots (omega (arith, h, o.roots_are)))))
 
   module _ (h : get_or run 1 0 < 4 * e + 3 * roots) where
     pub count-goes : (m : Mem) → tasks m ≡ n → edges m ≡ e → m.run ≡ run → (us : List Update)
@@ -90,7 +85,7 @@ module _ (n e : ℕ) (run : List ℕ) (entries roots task degree : ℕ) (o : Ope
     }
 
   -- a copy that isn't its task's last
-  pub copy-counted : 4 * e + 3 * roots ≤ get_or run 1 0 → DecidesCopy n e run task degree (Refused 8 0)
+  pub copy-counted : 4 * e + 3 * roots ≤ get_or run 1 0 → DecidesCopy n e run task degree (Err Damaged)
   unfolding complete_copy
   copy-counted h = ((λ p i m hn he hu. count-ends h m hn he hu _), (λ own row weights counters ht hw. tt))
 
@@ -141,12 +136,12 @@ module _ (e own : ℕ) (row : WeakRow) (weights succ_starts : List ℕ) (counter
   abbrev Decided : CompletePlan → Type 0
   Decided plan = DecidesLast e own row weights succ_starts counters run plan
 
-  pub last-heavy : 65535 < weight → Decided (Refused 8 0)
-  last-heavy h = (lastly (Refused 8 0) (λ p i m hn he hu. rw (lt-leb weight 65535 h) refl), tt)
+  pub last-heavy : 65535 < weight → Decided (Err Damaged)
+  last-heavy h = (lastly (Err Damaged) (λ p i m hn he hu. rw (lt-leb weight 65535 h) refl), tt)
 
   module _ (l : weight ≤ 65535) (fits : Bool) (hf : fits ≡ counter_fits counter) where
-    pub last-counter : not fits ≡ true → Decided (Refused 8 0)
-    last-counter h = (lastly (Refused 8 0) (λ p i m hn he hu. rw (le-leb weight 65535 l, sym hf ∙ not-true fits h) refl), tt)
+    pub last-counter : not fits ≡ true → Decided (Err Damaged)
+    last-counter h = (lastly (Err Damaged) (λ p i m hn he hu. rw (le-leb weight 65535 l, sym hf ∙ not-true fits h) refl), tt)
 
     module _ (x : not fits ≡ false) where
       counter-fits : counter_fits counter ≡ true
@@ -160,13 +155,13 @@ module _ (e own : ℕ) (row : WeakRow) (weights succ_starts : List ℕ) (counter
           → PlansLast e own row weights succ_starts counters run plan
       ranges plan f = lastly plan (λ p i m hn he hu. rw (le-leb weight 65535 l, counter-fits) (f p i m hn he hu))
 
-      pub last-beyond : e < past → Decided (Refused 8 0)
+      pub last-beyond : e < past → Decided (Err Damaged)
       last-beyond h =
-          (ranges (Refused 8 0) (λ p i m hn he hu. rw (and-false (leb first past) (leb past e) (λ q. lt-leb past e h)) refl), tt)
+          (ranges (Err Damaged) (λ p i m hn he hu. rw (and-false (leb first past) (leb past e) (λ q. lt-leb past e h)) refl), tt)
 
       module _ (d : past ≤ e) where
-        pub last-back : past < first → Decided (Refused 8 0)
-        last-back h = (ranges (Refused 8 0) (λ p i m hn he hu. rw (lt-leb first past h) refl), tt)
+        pub last-back : past < first → Decided (Err Damaged)
+        last-back h = (ranges (Err Damaged) (λ p i m hn he hu. rw (lt-leb first past h) refl), tt)
 
         in-range : first ≤ past → ranged ≡ true
         in-range h = rw (le-leb first past h, le-leb past e d) refl
@@ -179,9 +174,9 @@ module _ (e own : ℕ) (row : WeakRow) (weights succ_starts : List ℕ) (counter
           alone : (plan : CompletePlan) → LastPlanned (λ alone joined. alone) plan → PlansLast e own row weights succ_starts counters run plan
           alone plan g = ranges plan (λ p i m hn he hu. rw (in-range b, eq-eqb (past - first) 0 none) (g p i m hn he hu))
 
-          pub sink-counted : 4 * e + 3 * roots ≤ get_or run 1 0 → Decided (Refused 8 0)
+          pub sink-counted : 4 * e + 3 * roots ≤ get_or run 1 0 → Decided (Err Damaged)
           sink-counted h =
-              (alone (Refused 8 0) (λ p i m hn he hu. count-ends (length weights) e run entries roots _ 1 o h m hn he hu _), tt)
+              (alone (Err Damaged) (λ p i m hn he hu. count-ends (length weights) e run entries roots _ 1 o h m hn he hu _), tt)
 
           pub last-sink : get_or run 1 0 < 4 * e + 3 * roots → Decided (Sink entries (get_or run 1 0) weight)
           last-sink g = (
@@ -201,17 +196,17 @@ module _ (e own : ℕ) (row : WeakRow) (weights succ_starts : List ℕ) (counter
           joining : (plan : CompletePlan) → LastPlanned (λ alone joined. joins joined) plan → PlansLast e own row weights succ_starts counters run plan
           joining plan g = ranges plan (λ p i m hn he hu. rw (in-range rising, ne_eqb (past - first) 0 some) (g p i m hn he hu))
 
-          pub last-full : length weights ≤ row.write → Decided (Refused 8 0)
+          pub last-full : length weights ≤ row.write → Decided (Err Damaged)
           last-full h = (
-            joining (Refused 8 0)
+            joining (Err Damaged)
                 (λ p i m hn he hu. rw (le-ltb row.write (length weights) h)
                 (unplaced (leb row.read row.write && leb row.write (length weights)) (counted m Moved (inner_updates p i m)))),
             tt,
           )
 
           module _ (w : row.write < length weights) where
-            pub last-places : row.write < row.read → Decided (Refused 8 0)
-            last-places h = (joining (Refused 8 0) (λ p i m hn he hu. rw (lt-leb row.read row.write h) refl), tt)
+            pub last-places : row.write < row.read → Decided (Err Damaged)
+            last-places h = (joining (Err Damaged) (λ p i m hn he hu. rw (lt-leb row.read row.write h) refl), tt)
 
             module _ (r : row.read ≤ row.write) where
               below : row.write ≤ length weights
@@ -226,9 +221,9 @@ module _ (e own : ℕ) (row : WeakRow) (weights succ_starts : List ℕ) (counter
                     lt-ltb row.write (length weights) w,
                   ) (g p i m hn he hu))
 
-              pub inner-counted : 4 * e + 3 * roots ≤ get_or run 1 0 → Decided (Refused 8 0)
+              pub inner-counted : 4 * e + 3 * roots ≤ get_or run 1 0 → Decided (Err Damaged)
               inner-counted h =
-                  (joined (Refused 8 0) (λ p i m hn he hu. count-ends (length weights) e run entries roots _ 1 o h m hn he hu _), tt)
+                  (joined (Err Damaged) (λ p i m hn he hu. count-ends (length weights) e run entries roots _ 1 o h m hn he hu _), tt)
 
               pub last_inner : get_or run 1 0 < 4 * e + 3 * roots → Decided (Inner entries (get_or run 1 0) weight)
               last_inner g = (
@@ -275,7 +270,7 @@ module _ (e own : ℕ) (row : WeakRow) (weights succ_starts degrees : List ℕ) 
   ruled last copy =
       checked (leb (get_or run 2 0) n)
       (checked (leb (get_or run 0 0) (e + get_or run 2 0))
-      (refuse_if (eqb (get_or run 0 0) (e + get_or run 2 0)) record_full 0
+      (refuse_if (eqb (get_or run 0 0) (e + get_or run 2 0)) RecordFull
       (held_on last copy)))
 
   abbrev Planned : (Plan → Plan → Plan) → CompletePlan → Type 0
@@ -293,14 +288,14 @@ module _ (e own : ℕ) (row : WeakRow) (weights succ_starts degrees : List ℕ) 
   abbrev DecidedAll : CompletePlan → Type 0
   DecidedAll plan = Decides e own row weights succ_starts degrees counters run plan
 
-  pub plan-roots : n < get_or run 2 0 → DecidedAll (Refused 8 0)
-  plan-roots h = (planned (Refused 8 0) (λ p i m he ho hr hw hs hd hc hu. rw (lt-leb (get_or run 2 0) n h) refl), tt)
+  pub plan-roots : n < get_or run 2 0 → DecidedAll (Err Damaged)
+  plan-roots h = (planned (Err Damaged) (λ p i m he ho hr hw hs hd hc hu. rw (lt-leb (get_or run 2 0) n h) refl), tt)
 
   module _ (a : get_or run 2 0 ≤ n) where
-    pub plan-full : get_or run 0 0 ≡ e + get_or run 2 0 → DecidedAll (Refused 12 0)
+    pub plan-full : get_or run 0 0 ≡ e + get_or run 2 0 → DecidedAll (Err RecordFull)
     plan-full h =
         let b : get_or run 0 0 ≤ e + get_or run 2 0 = omega (arith, h) in (
-          planned (Refused 12 0)
+          planned (Err RecordFull)
               (λ p i m he ho hr hw hs hd hc hu. rw (
                 le-leb (get_or run 2 0) n a,
                 le-leb (get_or run 0 0) (e + get_or run 2 0) b,
@@ -309,10 +304,10 @@ module _ (e own : ℕ) (row : WeakRow) (weights succ_starts degrees : List ℕ) 
           tt,
         )
 
-    pub plan-over : e + get_or run 2 0 ≤ get_or run 0 0 → ¬ (get_or run 0 0 ≡ e + get_or run 2 0) → DecidedAll (Refused 8 0)
+    pub plan-over : e + get_or run 2 0 ≤ get_or run 0 0 → ¬ (get_or run 0 0 ≡ e + get_or run 2 0) → DecidedAll (Err Damaged)
     plan-over l h =
         let b : e + get_or run 2 0 < get_or run 0 0 = omega (arith, l, h) in (
-          planned (Refused 8 0)
+          planned (Err Damaged)
               (λ p i m he ho hr hw hs hd hc hu. rw (le-leb (get_or run 2 0) n a, lt-leb (get_or run 0 0) (e + get_or run 2 0) b) refl),
           tt,
         )
@@ -334,20 +329,20 @@ module _ (e own : ℕ) (row : WeakRow) (weights succ_starts degrees : List ℕ) 
             ne_eqb (get_or run 0 0) (e + get_or run 2 0) other,
           ) (f p i m he ho hr hw hs hd hc hu))
 
-      pub plan-held : not fits ≡ true → DecidedAll (Refused 8 0)
+      pub plan-held : not fits ≡ true → DecidedAll (Err Damaged)
       plan-held h =
-          (recorded (Refused 8 0) (λ p i m he ho hr hw hs hd hc hu. rw (sym hf ∙ not-true fits h) refl), tt)
+          (recorded (Err Damaged) (λ p i m he ho hr hw hs hd hc hu. rw (sym hf ∙ not-true fits h) refl), tt)
 
       module _ (x : not fits ≡ false) where
         copy-fits : copy_within n (copy_of row.held) ≡ true
         copy-fits = sym hf ∙ not-false fits x
 
-        pub plan-none : degree ≡ 0 → DecidedAll (Refused 8 0)
-        plan-none h = (recorded (Refused 8 0) (λ p i m he ho hr hw hs hd hc hu. rw (copy-fits, h) refl), tt)
+        pub plan-none : degree ≡ 0 → DecidedAll (Err Damaged)
+        plan-none h = (recorded (Err Damaged) (λ p i m he ho hr hw hs hd hc hu. rw (copy-fits, h) refl), tt)
 
-        pub plan-beyond : n < degree → DecidedAll (Refused 8 0)
+        pub plan-beyond : n < degree → DecidedAll (Err Damaged)
         plan-beyond h = (
-          recorded (Refused 8 0)
+          recorded (Err Damaged)
               (λ p i m he ho hr hw hs hd hc hu. rw (copy-fits, and-false (leb 1 degree) (leb degree n) (λ q. lt-leb degree n h)) refl),
           tt,
         )
@@ -520,13 +515,13 @@ module _ (i : ℕ) (row : WeakRow) (degree entries accepted : ℕ) (degrees degr
         refl
 
 -- an accepted Complete leaves the row's other words
-pub hand-and-write : (row : WeakRow) (judged : Judged) (r : WeakAdmitted) → Admits row Complete judged r → (after : WeakRow) → r ≡ admitted.To after
-    → (write : ℕ) (left : WeakRow) → left ≡ let_go_row write after → HandAndWrite row (stepped.Taken Moved left)
+pub hand-and-write : (row : WeakRow) (judged : Answer) (r : WeakAdmitted) → Admits row Complete judged r → (after : WeakRow) → r ≡ Ok after
+    → (write : ℕ) (left : WeakRow) → left ≡ let_go_row write after → HandAndWrite row (Ok (Moved, left))
 hand-and-write row judged r told after v write left o = rw (o, (admission-entered row Complete judged r told after v).1) refl
 
 -- The step by value: its admission, its plan and its writes, then the result.
 module _ (p k i : ℕ) (sizes : WeakSizes) (row : WeakRow) (weights succ_starts degrees : List ℕ) (counters : List ℤ) (buffers executed run : List ℕ)
-    (judged : Judged) (r : WeakAdmitted) (told : Admits row Complete judged r) where
+    (judged : Answer) (r : WeakAdmitted) (told : Admits row Complete judged r) where
   abbrev before : Mem → Mem
   before m = lent m weights succ_starts degrees counters buffers executed run m.rows
 
@@ -535,13 +530,13 @@ module _ (p k i : ℕ) (sizes : WeakSizes) (row : WeakRow) (weights succ_starts 
   Makes degrees' counters' buffers' executed' run' a =
       Completes p k i sizes judged row weights succ_starts degrees degrees' counters counters' buffers buffers' executed executed' run run' a
 
-  pub row-refused : (n d : ℕ) → r ≡ admitted.Refused n d → Makes degrees counters buffers executed run (stepped.Refused n d)
+  pub row-refused : (why : Refusal) → r ≡ Err why → Makes degrees counters buffers executed run (Err why)
   unfolding Completes
-  row-refused n d v limits m j e h =
-      refused-result limits p k i Complete (before m) n d
-      (admission-refused p k i sizes row Complete limits (before m) e h judged j r told n d v)
+  row-refused why v limits m j e h =
+      refused-result limits p k i Complete (before m) why
+      (admission-refused p k i sizes row Complete limits (before m) e h judged j r told why v)
 
-  module _ (after : WeakRow) (v : r ≡ admitted.To after) (own : ℕ) (ho : own ≡ ring_number p i i) (plan : CompletePlan)
+  module _ (after : WeakRow) (v : r ≡ Ok after) (own : ℕ) (ho : own ≡ ring_number p i i) (plan : CompletePlan)
       (decided : Decides sizes.preds own after weights succ_starts degrees counters run plan) where
     module _ (limits : Limits) (m : Mem) (j : Judges limits p k i sizes judged) (e : sizes_of (before m) ≡ sizes) (h : row_in m i ≡ row) where
       enters : Enters limits p k i Complete (before m) after
@@ -550,38 +545,38 @@ module _ (p k i : ℕ) (sizes : WeakSizes) (row : WeakRow) (weights succ_starts 
       follows : (q : CompletePlan) → plan ≡ q → complete_rule p i (before m) ≡ plan_of p i (before m) q
       follows q w = rw (← w) (decided.0 p i (before m) (ap (λ (x : WeakSizes). x.preds) e) ho enters.leads refl refl refl refl refl)
 
-    pub rule-refuses : (n d : ℕ) → plan ≡ Refused n d → Makes degrees counters buffers executed run (stepped.Refused n d)
+    pub rule-refuses : (why : Refusal) → plan ≡ Err why → Makes degrees counters buffers executed run (Err why)
     unfolding Completes rule_of
-    rule-refuses n d w limits m j e h =
-        rule-refused limits p k i Complete (before m) after (enters limits m j e h) n d (follows limits m j e h (Refused n d) w)
+    rule-refuses why w limits m j e h =
+        rule-refused limits p k i Complete (before m) after (enters limits m j e h) why (follows limits m j e h (Err why) w)
 
     module _ (entries accepted : ℕ) (degrees' executed' run' : List ℕ) (left : WeakRow) where
       pub copy-made : (degree : ℕ) → plan ≡ Copy entries accepted degree
           → WritesCopy i after degrees degrees' executed executed' run run' left
-          → Makes degrees' counters buffers executed' run' (stepped.Taken Moved left)
+          → Makes degrees' counters buffers executed' run' (Ok (Moved, left))
       unfolding Completes rule_of WritesCopy
       copy-made degree w writes limits m j e h =
-          ap (result_of (answer.Accepted Moved)) (writes (before m) (enters limits m j e h).leads)
+          ap (result_of (Ok Moved)) (writes (before m) (enters limits m j e h).leads)
           ∙ rule-accepted limits p k i Complete (before m) after (enters limits m j e h) Moved _
           (follows limits m j e h (Copy entries accepted degree) w)
 
       module _ (weight : ℕ) (counters' : List ℤ) where
         pub sink-made : plan ≡ Sink entries accepted weight
             → WritesSink i own weight after degrees degrees' counters counters' executed executed' run run' left
-            → Makes degrees' counters' buffers executed' run' (stepped.Taken Moved left)
+            → Makes degrees' counters' buffers executed' run' (Ok (Moved, left))
         unfolding Completes rule_of WritesSink
         sink-made w writes limits m j e h =
             let x : Writable sizes.preds own after weights counters run (get_or degrees after.held.task.0 0) (Sink entries accepted weight) = (rw w at decided).1 in
-            ap (result_of (answer.Accepted Moved)) (writes p (before m) ho (enters limits m j e h).leads (sym x.1.1.weighs))
+            ap (result_of (Ok Moved)) (writes p (before m) ho (enters limits m j e h).leads (sym x.1.1.weighs))
             ∙ rule-accepted limits p k i Complete (before m) after (enters limits m j e h) Moved _
             (follows limits m j e h (Sink entries accepted weight) w)
 
         pub inner_made : plan ≡ Inner entries accepted weight → (buffers' : List ℕ)
             → WritesInner i (length weights) own weight after degrees degrees' counters counters' buffers buffers' executed executed' run run' left
-            → Makes degrees' counters' buffers' executed' run' (stepped.Taken Moved left)
+            → Makes degrees' counters' buffers' executed' run' (Ok (Moved, left))
         unfolding Completes rule_of WritesInner
         inner_made w buffers' writes limits m j e h =
             let x : Writable sizes.preds own after weights counters run (get_or degrees after.held.task.0 0) (Inner entries accepted weight) = (rw w at decided).1 in
-            ap (result_of (answer.Accepted Moved)) (writes p (before m) ho (enters limits m j e h).leads refl (sym x.1.1.0.weighs))
+            ap (result_of (Ok Moved)) (writes p (before m) ho (enters limits m j e h).leads refl (sym x.1.1.0.weighs))
             ∙ rule-accepted limits p k i Complete (before m) after (enters limits m j e h) Moved _
             (follows limits m j e h (Inner entries accepted weight) w)

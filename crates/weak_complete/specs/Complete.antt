@@ -1,5 +1,6 @@
 -- What Complete of a weak job by value does to the memory whose lists it is lent: worker i's row goes in and comes back.
-use Rattle.std.specs.Prelude.{ℕ, ◌≡◌, List, ℤ}
+use Rattle.std.specs.Prelude.{ℕ, ◌≡◌, List, ℤ, Err, Ok}
+use Rattle.task.specs.Refusals.{Answer}
 use Rattle.task.specs.declared.Limits.{Limits}
 use Rattle.task.specs.declared.Step.TheVariants as step-name
 use Rattle.weak_task.specs.Rows.{with_hand, with_places}
@@ -9,11 +10,8 @@ use Rattle.memory.specs.Memory.{put}
 use Rattle.weak_rules.specs.Memory.{Mem, row_in}
 use Rattle.weak_rules.specs.Plans.{result_of}
 use Rattle.weak_rules.specs.Steps.{step}
-use Rattle.admission.specs.declared.Judged.{Judged}
-use Rattle.weak_admission.specs.Admission.{sizes_of, Judges, answer_of, rows_after}
+use Rattle.weak_admission.specs.Admission.{sizes_of, Judges, answer_of, rows_after, WeakStepped}
 use Rattle.weak_admission.specs.declared.WeakSizes.{WeakSizes}
-use Rattle.weak_admission.specs.declared.WeakStepped.{WeakStepped}
-use Rattle.weak_admission.specs.declared.WeakStepped.TheVariants.{Refused, Taken}
 
 -- a memory with the lists that Complete reads and writes
 abbrev pub lent : Mem → List ℕ → List ℕ → List ℕ → List ℤ → List ℕ → List ℕ → List ℕ → List WeakRow → Mem
@@ -28,7 +26,7 @@ lent m weights succ_starts degrees counters buffers executed run rows =
     (put list.rows rows m)))))))
 
 -- whatever the other lists hold
-unfoldable pub Completes : ℕ → ℕ → ℕ → WeakSizes → Judged → WeakRow → List ℕ → List ℕ → List ℕ → List ℕ → List ℤ → List ℤ
+unfoldable pub Completes : ℕ → ℕ → ℕ → WeakSizes → Answer → WeakRow → List ℕ → List ℕ → List ℕ → List ℕ → List ℤ → List ℤ
     → List ℕ → List ℕ → List ℕ → List ℕ → List ℕ → List ℕ → WeakStepped → Type 0
 Completes p k i sizes judged row weights succ_starts degrees degrees' counters counters' buffers buffers' executed executed' run run' r =
     (limits : Limits) (m : Mem) → Judges limits p k i sizes judged
@@ -38,5 +36,5 @@ Completes p k i sizes judged row weights succ_starts degrees degrees' counters c
 
 -- the row keeps its words but the hand and the write place
 abbrev pub HandAndWrite : WeakRow → WeakStepped → Type 0
-HandAndWrite row (Refused n d) = Unit {0}
-HandAndWrite row (Taken o after) = after ≡ with_hand after.phase after.held (with_places row.read after.write row.cursor row)
+HandAndWrite row (Err why) = Unit {0}
+HandAndWrite row (Ok (o, after)) = after ≡ with_hand after.phase after.held (with_places row.read after.write row.cursor row)

@@ -1,5 +1,6 @@
 -- What Complete of a weak job is to do, by the words that it reads.
-use Rattle.std.specs.Prelude.{ℕ, ◌+◌, ◌*◌, ◌≤◌, ◌<◌, ◌≡◌, true, List, ◌∷◌, length, get_or, ℤ, pos}
+use Rattle.std.specs.Prelude.{ℕ, ◌+◌, ◌*◌, ◌≤◌, ◌<◌, ◌≡◌, true, List, ◌∷◌, length, get_or, ℤ, pos, Result, Ok, Err}
+use Rattle.task.specs.declared.refusal.Refusal.{Refusal}
 use Rattle.task.specs.declared.Step.TheVariants.{Complete}
 use Rattle.weak_task.specs.declared.WeakRow.{WeakRow}
 use Rattle.weak_task.specs.declared.WeakOutcome.TheVariants.{Moved}
@@ -9,8 +10,21 @@ use Rattle.weak_rules.specs.Updates.{Update, put_buffer, put_places}
 use Rattle.weak_rules.specs.Plans.{Plan, refuse, accept, with_count}
 use Rattle.weak_rules.specs.Steps.{let_go, leave, lower, record_entry, complete_copy, complete_last, complete_rule}
 use Rattle.weak_admission.specs.Admission.{entered}
-use Rattle.weak_complete.specs.declared.CompletePlan.{CompletePlan}
-use Rattle.weak_complete.specs.declared.CompletePlan.TheVariants as plan
+use Rattle.weak_complete.specs.declared.CompletePlan as plan
+use Rattle.weak_complete.specs.declared.CompletePlan.TheVariants as plans
+
+-- what Complete is to do, or why it is refused
+abbrev pub CompletePlan : Type 0
+CompletePlan = Result plan.CompletePlan Refusal
+
+pattern abbrev pub Copy : (entries accepted degree : ℕ) → CompletePlan
+Copy entries accepted degree = Ok (plans.Copy entries accepted degree)
+
+pattern abbrev pub Sink : (entries accepted weight : ℕ) → CompletePlan
+Sink entries accepted weight = Ok (plans.Sink entries accepted weight)
+
+pattern abbrev pub Inner : (entries accepted weight : ℕ) → CompletePlan
+Inner entries accepted weight = Ok (plans.Inner entries accepted weight)
 
 -- what each accepted plan writes, besides that the step is counted: a copy that isn't its task's last; the last one of a sink; of another task
 abbrev pub copy_updates : ℕ → Mem → List Update
@@ -30,10 +44,10 @@ inner_updates p i m =
 
 -- a plan as the rules have it, for worker i
 abbrev pub plan_of : ℕ → ℕ → Mem → CompletePlan → Plan
-plan_of p i m (plan.Refused n d) = refuse n d
-plan_of p i m (plan.Copy entries accepted degree) = accept Moved (with_count m (copy_updates i m))
-plan_of p i m (plan.Sink entries accepted weight) = accept Moved (with_count m (sink_updates p i m))
-plan_of p i m (plan.Inner entries accepted weight) = accept Moved (with_count m (inner_updates p i m))
+plan_of p i m (Err why) = refuse why
+plan_of p i m (Copy entries accepted degree) = accept Moved (with_count m (copy_updates i m))
+plan_of p i m (Sink entries accepted weight) = accept Moved (with_count m (sink_updates p i m))
+plan_of p i m (Inner entries accepted weight) = accept Moved (with_count m (inner_updates p i m))
 
 -- the plan is the rule's, in every memory with the words that are read, for a row in the phase that Complete leads to; the worker's own
 -- counter (i, i) has this number
@@ -79,13 +93,13 @@ pub record Leaves (own task : ℕ) (weights : List ℕ) (counters : List ℤ) (w
 
 -- what lets an accepted plan be written, the degree of the copy's task being this
 abbrev pub Writable : ℕ → ℕ → WeakRow → List ℕ → List ℤ → List ℕ → ℕ → CompletePlan → Type 0
-Writable e own row weights counters run degree (plan.Refused n d) = Unit {0}
-Writable e own row weights counters run degree (plan.Copy entries accepted d) =
+Writable e own row weights counters run degree (Err why) = Unit {0}
+Writable e own row weights counters run degree (Copy entries accepted d) =
     Room (length weights) e run entries accepted row.held.task.0 degree × (d ≡ degree)
-Writable e own row weights counters run degree (plan.Sink entries accepted weight) =
+Writable e own row weights counters run degree (Sink entries accepted weight) =
     Room (length weights) e run entries accepted row.held.task.0 degree
     × ((degree ≡ 1) × Leaves own row.held.task.0 weights counters weight)
-Writable e own row weights counters run degree (plan.Inner entries accepted weight) =
+Writable e own row weights counters run degree (Inner entries accepted weight) =
     Room (length weights) e run entries accepted row.held.task.0 degree
     × ((degree ≡ 1) × (Leaves own row.held.task.0 weights counters weight × (row.write < length weights)))
 

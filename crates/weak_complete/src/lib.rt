@@ -11,16 +11,14 @@ ghost use Rattle.weak_complete.specs.Complete.{Completes, HandAndWrite};
 ghost use Rattle.weak_complete.specs.Planned.{Opens, Decides, DecidesLast, DecidesCopy};
 ghost use Rattle.weak_complete.specs.Written.{let_go_row, Recordable, Records, Enterable, Lightens, Joinable, WritesCopy, WritesSink, WritesInner};
 
-use admission::Judged;
-use task::{Step, TaskId, WorkerId, refusal};
-use weak_admission::{WeakAdmitted, WeakSizes, WeakStepped};
+use task::{Answer, Refusal, Step, TaskId, WorkerId};
+use weak_admission::{WeakSizes, WeakStepped};
 use weak_task::{TaskCopy, WeakOutcome, WeakRow};
 
-// What Complete is to do: refused; a copy joins the record that isn't its task's last; the last one does, and its task is a sink, or joins
-// the buffer. With the entries word, the accepted word, and the task's degree or, for the last copy, its weight, as read.
+// What Complete is to do: a copy joins the record that isn't its task's last; the last one does, and its task is a sink, or joins the buffer.
+// With the entries word, the accepted word, and the task's degree or, for the last copy, its weight, as read.
 #[derive(Clone, Copy)]
 pub enum CompletePlan {
-    Refused(u32, u32),
     Copy(u32, u32, u32),
     Sink(u32, u32, u32),
     Inner(u32, u32, u32),
@@ -35,16 +33,16 @@ fn plan_copy(
     entries: u32,
     roots: u32,
     degree: u32,
-) -> CompletePlan
+) -> Result<CompletePlan, Refusal>
     requires { (length run.now ≡ 3) × ((n ≤ engine.tasks) × ((e ≤ engine.edges)
         × Opens n e run.now entries roots task.0 degree)) }
     ensures { DecidesCopy n e run.now task.0 degree result }
 {
     let accepted = run[1];
     if 4 * e + 3 * roots as usize <= accepted as usize {
-        return CompletePlan::Refused(refusal::DAMAGED, 0);
+        return Err(Refusal::Damaged);
     }
-    CompletePlan::Copy(entries, accepted, degree)
+    Ok(CompletePlan::Copy(entries, accepted, degree))
 }
 
 // The task's last copy: its weight, the worker's own counter, the successor range, for a task with successors the buffer's places, the
@@ -59,7 +57,7 @@ fn plan_last(
     row: WeakRow,
     entries: u32,
     roots: u32,
-) -> CompletePlan
+) -> Result<CompletePlan, Refusal>
     requires { (length weights.now ≤ engine.tasks) × ((e ≤ engine.edges) × ((length succ_starts.now ≡ length weights.now + 1)
         × ((own < length counters.now) × ((length run.now ≡ 3)
         × Opens (length weights.now) e run.now entries roots row.held.task.0 1)))) }
@@ -69,37 +67,37 @@ fn plan_last(
     let task = row.held.task.0 as usize;
     let weight = weights[task];
     if 65535 < weight {
-        return CompletePlan::Refused(refusal::DAMAGED, 0);
+        return Err(Refusal::Damaged);
     }
     if !counters::counter_fits(counters, own) {
-        return CompletePlan::Refused(refusal::DAMAGED, 0);
+        return Err(Refusal::Damaged);
     }
     let past = succ_starts[task + 1];
     if e < past as usize {
-        return CompletePlan::Refused(refusal::DAMAGED, 0);
+        return Err(Refusal::Damaged);
     }
     let first = succ_starts[task];
     if past <= first {
         if past < first {
-            return CompletePlan::Refused(refusal::DAMAGED, 0);
+            return Err(Refusal::Damaged);
         }
         let accepted = run[1];
         if 4 * e + 3 * roots as usize <= accepted as usize {
-            return CompletePlan::Refused(refusal::DAMAGED, 0);
+            return Err(Refusal::Damaged);
         }
-        return CompletePlan::Sink(entries, accepted, weight);
+        return Ok(CompletePlan::Sink(entries, accepted, weight));
     }
     if n <= row.write as usize {
-        return CompletePlan::Refused(refusal::DAMAGED, 0);
+        return Err(Refusal::Damaged);
     }
     if row.write < row.read {
-        return CompletePlan::Refused(refusal::DAMAGED, 0);
+        return Err(Refusal::Damaged);
     }
     let accepted = run[1];
     if 4 * e + 3 * roots as usize <= accepted as usize {
-        return CompletePlan::Refused(refusal::DAMAGED, 0);
+        return Err(Refusal::Damaged);
     }
-    CompletePlan::Inner(entries, accepted, weight)
+    Ok(CompletePlan::Inner(entries, accepted, weight))
 }
 
 // Everything is read and checked: R, the entries word, the held copy, the degree of its task, then what that degree says. R, "read just before
@@ -113,7 +111,7 @@ pub fn plan_complete(
     e: usize,
     own: usize,
     row: WeakRow,
-) -> CompletePlan
+) -> Result<CompletePlan, Refusal>
     requires { (length weights.now ≤ engine.tasks) × ((e ≤ engine.edges) × ((length succ_starts.now ≡ length weights.now + 1)
         × ((length degrees.now ≡ length weights.now) × ((own < length counters.now) × (length run.now ≡ 3))))) }
     ensures { Decides e own row weights.now succ_starts.now degrees.now counters.now
@@ -122,25 +120,25 @@ pub fn plan_complete(
     let n = weights.len();
     let roots = run[2];
     if n < roots as usize {
-        return CompletePlan::Refused(refusal::DAMAGED, 0);
+        return Err(Refusal::Damaged);
     }
     let entries = run[0];
     let copies = e + roots as usize;
     if copies <= entries as usize {
         if entries as usize == copies {
-            return CompletePlan::Refused(refusal::RECORD_FULL, 0);
+            return Err(Refusal::RecordFull);
         }
-        return CompletePlan::Refused(refusal::DAMAGED, 0);
+        return Err(Refusal::Damaged);
     }
     let held = row.held;
     if !weak_admission::copy_fits(held, n) {
-        return CompletePlan::Refused(refusal::DAMAGED, 0);
+        return Err(Refusal::Damaged);
     }
     let task = held.task;
     let degree = degrees[task.0 as usize];
     if degree < 2 {
         if degree == 0 {
-            return CompletePlan::Refused(refusal::DAMAGED, 0);
+            return Err(Refusal::Damaged);
         }
         return plan_last(
             weights,
@@ -155,7 +153,7 @@ pub fn plan_complete(
         );
     }
     if n < degree as usize {
-        return CompletePlan::Refused(refusal::DAMAGED, 0);
+        return Err(Refusal::Damaged);
     }
     plan_copy(run, n, e, task, entries, roots, degree)
 }
@@ -204,17 +202,13 @@ fn join_buffer(buffers: &mut [u32], n: usize, worker: WorkerId, write: u32, task
 fn let_go(row: WeakRow, write: u32) -> WeakRow
     ensures { result ≡ let_go_row write row }
 {
-    let pointer = row.pointer;
     WeakRow {
-        phase: row.phase,
         held: TaskCopy {
             task: TaskId::NIL,
             predecessor: TaskId::NIL,
         },
-        pointer,
-        read: row.read,
         write,
-        cursor: row.cursor,
+        ..row
     }
 }
 
@@ -298,7 +292,7 @@ pub fn write_inner(
 // Complete by a worker with this row, after what was judged; `sizes` are the lengths of all lent lists.
 pub fn complete_row(
     sizes: WeakSizes,
-    judged: Judged,
+    judged: Answer,
     p: usize,
     k: usize,
     worker: WorkerId,
@@ -321,11 +315,7 @@ pub fn complete_row(
         run.old run.new result }
     ensures hand_and_write { HandAndWrite row result }
 {
-    let admitted = weak_admission::admit(judged, row, Step::Complete);
-    let after = match admitted {
-        WeakAdmitted::Refused(number, detail) => return WeakStepped::Refused(number, detail),
-        WeakAdmitted::To(after) => after,
-    };
+    let after = weak_admission::admit(judged, row, Step::Complete)?;
     let own = searches::ring_number(p, worker, worker);
     let plan = plan_complete(
         weights,
@@ -336,20 +326,19 @@ pub fn complete_row(
         sizes.preds,
         own,
         after,
-    );
+    )?;
     match plan {
-        CompletePlan::Refused(number, detail) => WeakStepped::Refused(number, detail),
         CompletePlan::Copy(entries, accepted, degree) => {
             let left = write_copy(
                 degrees, executed, run, worker, after, entries, accepted, degree,
             );
-            WeakStepped::Taken(WeakOutcome::Moved, left)
+            Ok((WeakOutcome::Moved, left))
         }
         CompletePlan::Sink(entries, accepted, weight) => {
             let left = write_sink(
                 degrees, counters, executed, run, own, worker, after, entries, accepted, weight,
             );
-            WeakStepped::Taken(WeakOutcome::Moved, left)
+            Ok((WeakOutcome::Moved, left))
         }
         CompletePlan::Inner(entries, accepted, weight) => {
             let left = write_inner(
@@ -366,7 +355,7 @@ pub fn complete_row(
                 accepted,
                 weight,
             );
-            WeakStepped::Taken(WeakOutcome::Moved, left)
+            Ok((WeakOutcome::Moved, left))
         }
     }
 }

@@ -10,7 +10,6 @@ ghost use Rattle.weak_rules.specs.Plans.{result_of};
 ghost use Rattle.weak_rules.specs.Steps.{step};
 ghost use Rattle.weak_engine_cells.specs.Cells.{weak_cell_mem};
 
-use admission::Judged;
 use task::{Limits, WorkerId};
 use weak_task::{CopyCell, WeakAnswer, WeakRowCell};
 
@@ -62,9 +61,7 @@ pub fn fetch(
         rows,
     );
     let judged = weak_admission::judge(limits, sizes, p, k, worker);
-    if let Judged::Refused(number, detail) = judged {
-        return WeakAnswer::Refused(number, detail);
-    }
+    judged?;
     let row = weak_rows::row_at(rows, worker);
     let stepped = weak_fetch::fetch_row(sizes, judged, p, k, worker, row, rings, ends, run);
     weak_engine_cells::store_fetched(rows, worker, row, stepped)
@@ -118,9 +115,7 @@ pub fn start(
         rows,
     );
     let judged = weak_admission::judge(limits, sizes, p, k, worker);
-    if let Judged::Refused(number, detail) = judged {
-        return WeakAnswer::Refused(number, detail);
-    }
+    judged?;
     let row = weak_rows::row_at(rows, worker);
     let stepped = weak_start::start_row(sizes, judged, p, k, worker, row, run);
     weak_engine_cells::store_started(rows, worker, row, stepped)
@@ -174,9 +169,7 @@ pub fn complete(
         rows,
     );
     let judged = weak_admission::judge(limits, sizes, p, k, worker);
-    if let Judged::Refused(number, detail) = judged {
-        return WeakAnswer::Refused(number, detail);
-    }
+    judged?;
     let row = weak_rows::row_at(rows, worker);
     let stepped = weak_complete::complete_row(
         sizes,
@@ -244,9 +237,7 @@ pub fn release(
         rows,
     );
     let judged = weak_admission::judge(limits, sizes, p, k, worker);
-    if let Judged::Refused(number, detail) = judged {
-        return WeakAnswer::Refused(number, detail);
-    }
+    judged?;
     let row = weak_rows::row_at(rows, worker);
     let stepped = weak_release::release_row(
         sizes,

@@ -3,14 +3,12 @@
 use Prim.Native.Nat.{ℕ}
 use mathlib.Core.Path.{◌≡◌, sym, ap, ◌∙◌}
 use mathlib.Core.List.{List}
-use Rattle.task.specs.Refusals.{answer_says}
-use Rattle.task.specs.declared.Answer.{Answer}
-use Rattle.task.specs.declared.Answer.TheVariants as answer
+use Rattle.std.specs.Prelude.{Err}
+use Rattle.task.specs.declared.refusal.Refusal.{Refusal}
+use Rattle.task.specs.Refusals.{refusal_number, refusal_detail, answer_says, Answer}
 use Rattle.task.specs.declared.Limits.{Limits}
 use Rattle.task.specs.declared.Step.{Step}
-use Rattle.weak_task.specs.Says.{step_says}
-use Rattle.weak_task.specs.declared.WeakAnswer.{WeakAnswer}
-use Rattle.weak_task.specs.declared.WeakAnswer.TheVariants.{Refused}
+use Rattle.weak_task.specs.Says.{WeakAnswer, step_says}
 use Rattle.weak_rules.specs.Memory.{Mem}
 use Rattle.weak_rules.specs.Begin.{begin}
 use Rattle.weak_rules.specs.Plans.{Result, result_of}
@@ -45,18 +43,18 @@ module _ (m m' : Mem) (slots slots' cells cells' : List (List ℕ)) (l : Lent m 
 
   -- "all lent memory keeps its words": the contracts here, which hand out the answer itself; of the exports `untouched`
   -- (`crates/weak_hosts/proofs/Untouched.antt`)
-  pub refused-step-cells : (limits : Limits) (p k i : ℕ) (s : Step) (n d : ℕ) → result_of (Refused n d) m' ≡ step limits p k i s m
+  pub refused-step-cells : (limits : Limits) (p k i : ℕ) (s : Step) (why : Refusal) → result_of (Err why) m' ≡ step limits p k i s m
       → Same m m' slots slots' cells cells'
-  refused-step-cells limits p k i s n d contract =
+  refused-step-cells limits p k i s why contract =
       same-cells
       (ap (λ (r : Result WeakAnswer). r.memory) contract
-      ∙ refused-step limits p k i s m n d (ap (λ (r : Result WeakAnswer). step_says r.answer) (sym contract)))
+      ∙ refused-step limits p k i s m (refusal_number why) (refusal_detail why) (ap (λ (r : Result WeakAnswer). step_says r.answer) (sym contract)))
 
-  pub refused-begin-cells : (limits : Limits) (p k n d : ℕ) → result_of (answer.Refused n d) m' ≡ begin limits p k m → Same m m' slots slots' cells cells'
-  refused-begin-cells limits p k n d contract =
+  pub refused-begin-cells : (limits : Limits) (p k : ℕ) (why : Refusal) → result_of (Err why) m' ≡ begin limits p k m → Same m m' slots slots' cells cells'
+  refused-begin-cells limits p k why contract =
       same-cells
       (ap (λ (r : Result Answer). r.memory) contract
-      ∙ refused-begin limits p k m n d (ap (λ (r : Result Answer). answer_says r.answer) (sym contract)))
+      ∙ refused-begin limits p k m (refusal_number why) (refusal_detail why) (ap (λ (r : Result Answer). answer_says r.answer) (sym contract)))
 
   -- "For each call and input one result and one content of the lent words is permitted": two that keep to one contract are the same
   pub one-content : {A : Type 0} (a a' : A) (result : Result A) → result_of a m ≡ result → result_of a' m' ≡ result

@@ -6,14 +6,16 @@ use mathlib.Core.List.{List}
 use native.Mathlib.Omega.{arith}
 use lib.ListN.{length, get_or}
 use lib.IntN.{ℤ}
+use Rattle.std.specs.Prelude.{Err, Ok}
+use Rattle.task.specs.Refusals.{Answer}
+use Rattle.task.specs.declared.refusal.Refusal.{Refusal}
 use Rattle.task.specs.declared.Limits.{Limits}
 use Rattle.task.specs.declared.Step.{Step}
 use Rattle.task.specs.declared.Step.TheVariants.{Fetch, Start, Complete, Release}
 use Rattle.weak_task.specs.Types.{Copy, idle}
 use Rattle.weak_task.specs.declared.WeakRow.{WeakRow}
 use Rattle.weak_task.specs.declared.WeakOutcome.{WeakOutcome}
-use Rattle.weak_task.specs.declared.WeakAnswer.{WeakAnswer}
-use Rattle.weak_task.specs.declared.WeakAnswer.TheVariants as answer
+use Rattle.weak_task.specs.Says.{WeakAnswer}
 use Rattle.memory.specs.Field as list
 use Rattle.memory.specs.Memory.{put}
 use Rattle.weak_rules.specs.Memory.{Mem}
@@ -23,12 +25,8 @@ use Rattle.weak_rows.specs.Rows.{rows_of, with_next, with_cursor, changed}
 use Rattle.weak_rows.specs.Copies.{copies_of}
 use Rattle.weak_rows.proofs.Laws.{length-rows, one-changed, two-changed}
 use Rattle.weak_rows.proofs.Copies.{length-copies}
-use Rattle.admission.specs.declared.Judged.{Judged}
-use Rattle.admission.specs.declared.Judged.TheVariants as judged
-use Rattle.weak_admission.specs.Admission.{sizes_of, Judges, Knows, answer_of, rows_after}
+use Rattle.weak_admission.specs.Admission.{sizes_of, Judges, Knows, answer_of, rows_after, WeakStepped}
 use Rattle.weak_admission.specs.declared.WeakSizes.{WeakSizes}
-use Rattle.weak_admission.specs.declared.WeakStepped.{WeakStepped}
-use Rattle.weak_admission.specs.declared.WeakStepped.TheVariants.{Taken}
 use Rattle.weak_admission.proofs.Rows.{refused-result}
 use Rattle.weak_fetch.specs.Fetch.{Fetches}
 use Rattle.weak_start.specs.Start.{Starts}
@@ -37,7 +35,7 @@ use Rattle.weak_release.specs.Release.{tables_of, words_of, Lent, Releases}
 use Rattle.weak_engine_cells.specs.Cells.{weak_cell_mem}
 
 -- where 2, 1 and 7 pass, the worker has a row
-pub row-there : (p k i : ℕ) (sizes : WeakSizes) (j : Judged) → Knows p k i sizes j → j ≡ judged.Fit → (rows : ℕ) → sizes.rows ≡ rows → i < rows
+pub row-there : (p k i : ℕ) (sizes : WeakSizes) (j : Answer) → Knows p k i sizes j → j ≡ (Ok tt) → (rows : ℕ) → sizes.rows ≡ rows → i < rows
 row-there p k i sizes j known v rows e = let f = subst (Knows p k i sizes) v known in omega (arith, f.lengths.list list.rows, f.worker)
 
 module _ (w ps p' ss s d f : List ℕ) (slots : List (List ℕ)) (e : List ℕ) (c : List ℤ) (b x n : List ℕ) (cells : List (List ℕ)) where
@@ -97,10 +95,10 @@ module _ (w ps p' ss s d f : List ℕ) (slots : List (List ℕ)) (e : List ℕ) 
           run = refl;
         })
 
-    module _ (limits : Limits) (p k i : ℕ) (j : Judged) (judges : Judges limits p k i sizes j) where
-      pub judged-made : (step-name : Step) (n d : ℕ) → j ≡ judged.Refused n d → result_of (answer.Refused n d) lent ≡ step limits p k i step-name lent
-      judged-made step-name n d v =
-          refused-result limits p k i step-name lent n d (subst (Judges limits p k i sizes) v judges step-name lent (sym measured))
+    module _ (limits : Limits) (p k i : ℕ) (j : Answer) (judges : Judges limits p k i sizes j) where
+      pub judged-made : (step-name : Step) (why : Refusal) → j ≡ Err why → result_of (Err why) lent ≡ step limits p k i step-name lent
+      judged-made step-name why v =
+          refused-result limits p k i step-name lent why (subst (Judges limits p k i sizes) v judges step-name lent (sym measured))
 
       module _ (rows' : List WeakRow) (row : WeakRow) (a : WeakStepped) (y : WeakAnswer) (loaded : row ≡ get_or (rows_of cells) i idle)
           (ended : (y ≡ answer_of a) × (rows' ≡ rows_after (rows_of cells) i a)) where
@@ -129,17 +127,17 @@ module _ (w ps p' ss s d f : List ℕ) (slots : List (List ℕ)) (e : List ℕ) 
 
 -- the end of an accepted step, whose row is stored by one part or two
 module _ (cells : List (List ℕ)) (i : ℕ) (row : WeakRow) (h : i < length cells) (loaded : row ≡ get_or (rows_of cells) i idle)
-    (a : WeakStepped) (o : WeakOutcome) (after : WeakRow) (v : a ≡ Taken o after) where
+    (a : WeakStepped) (o : WeakOutcome) (after : WeakRow) (v : a ≡ Ok (o, after)) where
   pub one-stored : (f : WeakRow → WeakRow) → after ≡ f row → (last : List WeakRow) → last ≡ changed f i (rows_of cells)
-      → (answer.Accepted o ≡ answer_of a) × (last ≡ rows_after (rows_of cells) i a)
+      → (Ok o ≡ answer_of a) × (last ≡ rows_after (rows_of cells) i a)
   one-stored f kept last l = rw v (refl, l ∙ one-changed (rows_of cells) i row loaded f f after kept)
 
   -- where the read place stays the cursor alone is stored
   pub cursor-stored : after ≡ with_next after.read after.cursor row → after.read ≡ row.read → (last : List WeakRow)
-      → last ≡ changed (with_cursor after.cursor) i (rows_of cells) → (answer.Accepted o ≡ answer_of a) × (last ≡ rows_after (rows_of cells) i a)
+      → last ≡ changed (with_cursor after.cursor) i (rows_of cells) → (Ok o ≡ answer_of a) × (last ≡ rows_after (rows_of cells) i a)
   cursor-stored kept same = one-stored (with_cursor after.cursor) (kept ∙ ap (λ (n : ℕ). with_next n after.cursor row) same)
 
   pub two-stored : (f g : WeakRow → WeakRow) → after ≡ g (f row) → (mid last : List WeakRow) → mid ≡ changed f i (rows_of cells) → last ≡ changed g i mid
-      → (answer.Accepted o ≡ answer_of a) × (last ≡ rows_after (rows_of cells) i a)
+      → (Ok o ≡ answer_of a) × (last ≡ rows_after (rows_of cells) i a)
   two-stored f g kept mid last m l =
       rw v (refl, rw (l, m) (two-changed (rows_of cells) i row loaded f g after (rw (length-rows cells) h) kept))

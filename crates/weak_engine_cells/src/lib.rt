@@ -68,15 +68,11 @@ pub fn store_fetched(
     requires { (worker.0 < length rows.old) × ((row ≡ get_or (rows_of rows.old) worker.0 idle) × HandAndPointer row stepped) }
     ensures { (result ≡ answer_of stepped) × (rows_of rows.new ≡ rows_after (rows_of rows.old) worker.0 stepped) }
 {
-    match stepped {
-        WeakStepped::Refused(number, detail) => WeakAnswer::Refused(number, detail),
-        WeakStepped::Taken(outcome, after) => {
-            let held = after.held;
-            weak_rows::set_hand(rows, worker, after.phase, held);
-            weak_rows::set_pointer(rows, worker, after.pointer);
-            WeakAnswer::Accepted(outcome)
-        }
-    }
+    let (outcome, after) = stepped?;
+    let held = after.held;
+    weak_rows::set_hand(rows, worker, after.phase, held);
+    weak_rows::set_pointer(rows, worker, after.pointer);
+    Ok(outcome)
 }
 
 // The end of a Start by the worker with this row: accepted, it stores the row's phase.
@@ -89,13 +85,9 @@ pub fn store_started(
     requires { (worker.0 < length rows.old) × ((row ≡ get_or (rows_of rows.old) worker.0 idle) × PhaseAlone row stepped) }
     ensures { (result ≡ answer_of stepped) × (rows_of rows.new ≡ rows_after (rows_of rows.old) worker.0 stepped) }
 {
-    match stepped {
-        WeakStepped::Refused(number, detail) => WeakAnswer::Refused(number, detail),
-        WeakStepped::Taken(outcome, after) => {
-            weak_rows::set_phase(rows, worker, after.phase);
-            WeakAnswer::Accepted(outcome)
-        }
-    }
+    let (outcome, after) = stepped?;
+    weak_rows::set_phase(rows, worker, after.phase);
+    Ok(outcome)
 }
 
 // The end of a Complete by the worker with this row: accepted, it stores the row's hand and write place.
@@ -108,15 +100,11 @@ pub fn store_completed(
     requires { (worker.0 < length rows.old) × ((row ≡ get_or (rows_of rows.old) worker.0 idle) × HandAndWrite row stepped) }
     ensures { (result ≡ answer_of stepped) × (rows_of rows.new ≡ rows_after (rows_of rows.old) worker.0 stepped) }
 {
-    match stepped {
-        WeakStepped::Refused(number, detail) => WeakAnswer::Refused(number, detail),
-        WeakStepped::Taken(outcome, after) => {
-            let held = after.held;
-            weak_rows::set_hand(rows, worker, after.phase, held);
-            weak_rows::set_write(rows, worker, after.write);
-            WeakAnswer::Accepted(outcome)
-        }
-    }
+    let (outcome, after) = stepped?;
+    let held = after.held;
+    weak_rows::set_hand(rows, worker, after.phase, held);
+    weak_rows::set_write(rows, worker, after.write);
+    Ok(outcome)
 }
 
 // The end of a Release by the worker with this row: accepted, it stores the row's cursor, and its read place where
@@ -130,15 +118,11 @@ pub fn store_released(
     requires { (worker.0 < length rows.old) × ((row ≡ get_or (rows_of rows.old) worker.0 idle) × ReadAndCursor row stepped) }
     ensures { (result ≡ answer_of stepped) × (rows_of rows.new ≡ rows_after (rows_of rows.old) worker.0 stepped) }
 {
-    match stepped {
-        WeakStepped::Refused(number, detail) => WeakAnswer::Refused(number, detail),
-        WeakStepped::Taken(outcome, after) => {
-            if after.read == row.read {
-                weak_rows::set_cursor(rows, worker, after.cursor);
-                return WeakAnswer::Accepted(outcome);
-            }
-            weak_rows::set_next(rows, worker, after.read, after.cursor);
-            WeakAnswer::Accepted(outcome)
-        }
+    let (outcome, after) = stepped?;
+    if after.read == row.read {
+        weak_rows::set_cursor(rows, worker, after.cursor);
+        return Ok(outcome);
     }
+    weak_rows::set_next(rows, worker, after.read, after.cursor);
+    Ok(outcome)
 }

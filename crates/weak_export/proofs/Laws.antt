@@ -1,10 +1,10 @@
 -- A reply is what its answer says, beside the memory that the call leaves; the calls are made with the limits that their export stands for.
 use Prim.Native.Nat.{ℕ}
 use mathlib.Core.Path.{◌≡◌, ap}
-use Rattle.task.specs.declared.Answer.{Answer}
+use Rattle.task.specs.Refusals.{Answer}
 use Rattle.task.specs.declared.Limits.{Limits}
 use Rattle.task.specs.declared.Step.{Step}
-use Rattle.weak_task.specs.declared.WeakAnswer.{WeakAnswer}
+use Rattle.weak_task.specs.Says.{WeakAnswer}
 use Rattle.weak_rules.specs.Memory.{Mem}
 use Rattle.weak_rules.specs.Begin.{begin}
 use Rattle.weak_rules.specs.Steps.{step}

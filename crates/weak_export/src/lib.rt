@@ -17,7 +17,7 @@ ghost use Rattle.weak_export.specs.Replies.{replied};
 use replies::Reply;
 use task::{Limits, WorkerId};
 use weak_replies::WeakReply;
-use weak_task::{CopyCell, WeakAnswer, WeakRowCell};
+use weak_task::{CopyCell, WeakRowCell};
 
 #[unsafe(no_mangle)]
 pub extern "C" fn yolluvek_weak_begin(
@@ -122,8 +122,8 @@ pub extern "C" fn yolluvek_weak_fetch(
         k,
         WorkerId(worker),
     );
-    if let WeakAnswer::Refused(number, detail) = answer {
-        return weak_replies::refused(number, detail);
+    if let Err(why) = answer {
+        return weak_replies::refused(why);
     }
     weak_replies::weak_reply_of(answer)
 }
@@ -179,8 +179,8 @@ pub extern "C" fn yolluvek_weak_start(
         k,
         WorkerId(worker),
     );
-    if let WeakAnswer::Refused(number, detail) = answer {
-        return weak_replies::refused(number, detail);
+    if let Err(why) = answer {
+        return weak_replies::refused(why);
     }
     weak_replies::weak_reply_of(answer)
 }
@@ -236,8 +236,8 @@ pub extern "C" fn yolluvek_weak_complete(
         k,
         WorkerId(worker),
     );
-    if let WeakAnswer::Refused(number, detail) = answer {
-        return weak_replies::refused(number, detail);
+    if let Err(why) = answer {
+        return weak_replies::refused(why);
     }
     weak_replies::weak_reply_of(answer)
 }
@@ -293,8 +293,8 @@ pub extern "C" fn yolluvek_weak_release(
         k,
         WorkerId(worker),
     );
-    if let WeakAnswer::Refused(number, detail) = answer {
-        return weak_replies::refused(number, detail);
+    if let Err(why) = answer {
+        return weak_replies::refused(why);
     }
     weak_replies::weak_reply_of(answer)
 }

@@ -7,6 +7,11 @@ use native.Mathlib.Omega.{arith}
 use native.Mathlib.Nat.{mod-lt}
 use borrow.Author.Tests.{lt-ltb, le-ltb, not-true, not-false}
 use lib.ListN.{length, get_or, set}
+use Rattle.std.specs.Prelude.{Some, None, Err, Ok}
+use Rattle.task.specs.Refusals.{Answer}
+use Rattle.task.specs.declared.refusal.Refusal.{Refusal}
+use Rattle.task.specs.declared.refusal.Refusal.TheVariants.{Damaged, NothingThere}
+use Rattle.task.specs.declared.refusal.Damaged as word
 use Rattle.lists.specs.Circles.{after}
 use Rattle.lists.proofs.Places.{place_end}
 use Rattle.task.specs.Types.{engine}
@@ -14,13 +19,11 @@ use Rattle.task.specs.Phases.{leads_to}
 use Rattle.task.specs.declared.Ends.{Ends}
 use Rattle.task.specs.declared.Limits.{Limits}
 use Rattle.task.specs.declared.Step.TheVariants.{Fetch}
-use Rattle.task.specs.declared.TaskId.{TaskId}
 use Rattle.task.specs.declared.WorkerId.{WorkerId}
 use Rattle.weak_task.specs.Types.{Copy, copy, copy_of, idle}
 use Rattle.weak_task.specs.Rows.{with_hand, with_pointer}
 use Rattle.weak_task.specs.declared.TaskCopy.{TaskCopy}
 use Rattle.weak_task.specs.declared.WeakRow.{WeakRow}
-use Rattle.weak_task.specs.declared.WeakAnswer.TheVariants as answer
 use Rattle.weak_task.specs.declared.WeakOutcome.TheVariants.{Fetched}
 use Rattle.ring.specs.Ring.{end_words, Sound, Empty, empty, slot_at, ends_at, store_ends, head_on}
 use Rattle.ring.proofs.Ends.{empty-told}
@@ -29,27 +32,18 @@ use Rattle.memory.specs.Field as list
 use Rattle.memory.specs.Updates.{updated, written}
 use Rattle.memory.proofs.Fields.{set-again}
 use Rattle.plans.proofs.Searches.{Looked, search-looked}
-use Rattle.searches.specs.Searches.{found_of, Reads}
-use Rattle.searches.specs.declared.Found.{Found}
-use Rattle.searches.specs.declared.Found.TheVariants as found
+use Rattle.searches.specs.Searches.{Found, found_of, Reads}
 use Rattle.weak_rules.specs.Memory.{Mem, ring_number, row_in, pointer_in}
 use Rattle.weak_rules.specs.Plans.{result_of}
 use Rattle.weak_rules.specs.Steps.{scan, fetch_copy, fetch_from, fetch_rule, rule_of}
-use Rattle.admission.specs.declared.Judged.{Judged}
-use Rattle.weak_admission.specs.Admission.{sizes_of, Judges, Measured, Admits, Enters}
-use Rattle.weak_admission.specs.Count.{copy_within, count_of}
-use Rattle.weak_admission.specs.declared.Counted.{Counted}
-use Rattle.weak_admission.specs.declared.Counted.TheVariants.{Damaged, At}
-use Rattle.weak_admission.specs.declared.WeakAdmitted.{WeakAdmitted}
-use Rattle.weak_admission.specs.declared.WeakAdmitted.TheVariants as admitted
+use Rattle.weak_admission.specs.Admission.{sizes_of, Judges, Measured, Admits, Enters, WeakAdmitted}
+use Rattle.weak_admission.specs.Count.{Counted, copy_within, count_of}
 use Rattle.weak_admission.specs.declared.WeakSizes.{WeakSizes}
-use Rattle.weak_admission.specs.declared.WeakStepped.TheVariants as stepped
 use Rattle.weak_admission.proofs.Rows.{admission-refused, admission-entered, admission-enters, few-steps, extent-of, counts-are, count-refused, count-accepted, refused-result, rule-refused, rule-accepted}
 use Rattle.weak_fetch.specs.Fetch.{lent, Fetches, HandAndPointer}
-use Rattle.weak_fetch.specs.Plan.{Sized, HeadFound, scan_of, plan_of, Writable, Keeps, PlansFound, PlansFetch}
+use Rattle.weak_fetch.specs.Plan.{CopyPlan, Sized, HeadFound, scan_of, plan_of, Writable, Keeps, PlansFound, PlansFetch}
 use Rattle.weak_fetch.specs.Written.{taken_row, Takeable, WritesFetch}
-use Rattle.weak_fetch.specs.declared.CopyPlan.{CopyPlan}
-use Rattle.weak_fetch.specs.declared.CopyPlan.TheVariants.{Refused, Take}
+use Rattle.weak_fetch.specs.declared.CopyHead.{CopyHead}
 
 -- a memory before the step
 abbrev old : List Copy → List ℕ → List ℕ → Mem → Mem
@@ -66,20 +60,20 @@ module _ (p k i n e : ℕ) (rings : List Copy) (run : List ℕ) (j : WorkerId) (
       ap (fetch_copy p k i (old rings ends run m) j.0)
       (ap (λ (x : Ends). get_or rings (slot_at k (ring_number p i j.0) x.head) (copy 0 0)) (sym hb) ∙ rw (← hq) (sym hc))
 
-  pub found-damaged : not fits ≡ true → PlansFound p k i n e rings run j both (Refused 8 0)
+  pub found-damaged : not fits ≡ true → PlansFound p k i n e rings run j both (Err Damaged)
   unfolding PlansFound fetch_copy
   found-damaged a = ((λ ends m x hb. at_head ends m hb ∙ rw (x.0, sym hf ∙ not-true fits a)), tt)
 
   module _ (a : not fits ≡ false) (found : Counted) (hn : found ≡ count_of n e run) where
-    pub found-counted : found ≡ Damaged → PlansFound p k i n e rings run j both (Refused 8 0)
+    pub found-counted : (d : word.Damaged) → found ≡ Err d → PlansFound p k i n e rings run j both (Err Damaged)
     unfolding PlansFound fetch_copy
-    found-counted v = (
-      (λ ends m x hb. at_head ends m hb ∙ rw (x.0, sym hf ∙ not-false fits a) (count-refused n e (old rings ends run m) x _ _ (sym hn ∙ v))),
+    found-counted d v = (
+      (λ ends m x hb. at_head ends m hb ∙ rw (x.0, sym hf ∙ not-false fits a) (count-refused n e (old rings ends run m) x _ _ d (sym hn ∙ v))),
       tt,
     )
 
-    pub found-takes : (w : ℕ) → found ≡ At w
-        → PlansFound p k i n e rings run j both (Take j both.head both.tail both.count c.task c.predecessor w)
+    pub found-takes : (w : ℕ) → found ≡ Ok w
+        → PlansFound p k i n e rings run j both (Ok (record { filler = j; ends = both; copy = c; accepted = w }))
     unfolding PlansFound fetch_copy
     found-takes w v = (
       (λ ends m x hb. at_head ends m hb ∙ rw (x.0, sym hf ∙ not-false fits a) (count-accepted n e (old rings ends run m) x _ _ w (sym hn ∙ v))),
@@ -88,7 +82,7 @@ module _ (p k i n e : ℕ) (rings : List Copy) (run : List ℕ) (j : WorkerId) (
 
 -- Where the scan stops.
 module _ (p k i pointer : ℕ) (ends : List ℕ) (x : Found) (hx : found_of x ≡ scan_of p k i pointer ends)
-    (reads : Reads (λ j. ends_at ends (ring_number p i j)) x) (j : WorkerId) (both : Ends) (v : x ≡ found.At j both) where
+    (reads : Reads (λ j. ends_at ends (ring_number p i j)) x) (j : WorkerId) (both : Ends) (v : x ≡ Ok (Some (j, both))) where
   found_at : scan_of p k i pointer ends ≡ rules.at j.0
   found_at = sym hx ∙ ap found_of v
 
@@ -113,7 +107,7 @@ goes_on p k i pointer rings ends run h f hf m q = rw (hf, q, lt-ltb pointer p h)
 
 -- The whole rule, with the pointer of worker i.
 module _ (p k i n e pointer : ℕ) (rings : List Copy) (ends run : List ℕ) where
-  pub pointer-damaged : p ≤ pointer → PlansFetch p k i n e pointer rings ends run (Refused 8 0)
+  pub pointer-damaged : p ≤ pointer → PlansFetch p k i n e pointer rings ends run (Err Damaged)
   unfolding PlansFetch fetch_rule
   pointer-damaged h = ((λ m x q. rw (q, le-ltb pointer p h)), tt)
 
@@ -122,15 +116,15 @@ module _ (p k i n e pointer : ℕ) (rings : List Copy) (ends run : List ℕ) whe
         → fetch_rule p k i (old rings ends run m) ≡ fetch_from p k i (old rings ends run m) (found_of y)
     follows y v m q = rw (← v) (goes_on p k i pointer rings ends run h (found_of x) hx m q)
 
-    pub scan-unsound : x ≡ found.Unsound → PlansFetch p k i n e pointer rings ends run (Refused 8 0)
+    pub scan-unsound : (d : word.Damaged) → x ≡ Err d → PlansFetch p k i n e pointer rings ends run (Err Damaged)
     unfolding PlansFetch fetch_from
-    scan-unsound v = ((λ m y q. follows found.Unsound v m q), tt)
+    scan-unsound d v = ((λ m y q. follows (Err d) v m q), tt)
 
-    pub scan-none : x ≡ found.None → PlansFetch p k i n e pointer rings ends run (Refused 10 0)
+    pub scan-none : x ≡ Ok None → PlansFetch p k i n e pointer rings ends run (Err NothingThere)
     unfolding PlansFetch fetch_from
-    scan-none v = ((λ m y q. follows found.None v m q), tt)
+    scan-none v = ((λ m y q. follows (Ok None) v m q), tt)
 
-    module _ (reads : Reads (λ j. ends_at ends (ring_number p i j)) x) (j : WorkerId) (both : Ends) (v : x ≡ found.At j both) where
+    module _ (reads : Reads (λ j. ends_at ends (ring_number p i j)) x) (j : WorkerId) (both : Ends) (v : x ≡ Ok (Some (j, both))) where
       stops : (j.0 < p) × (Sound k both × ¬ (Empty both))
       stops = scan-stops p k i pointer ends x hx reads j both v h
 
@@ -151,13 +145,13 @@ module _ (p k i n e pointer : ℕ) (rings : List Copy) (ends run : List ℕ) whe
       }
 
       writable : (r : CopyPlan) → Keeps n e run j both r → Writable p k i n e ends run r
-      writable (Refused number detail) kept = tt
-      writable (Take j' head tail count task predecessor accepted) (a, (b, d)) =
+      writable (Err why) kept = tt
+      writable (Ok head) (a, (b, d)) =
           rw (a, b) (record { filler = stops.0; reads = ends-are; sound = stops.1.0; waits = stops.1.1; counts = d })
 
       pub scan-takes : (r : CopyPlan) → PlansFound p k i n e rings run j both r → PlansFetch p k i n e pointer rings ends run r
       unfolding PlansFound PlansFetch
-      scan-takes r plans = ((λ m y q. follows (found.At j both) v m q ∙ plans.0 ends m y ends-are), writable r plans.1)
+      scan-takes r plans = ((λ m y q. follows (Ok (Some (j, both))) v m q ∙ plans.0 ends m y ends-are), writable r plans.1)
 
 -- what is needed to read the head of ring q
 pub head-ready : (p k i n e : ℕ) (rings : List (List ℕ)) (run : List ℕ) (j : ℕ) (both : Ends) → HeadFound p k i n e rings run j both
@@ -205,11 +199,10 @@ module _ (p k i : ℕ) (sizes : WeakSizes) (f : Measured p k i sizes) (cells : L
   -- a plan that takes can be written
   pub row-takeable : (pointer : ℕ) (rings : List Copy) (plan : CopyPlan)
       → PlansFetch p k i sizes.weights sizes.preds pointer rings ends run plan
-      → (j : WorkerId) (head tail count : ℕ) (task predecessor : TaskId) (accepted : ℕ) → plan ≡ Take j head tail count task predecessor accepted
-      → Takeable p k i ends run j.0 (record { head = head; tail = tail; count = count }) accepted
+      → (head : CopyHead) → plan ≡ Ok head → Takeable p k i ends run head.filler.0 head.ends head.accepted
   unfolding PlansFetch
-  row-takeable pointer rings plan plans j head tail count task predecessor accepted v =
-      let x : Writable p k i sizes.weights sizes.preds ends run (Take j head tail count task predecessor accepted) = (rw v at plans).1 in
+  row-takeable pointer rings plan plans head v =
+      let x : Writable p k i sizes.weights sizes.preds ends run (Ok head) = (rw v at plans).1 in
       record {
         few_workers = f.few_workers;
         few_slots = f.few_slots;
@@ -220,26 +213,26 @@ module _ (p k i : ℕ) (sizes : WeakSizes) (f : Measured p k i sizes) (cells : L
         reads = x.reads;
         sound = x.sound;
         waits = x.waits;
-        accepted_word = (counts-are sizes.weights sizes.preds run accepted x.counts).0;
-        few = omega (arith, few-steps sizes.weights sizes.preds run f.few_tasks f.few_edges accepted x.counts);
+        accepted_word = (counts-are sizes.weights sizes.preds run head.accepted x.counts).0;
+        few = omega (arith, few-steps sizes.weights sizes.preds run f.few_tasks f.few_edges head.accepted x.counts);
       }
 
 -- an accepted Fetch leaves the row's other words
-pub hand-and-pointer : (row : WeakRow) (judged : Judged) (x : WeakAdmitted) → Admits row Fetch judged x → (after : WeakRow) → x ≡ admitted.To after
-    → (p j : ℕ) (held : TaskCopy) (left : WeakRow) → left ≡ taken_row p j held after → HandAndPointer row (stepped.Taken (Fetched held) left)
+pub hand-and-pointer : (row : WeakRow) (judged : Answer) (x : WeakAdmitted) → Admits row Fetch judged x → (after : WeakRow) → x ≡ Ok after
+    → (p j : ℕ) (held : TaskCopy) (left : WeakRow) → left ≡ taken_row p j held after → HandAndPointer row (Ok (Fetched held, left))
 hand-and-pointer row judged x told after v p j held left o = rw (o, (admission-entered row Fetch judged x told after v).1) refl
 
 -- The step by value: its admission, its plan and its writes, then the result.
-module _ (p k i : ℕ) (sizes : WeakSizes) (judged : Judged) (row : WeakRow) (rings : List Copy) (ends run : List ℕ) (x : WeakAdmitted)
+module _ (p k i : ℕ) (sizes : WeakSizes) (judged : Answer) (row : WeakRow) (rings : List Copy) (ends run : List ℕ) (x : WeakAdmitted)
     (told : Admits row Fetch judged x) where
-  pub row-refused : (number detail : ℕ) → x ≡ admitted.Refused number detail
-      → Fetches p k i sizes judged row rings ends ends run run (stepped.Refused number detail)
+  pub row-refused : (why : Refusal) → x ≡ Err why
+      → Fetches p k i sizes judged row rings ends ends run run (Err why)
   unfolding Fetches
-  row-refused number detail v limits m judges e h =
-      refused-result limits p k i Fetch (old rings ends run m) number detail
-      (admission-refused p k i sizes row Fetch limits (old rings ends run m) e h judged judges x told number detail v)
+  row-refused why v limits m judges e h =
+      refused-result limits p k i Fetch (old rings ends run m) why
+      (admission-refused p k i sizes row Fetch limits (old rings ends run m) e h judged judges x told why v)
 
-  module _ (after : WeakRow) (v : x ≡ admitted.To after) (plan : CopyPlan)
+  module _ (after : WeakRow) (v : x ≡ Ok after) (plan : CopyPlan)
       (plans : PlansFetch p k i sizes.weights sizes.preds after.pointer.0 rings ends run plan) where
     module _ (limits : Limits) (m : Mem) (judges : Judges limits p k i sizes judged) (e : sizes_of (old rings ends run m) ≡ sizes) (h : row_in m i ≡ row) where
       enters : Enters limits p k i Fetch (old rings ends run m) after
@@ -251,20 +244,19 @@ module _ (p k i : ℕ) (sizes : WeakSizes) (judged : Judged) (row : WeakRow) (ri
       rule-is q w =
           rw (← w) (plans.0 m (extent-of sizes (old rings ends run m) e) (sym (ap (λ (r : WeakRow). r.pointer.0) enters.leads)))
 
-    pub rule-refuses : (number detail : ℕ) → plan ≡ Refused number detail
-        → Fetches p k i sizes judged row rings ends ends run run (stepped.Refused number detail)
+    pub rule-refuses : (why : Refusal) → plan ≡ Err why
+        → Fetches p k i sizes judged row rings ends ends run run (Err why)
     unfolding Fetches rule_of
-    rule-refuses number detail w limits m judges e h =
-        rule-refused limits p k i Fetch (old rings ends run m) after (enters limits m judges e h) number detail
-        (rule-is limits m judges e h (Refused number detail) w)
+    rule-refuses why w limits m judges e h =
+        rule-refused limits p k i Fetch (old rings ends run m) after (enters limits m judges e h) why
+        (rule-is limits m judges e h (Err why) w)
 
-    pub fetch-made : (j : WorkerId) (head tail count : ℕ) (task predecessor : TaskId) (accepted : ℕ)
-        → plan ≡ Take j head tail count task predecessor accepted
-        → (ends' run' : List ℕ) (left : WeakRow) → WritesFetch p k i after j.0 (copy task.0 predecessor.0) ends ends' run run' left
-        → Fetches p k i sizes judged row rings ends ends' run run' (stepped.Taken (Fetched (record { task = task; predecessor = predecessor })) left)
+    pub fetch-made : (head : CopyHead) → plan ≡ Ok head
+        → (ends' run' : List ℕ) (left : WeakRow) → WritesFetch p k i after head.filler.0 (copy_of head.copy) ends ends' run run' left
+        → Fetches p k i sizes judged row rings ends ends' run run' (Ok (Fetched head.copy, left))
     unfolding Fetches rule_of WritesFetch
-    fetch-made j head tail count task predecessor accepted w ends' run' left writes limits m judges e h =
-        ap (result_of (answer.Accepted (Fetched (record { task = task; predecessor = predecessor }))))
+    fetch-made head w ends' run' left writes limits m judges e h =
+        ap (result_of (Ok (Fetched head.copy)))
         (writes (old rings ends run m) (enters limits m judges e h).leads)
         ∙ rule-accepted limits p k i Fetch (old rings ends run m) after (enters limits m judges e h)
-        (Fetched (record { task = task; predecessor = predecessor })) _ (rule-is limits m judges e h (Take j head tail count task predecessor accepted) w)
+        (Fetched head.copy) _ (rule-is limits m judges e h (Ok head) w)

@@ -1,12 +1,13 @@
 -- What is read and checked before a Fetch of a weak job writes: the lists as the rule finds them, in its stages.
-use Rattle.std.specs.Prelude.{ℕ, ◌≤◌, ◌<◌, ◌≡◌, not, List, [], ◌∷◌, length}
+use Rattle.std.specs.Prelude.{ℕ, ◌≤◌, ◌<◌, ◌≡◌, not, List, [], ◌∷◌, length, Result, Ok, Err}
 use Rattle.lists.specs.Circles.{after, around}
 use Rattle.task.specs.Types.{engine}
 use Rattle.task.specs.Phases.{leads_to}
+use Rattle.task.specs.declared.refusal.Refusal.{Refusal}
 use Rattle.task.specs.declared.Ends.{Ends}
 use Rattle.task.specs.declared.Step.TheVariants as step-name
 use Rattle.task.specs.declared.WorkerId.{WorkerId}
-use Rattle.weak_task.specs.Types.{Copy, copy}
+use Rattle.weak_task.specs.Types.{Copy, copy_of}
 use Rattle.weak_task.specs.declared.WeakOutcome.TheVariants.{Fetched}
 use Rattle.ring.specs.Ring.{Sound, Empty, sound, empty, ends_at, head_on}
 use Rattle.choice.specs.Search.{Found, at, search}
@@ -17,10 +18,8 @@ use Rattle.weak_rules.specs.Updates.{Update, put_ends, put_hand, put_pointer}
 use Rattle.weak_rules.specs.Plans.{Plan, refuse, accept, with_count}
 use Rattle.weak_rules.specs.Steps.{fetch_from, fetch_rule}
 use Rattle.weak_admission.specs.Count.{count_of}
-use Rattle.weak_admission.specs.declared.Counted.TheVariants.{At}
 use Rattle.weak_fetch.specs.Fetch.{lent, Extent}
-use Rattle.weak_fetch.specs.declared.CopyPlan.{CopyPlan}
-use Rattle.weak_fetch.specs.declared.CopyPlan.TheVariants.{Refused, Take}
+use Rattle.weak_fetch.specs.declared.CopyHead.{CopyHead}
 
 -- the lists that are read, of their lengths, and the numbers within the engine's limits, for n tasks and e edges
 pub record Sized (p k i n e : ℕ) (rings : List (List ℕ)) (ends run : List ℕ) : Type 0 where
@@ -44,6 +43,10 @@ pub record HeadFound (p k i n e : ℕ) (rings : List (List ℕ)) (run : List ℕ
   pub all_words : length run ≡ fixed_length weak p k list.run
   pub sound : Sound k both
 
+-- the head that is fetched, or why none is
+abbrev pub CopyPlan : Type 0
+CopyPlan = Result CopyHead Refusal
+
 -- what a scan of owner i's rings finds
 abbrev pub scan_of : ℕ → ℕ → ℕ → ℕ → List ℕ → Found
 scan_of p k i pointer ends =
@@ -56,10 +59,8 @@ take_updates p k i j c m =
 
 -- a plan as the rules have it, for worker i
 abbrev pub plan_of : ℕ → ℕ → ℕ → Mem → CopyPlan → Plan
-plan_of p k i m (Refused number detail) = refuse number detail
-plan_of p k i m (Take j head tail count task predecessor accepted) =
-    accept (Fetched (record { task = task; predecessor = predecessor }))
-    (with_count m (take_updates p k i j.0 (copy task.0 predecessor.0) m))
+plan_of p k i m (Err why) = refuse why
+plan_of p k i m (Ok head) = accept (Fetched head.copy) (with_count m (take_updates p k i head.filler.0 (copy_of head.copy) m))
 
 -- what lets the plan be written: these are the ring's ends, and R and the accepted word are in their ranges
 pub record Takes (p k i n e : ℕ) (ends run : List ℕ) (j : ℕ) (both : Ends) (accepted : ℕ) : Type 0 where
@@ -67,18 +68,16 @@ pub record Takes (p k i n e : ℕ) (ends run : List ℕ) (j : ℕ) (both : Ends)
   pub reads : both ≡ ends_at ends (ring_number p i j)
   pub sound : Sound k both
   pub waits : ¬ (Empty both)
-  pub counts : count_of n e run ≡ At accepted
+  pub counts : count_of n e run ≡ Ok accepted
 
 abbrev pub Writable : ℕ → ℕ → ℕ → ℕ → ℕ → List ℕ → List ℕ → CopyPlan → Type 0
-Writable p k i n e ends run (Refused number detail) = Unit {0}
-Writable p k i n e ends run (Take j head tail count task predecessor accepted) =
-    Takes p k i n e ends run j.0 (record { head = head; tail = tail; count = count }) accepted
+Writable p k i n e ends run (Err why) = Unit {0}
+Writable p k i n e ends run (Ok head) = Takes p k i n e ends run head.filler.0 head.ends head.accepted
 
 -- what a plan made of the ring filled by j, with these ends, has of them, and of the accepted word
 abbrev pub Keeps : ℕ → ℕ → List ℕ → WorkerId → Ends → CopyPlan → Type 0
-Keeps n e run j both (Refused number detail) = Unit {0}
-Keeps n e run j both (Take j' head tail count task predecessor accepted) =
-    (j' ≡ j) × ((record { head = head; tail = tail; count = count } ≡ both) × (count_of n e run ≡ At accepted))
+Keeps n e run j both (Err why) = Unit {0}
+Keeps n e run j both (Ok head) = (head.filler ≡ j) × ((head.ends ≡ both) × (count_of n e run ≡ Ok head.accepted))
 
 -- the plan is the rule's once a scan has stopped there
 unfoldable pub PlansFound : ℕ → ℕ → ℕ → ℕ → ℕ → List Copy → List ℕ → WorkerId → Ends → CopyPlan → Type 0

@@ -10,19 +10,21 @@ ghost use Rattle.weak_fetch.specs.Fetch.{Fetches, HandAndPointer};
 ghost use Rattle.weak_fetch.specs.Plan.{Sized, HeadFound, PlansFound, PlansFetch};
 ghost use Rattle.weak_fetch.specs.Written.{taken_row, Takeable, WritesFetch};
 
-use admission::Judged;
-use searches::Found;
-use task::{Ends, Step, TaskId, WorkerId, refusal};
-use weak_admission::{Counted, WeakAdmitted, WeakSizes, WeakStepped};
+use task::{Answer, Ends, Refusal, Step, WorkerId};
+use weak_admission::{WeakSizes, WeakStepped};
 use weak_task::{CopyCell, TaskCopy, WeakOutcome, WeakRow};
 
-// What Fetch is to do: refused, or the head of this filler's ring is taken. With the ring's ends (head, tail, count), the copy's words and
-// the accepted word, as read.
+// The head that is fetched: the filler of its ring, the ring's ends, the copy there and the accepted word, each as read.
 #[derive(Clone, Copy)]
-pub enum CopyPlan {
-    Refused(u32, u32),
-    Take(WorkerId, u32, u32, u32, TaskId, TaskId, u32),
+pub struct CopyHead {
+    pub filler: WorkerId,
+    pub ends: Ends,
+    pub copy: TaskCopy,
+    pub accepted: u32,
 }
+
+// What Fetch is to do: take the head of a ring; or it is refused.
+pub type CopyPlan = Result<CopyHead, Refusal>;
 
 // Once a ring that isn't empty is found, by its filler and ends: the copy at its head, then R and the accepted word.
 pub fn plan_found(
@@ -42,23 +44,15 @@ pub fn plan_found(
     let ring = searches::ring_number(p, worker, filler);
     let copy = weak_rows::head_copy(rings, k, ring, ends);
     if !weak_admission::copy_fits(copy, tasks) {
-        return CopyPlan::Refused(refusal::DAMAGED, 0);
+        return Err(Refusal::Damaged);
     }
-    let counted = weak_admission::count_of(run, tasks, edges);
-    let Counted::At(accepted) = counted else {
-        return CopyPlan::Refused(refusal::DAMAGED, 0);
-    };
-    let task = copy.task;
-    let predecessor = copy.predecessor;
-    CopyPlan::Take(
+    let accepted = weak_admission::count_of(run, tasks, edges)?;
+    Ok(CopyHead {
         filler,
-        ends.head,
-        ends.tail,
-        ends.count,
-        task,
-        predecessor,
+        ends,
+        copy,
         accepted,
-    )
+    })
 }
 
 // The pointer, the scan from there, and the head of the ring where it stops.
@@ -78,16 +72,12 @@ pub fn plan_fetch(
         run.now result }
 {
     if p <= pointer.0 as usize {
-        return CopyPlan::Refused(refusal::DAMAGED, 0);
+        return Err(Refusal::Damaged);
     }
-    let found = searches::find_task(ends, p, k, worker, pointer);
-    match found {
-        Found::Unsound => CopyPlan::Refused(refusal::DAMAGED, 0),
-        Found::None => CopyPlan::Refused(refusal::NOTHING_THERE, 0),
-        Found::At(filler, both) => {
-            plan_found(rings, run, p, k, worker, tasks, edges, filler, both)
-        }
-    }
+    let Some((filler, both)) = searches::find_task(ends, p, k, worker, pointer)? else {
+        return Err(Refusal::NothingThere);
+    };
+    plan_found(rings, run, p, k, worker, tasks, edges, filler, both)
 }
 
 // What is written, by the words as read: the head of the filler's ring is taken, one step more is accepted; the row holds the copy, and its
@@ -99,33 +89,29 @@ pub fn write_fetch(
     k: usize,
     worker: WorkerId,
     row: WeakRow,
-    filler: WorkerId,
-    both: Ends,
-    copy: TaskCopy,
-    accepted: u32,
+    head: CopyHead,
 ) -> WeakRow
-    requires { Takeable p k worker.0 ends.old run.old filler.0 both accepted }
-    ensures writes_fetch { WritesFetch p k worker.0 row filler.0 (copy_of copy) ends.old ends.new run.old
+    requires { Takeable p k worker.0 ends.old run.old head.filler.0 head.ends head.accepted }
+    ensures writes_fetch { WritesFetch p k worker.0 row head.filler.0 (copy_of head.copy) ends.old ends.new run.old
         run.new result }
-    ensures value { result ≡ taken_row p filler.0 copy row }
+    ensures value { result ≡ taken_row p head.filler.0 head.copy row }
 {
-    ring::take_at(ends, k, searches::ring_number(p, worker, filler), both);
-    run[1] = accepted + 1;
-    let pointer = searches::after_worker(p, filler);
+    let ring = searches::ring_number(p, worker, head.filler);
+    ring::take_at(ends, k, ring, head.ends);
+    run[1] = head.accepted + 1;
+    let pointer = searches::after_worker(p, head.filler);
+    let held = head.copy;
     WeakRow {
-        phase: row.phase,
-        held: copy,
+        held,
         pointer,
-        read: row.read,
-        write: row.write,
-        cursor: row.cursor,
+        ..row
     }
 }
 
 // Fetch by a worker with this row, after what was judged; `sizes` are the lengths of all lent lists.
 pub fn fetch_row(
     sizes: WeakSizes,
-    judged: Judged,
+    judged: Answer,
     p: usize,
     k: usize,
     worker: WorkerId,
@@ -140,13 +126,9 @@ pub fn fetch_row(
         run.old run.new result }
     ensures hand_and_pointer { HandAndPointer row result }
 {
-    let admitted = weak_admission::admit(judged, row, Step::Fetch);
-    let after = match admitted {
-        WeakAdmitted::Refused(number, detail) => return WeakStepped::Refused(number, detail),
-        WeakAdmitted::To(after) => after,
-    };
+    let after = weak_admission::admit(judged, row, Step::Fetch)?;
     let pointer = after.pointer;
-    let plan = plan_fetch(
+    let head = plan_fetch(
         rings,
         ends,
         run,
@@ -156,14 +138,7 @@ pub fn fetch_row(
         sizes.weights,
         sizes.preds,
         pointer,
-    );
-    match plan {
-        CopyPlan::Refused(number, detail) => WeakStepped::Refused(number, detail),
-        CopyPlan::Take(filler, head, tail, count, task, predecessor, accepted) => {
-            let both = Ends { head, tail, count };
-            let copy = TaskCopy { task, predecessor };
-            let left = write_fetch(ends, run, p, k, worker, after, filler, both, copy, accepted);
-            WeakStepped::Taken(WeakOutcome::Fetched(copy), left)
-        }
-    }
+    )?;
+    let left = write_fetch(ends, run, p, k, worker, after, head);
+    Ok((WeakOutcome::Fetched(head.copy), left))
 }

@@ -8,13 +8,16 @@ use lib.ListN.{length, get_or}
 use lib.Dec.{eqb, ltb}
 use lib.IntN.{ℤ}
 use borrow.Author.Tests.{ltb-true, eq-eqb, ne_eqb, le-leb, lt-leb, lt-ltb, le-ltb, not-true, not-false}
+use Rattle.std.specs.Prelude.{Ok, Err}
+use Rattle.task.specs.declared.refusal.Refusal.{Refusal}
+use Rattle.task.specs.declared.refusal.Refusal.TheVariants.{Damaged, RingsFull}
+use Rattle.task.specs.declared.refusal.Damaged as broken
 use Rattle.lists.proofs.Told.{Told, told-true, told-false}
 use Rattle.lists.proofs.Apart.{true-and-false, unequal}
 use Rattle.lists.proofs.Places.{place-lt}
 use Rattle.lists.specs.Lists.{all_of}
 use Rattle.lists.specs.Circles.{around}
 use Rattle.task.specs.Types.{engine}
-use Rattle.task.specs.Refusals.{damaged}
 use Rattle.task.specs.declared.Ends.{Ends}
 use Rattle.task.specs.declared.TaskId.{TaskId}
 use Rattle.task.specs.declared.WorkerId.{WorkerId}
@@ -32,51 +35,43 @@ use Rattle.weak_rules.specs.Memory.{Mem, edges, ring_number, successor, fixed_in
 use Rattle.weak_rules.specs.Words.{counters_fit, weight_fits, fixed_fits}
 use Rattle.weak_rules.specs.Plans.{Plan, refuse, accept, refuse_if, checked, with_count}
 use Rattle.weak_rules.specs.Steps.{find_room, release_to, release_first, release_later, release_rule}
-use Rattle.weak_admission.specs.Count.{count_of}
-use Rattle.weak_admission.specs.declared.Counted.{Counted}
-use Rattle.weak_admission.specs.declared.Counted.TheVariants as counted
+use Rattle.weak_admission.specs.Count.{Counted, count_of}
 use Rattle.weak_admission.proofs.Rows.{count-refused, count-accepted}
-use Rattle.release_plan.specs.Reach.{Successor, successor_of, reach_of}
-use Rattle.release_plan.specs.Owners.{room_from, owner_of, Owned}
-use Rattle.release_plan.specs.declared.Reached.{Reached}
-use Rattle.release_plan.specs.declared.Reached.TheVariants as reach
-use Rattle.release_plan.specs.declared.Owner.{Owner}
-use Rattle.release_plan.specs.declared.Owner.TheVariants as owner
+use Rattle.release_plan.specs.Reach as reach
+use Rattle.release_plan.specs.Reach.{Reached, Successor, successor_of, reach_of}
+use Rattle.release_plan.specs.Owners as owner
+use Rattle.release_plan.specs.Owners.{Owner, room_from, owner_of, Owned}
 use Rattle.release_plan.proofs.Reach.{Reaches, reach-known, reach_in, planned, planned-refused, planned-at, reach-plan}
 use Rattle.release_plan.proofs.Owners.{room-refused, room_at}
-use Rattle.weak_release.specs.Plan.{release_by, fixed_of, Shows, Next, CursorAt, Picks, PicksCopy, first_updates, later_updates, join_first, Counts, Ended, Stands, KeepsFirst, PlansFirst, Joins, KeepsLater, PlansLater, Writable, Copied, Sized, Reads, PlansRelease}
-use Rattle.weak_release.specs.declared.CopyPick.{CopyPick}
-use Rattle.weak_release.specs.declared.CopyPick.TheVariants as pick
-use Rattle.weak_release.specs.declared.WeakPlan.{WeakPlan}
-use Rattle.weak_release.specs.declared.WeakPlan.TheVariants.{Refused, First, Later}
+use Rattle.weak_release.specs.Plan.{CopyPick, PickFirst, PickLater, WeakPlan, First, Later, release_by, fixed_of, Shows, Next, CursorAt, Picks, PicksCopy, first_updates, later_updates, join_first, Counts, Ended, Stands, KeepsFirst, PlansFirst, Joins, KeepsLater, PlansLater, Writable, Copied, Sized, Reads, PlansRelease}
 
 -- tests that pass and tests that don't
 passes : (b : Bool) (rest : Plan) → b ≡ true → checked b rest ≡ rest
 passes b rest e = rw e
 
-fails : (b : Bool) (rest : Plan) → b ≡ false → checked b rest ≡ refuse damaged 0
+fails : (b : Bool) (rest : Plan) → b ≡ false → checked b rest ≡ refuse Damaged
 fails b rest e = rw e
 
-refuses : (b : Bool) (n d : ℕ) (rest : Plan) → b ≡ true → refuse_if b n d rest ≡ refuse n d
-refuses b n d rest e = rw e
+refuses : (b : Bool) (why : Refusal) (rest : Plan) → b ≡ true → refuse_if b why rest ≡ refuse why
+refuses b why rest e = rw e
 
-lets : (b : Bool) (n d : ℕ) (rest : Plan) → b ≡ false → refuse_if b n d rest ≡ rest
-lets b n d rest e = rw e
+lets : (b : Bool) (why : Refusal) (rest : Plan) → b ≡ false → refuse_if b why rest ≡ rest
+lets b why rest e = rw e
 
 -- The worker that the successor is fixed to.
 module _ (p : ℕ) (fixed : List ℕ) (t done : TaskId) (count : ℕ) where
   abbrev word : ℕ
   word = get_or fixed t.0 0
 
-  pub fixed-damaged : p ≤ word → ¬ (word ≡ 65535) → pick.Refused 8 0 ≡ fixed_of p fixed t done count
+  pub fixed-damaged : p ≤ word → ¬ (word ≡ 65535) → Err Damaged ≡ fixed_of p fixed t done count
   unfolding fixed_of
   fixed-damaged l n = rw (ne_eqb word 65535 n, le-ltb word p l) refl
 
-  pub fixed-first : word ≡ 65535 → pick.First t done count ≡ fixed_of p fixed t done count
+  pub fixed-first : word ≡ 65535 → PickFirst t done count ≡ fixed_of p fixed t done count
   unfolding fixed_of
   fixed-first e = rw (eq-eqb word 65535 e) refl
 
-  pub fixed_later : p ≤ engine.workers → word < p → pick.Later t done count (record { 0 = word }) ≡ fixed_of p fixed t done count
+  pub fixed_later : p ≤ engine.workers → word < p → PickLater t done count (record { 0 = word }) ≡ fixed_of p fixed t done count
   unfolding fixed_of
   fixed_later few l =
       let other : ¬ (word ≡ 65535) = λ e. omega (arith, e, few, l) in
@@ -105,8 +100,8 @@ module _ (p i : ℕ) (r : WeakRow) (ss s f b : List ℕ) where
       lengths = rw v.succs v.edges
 
   module _ (z : Reached) (hz : z ≡ reached) where
-    pub pick-none : (n d : ℕ) → z ≡ reach.Refused n d → PicksCopy p i r ss s f b (pick.Refused n d)
-    pick-none n d e first k m v = by-lists first k m v ∙ planned-refused reached _ n d (sym hz ∙ e)
+    pub pick-none : (why : Refusal) → z ≡ Err why → PicksCopy p i r ss s f b (Err why)
+    pick-none why e first k m v = by-lists first k m v ∙ planned-refused reached _ why (sym hz ∙ e)
 
     module _ (y : Successor) (e : z ≡ reach.At y.task y.completed y.count) where
       abbrev worker : ℕ
@@ -140,8 +135,8 @@ module _ (p i : ℕ) (r : WeakRow) (ss s f b : List ℕ) where
         where
           go : (a c : Bool) → eqb worker 65535 ≡ a → ltb worker p ≡ c
               → PicksCopy p i r ss s f b
-              (cond a (pick.First y.task y.completed y.count)
-              (cond c (pick.Later y.task y.completed y.count (record { 0 = worker })) (pick.Refused damaged 0)))
+              (cond a (PickFirst y.task y.completed y.count)
+              (cond c (PickLater y.task y.completed y.count (record { 0 = worker })) (Err Damaged)))
           go true c h l = record { at = cursor-at; next = next; follows = λ first k m v. goes first k m v ∙ rw h refl }
           go false true h l = (
             record { at = cursor-at; next = next; follows = λ first k m v. goes first k m v ∙ rw (h, l) refl },
@@ -166,7 +161,7 @@ module _ (e : ℕ) (t done : TaskId) (count : ℕ) (o : WorkerId) (both : Ends) 
   abbrev weight : ℕ
   weight = get_or weights t.0 0
 
-  pub first-heavy : 65535 < weight → PlansFirst e t done count o both weights run (Refused 8 0)
+  pub first-heavy : 65535 < weight → PlansFirst e t done count o both weights run (Err Damaged)
   unfolding PlansFirst join_first
   first-heavy h = ((λ p k i m s g. fails (weight_fits m (successor m i)) _ (rw (s.next.task, g) (lt-leb weight 65535 h))), tt)
 
@@ -175,16 +170,16 @@ module _ (e : ℕ) (t done : TaskId) (count : ℕ) (o : WorkerId) (both : Ends) 
         → weight_fits m (successor m i) ≡ true
     fits i m s g = rw (s.next.task, g) (le-leb weight 65535 light)
 
-    pub first-damaged : c ≡ counted.Damaged → PlansFirst e t done count o both weights run (Refused 8 0)
+    pub first-damaged : (d : broken.Damaged) → c ≡ Err d → PlansFirst e t done count o both weights run (Err Damaged)
     unfolding PlansFirst join_first
-    first-damaged v = (
+    first-damaged d v = (
       (λ p k i m s g. passes _ _ (fits i m s g)
-          ∙ count-refused (length weights) e m (s.tasks, s.edges) _ _ (rw s.words (sym hc ∙ v))),
+          ∙ count-refused (length weights) e m (s.tasks, s.edges) _ _ d (rw s.words (sym hc ∙ v))),
       tt,
     )
 
-    pub first-planned : (a : ℕ) → c ≡ counted.At a
-        → PlansFirst e t done count o both weights run (First t done count o both.head both.tail both.count weight a)
+    pub first-planned : (a : ℕ) → c ≡ Ok a
+        → PlansFirst e t done count o both weights run (First t done count o both weight a)
     unfolding PlansFirst join_first
     first-planned a v = (
       (λ p k i m s g. passes _ _ (fits i m s g)
@@ -202,7 +197,7 @@ module _ (p k i n e : ℕ) (t done : TaskId) (count : ℕ) (o : WorkerId) (l : o
   ends-are : (m : Mem) → m.ends ≡ ends → ends_at m.ends (ring_number p o.0 i) ≡ both
   ends-are m g = rw g (sym reads)
 
-  pub later-unsound : not s ≡ true → PlansLater p k i n e t done count o ends run (Refused 8 0)
+  pub later-unsound : not s ≡ true → PlansLater p k i n e t done count o ends run (Err Damaged)
   unfolding PlansLater release_later
   later-unsound f = ((λ m st g. fails _ _ (ap (sound k) (ends-are m g) ∙ sym hs ∙ not-true s f)), tt)
 
@@ -210,10 +205,10 @@ module _ (p k i n e : ℕ) (t done : TaskId) (count : ℕ) (o : WorkerId) (l : o
     there : (m : Mem) → m.ends ≡ ends → sound k (ends_at m.ends (ring_number p o.0 i)) ≡ true
     there m g = ap (sound k) (ends-are m g) ∙ sym hs ∙ not-false s f
 
-    pub later-full : u ≡ true → PlansLater p k i n e t done count o ends run (Refused 11 t.0)
+    pub later-full : u ≡ true → PlansLater p k i n e t done count o ends run (Err (RingsFull t.0))
     unfolding PlansLater release_later
     later-full v = (
-      (λ m st g. passes _ _ (there m g) ∙ refuses _ _ _ _ (ap (full k) (ends-are m g) ∙ sym hu ∙ v) ∙ rw st.next.task refl),
+      (λ m st g. passes _ _ (there m g) ∙ refuses _ _ _ (ap (full k) (ends-are m g) ∙ sym hu ∙ v) ∙ rw st.next.task refl),
       tt,
     )
 
@@ -221,11 +216,11 @@ module _ (p k i n e : ℕ) (t done : TaskId) (count : ℕ) (o : WorkerId) (l : o
       free : (m : Mem) → m.ends ≡ ends → full k (ends_at m.ends (ring_number p o.0 i)) ≡ false
       free m g = ap (full k) (ends-are m g) ∙ sym hu ∙ v
 
-      pub later-damaged : c ≡ counted.Damaged → PlansLater p k i n e t done count o ends run (Refused 8 0)
+      pub later-damaged : (d : broken.Damaged) → c ≡ Err d → PlansLater p k i n e t done count o ends run (Err Damaged)
       unfolding PlansLater release_later
-      later-damaged w = (
-        (λ m st g. passes _ _ (there m g) ∙ lets _ _ _ _ (free m g)
-            ∙ count-refused n e m (st.tasks, st.edges) _ _ (rw st.words (sym hc ∙ w))),
+      later-damaged d w = (
+        (λ m st g. passes _ _ (there m g) ∙ lets _ _ _ (free m g)
+            ∙ count-refused n e m (st.tasks, st.edges) _ _ d (rw st.words (sym hc ∙ w))),
         tt,
       )
 
@@ -243,11 +238,11 @@ module _ (p k i n e : ℕ) (t done : TaskId) (count : ℕ) (o : WorkerId) (l : o
           go (told-true h y) = true-and-false h (sym hu ∙ v)
           go (told-false h y) = y
 
-      pub later-planned : (a : ℕ) → c ≡ counted.At a
-          → PlansLater p k i n e t done count o ends run (Later t done count o both.head both.tail both.count a)
+      pub later-planned : (a : ℕ) → c ≡ Ok a
+          → PlansLater p k i n e t done count o ends run (Later t done count o both a)
       unfolding PlansLater release_later
       later-planned a w = (
-        (λ m st g. passes _ _ (there m g) ∙ lets _ _ _ _ (free m g)
+        (λ m st g. passes _ _ (there m g) ∙ lets _ _ _ (free m g)
             ∙ count-accepted n e m (st.tasks, st.edges) _ _ a (rw st.words (sym hc ∙ w))
             ∙ ap (λ (x : TaskCopy). accept (Placed x o) (with_count m (later_updates p k i o.0 m))) (copy_is i t done count m st.next)),
         (
@@ -304,9 +299,9 @@ module _ (p k i e : ℕ) (row : WeakRow) (weights ss s f ends : List ℕ) (count
     unfolding release_rule release_by
     by_first m = refl
 
-    pub plan-none : (n d : ℕ) → x ≡ pick.Refused n d → PlansRelease p k i e row weights ss s f ends counters b run (Refused n d)
+    pub plan-none : (why : Refusal) → x ≡ Err why → PlansRelease p k i e row weights ss s f ends counters b run (Err why)
     unfolding PlansRelease
-    plan-none n d v = (
+    plan-none why v = (
       (λ m y. (by_first m ∙ subst (PicksCopy p i row ss s f b) v hx (release_first (own p m) p k i m) k m y.shows, tt)),
       tt,
     )
@@ -317,7 +312,7 @@ module _ (p k i e : ℕ) (row : WeakRow) (weights ss s f ends : List ℕ) (count
       stands rest picks m y =
           record { tasks = ap length y.weights; edges = y.edges; next = picks.next m y.shows; words = y.words }
 
-      module _ (v : x ≡ pick.First t done count) where
+      module _ (v : x ≡ PickFirst t done count) where
         first-picks : Picks p i row ss s f b t.0 done.0 count (λ first k m. first)
         first-picks = subst (PicksCopy p i row ss s f b) v hx
 
@@ -331,13 +326,13 @@ module _ (p k i e : ℕ) (row : WeakRow) (weights ss s f ends : List ℕ) (count
               by_first m ∙ first-picks.follows (release_first (own p m) p k i m) k m y.shows ∙ first-room p k i m
               ∙ ap (release_to (own p m) p k i m) (simp (y.ends, y.counters))
 
-          pub first-none : (n d : ℕ) → r ≡ owner.Refused n d → PlansRelease p k i e row weights ss s f ends counters b run (Refused n d)
+          pub first-none : (why : Refusal) → r ≡ Err why → PlansRelease p k i e row weights ss s f ends counters b run (Err why)
           unfolding PlansRelease release_to
-          first-none n d g = (
+          first-none why g = (
             (λ m y. (
               to_room m y
                   ∙ room-refused p k i t.0 ends counters r told (release_to (own p m) p k i m) refl
-                  (rw (first-picks.next m y.shows).task refl) n d g,
+                  (rw (first-picks.next m y.shows).task refl) why g,
               tt,
             )),
             tt,
@@ -350,7 +345,7 @@ module _ (p k i e : ℕ) (row : WeakRow) (weights ss s f ends : List ℕ) (count
             takes : Owned p k i t.0 ends counters (owner.At o both)
             takes = subst (Owned p k i t.0 ends counters) g owned
 
-            joins : (accepted : ℕ) → count_of (length weights) e run ≡ counted.At accepted
+            joins : (accepted : ℕ) → count_of (length weights) e run ≡ Ok accepted
                 → Joins p k i (length weights) e o.0 ends run both accepted
             joins accepted h =
                 record {
@@ -365,16 +360,16 @@ module _ (p k i e : ℕ) (row : WeakRow) (weights ss s f ends : List ℕ) (count
             ring-inside = omega (arith, place-lt p p o.0 i takes.0.owner z.worker, z.all_counters)
 
             writable : (plan : WeakPlan) → KeepsFirst e t done count o both weights run plan → Writable p k i e row weights ends counters run plan
-            writable (Refused n d) kept = tt
-            writable (First t' done' count' o' head tail filled w' accepted) ((a, (b', (c, (d, h)))), (w, (light, q))) =
+            writable (Err why) kept = tt
+            writable (First t' done' count' o' both' w' accepted) ((a, (b', (c, (d, h)))), (w, (light, q))) =
                 rw (a, c, d, h)
                 (first-at, (joins accepted q, record { weighs = w; light = light; counter = takes.0.counters (ring_number p o.0 i) ring-inside }))
-            writable (Later t' done' count' o' head tail filled accepted) kept = absurd kept
+            writable (Later t' done' count' o' both' accepted) kept = absurd kept
 
             copied : (m : Mem) → Next i t.0 done.0 count m → (plan : WeakPlan) → KeepsFirst e t done count o both weights run plan → Copied i m plan
-            copied m y (Refused n d) kept = tt
-            copied m y (First t' done' count' o' head tail filled w' accepted) ((a, (b', (c, (d, h)))), kept) = rw (a, b', c) y
-            copied m y (Later t' done' count' o' head tail filled accepted) kept = absurd kept
+            copied m y (Err why) kept = tt
+            copied m y (First t' done' count' o' both' w' accepted) ((a, (b', (c, (d, h)))), kept) = rw (a, b', c) y
+            copied m y (Later t' done' count' o' both' accepted) kept = absurd kept
 
             pub first-plans : (plan : WeakPlan) → PlansFirst e t done count o both weights run plan
                 → PlansRelease p k i e row weights ss s f ends counters b run plan
@@ -388,7 +383,7 @@ module _ (p k i e : ℕ) (row : WeakRow) (weights ss s f ends : List ℕ) (count
               writable plan plans.1,
             )
 
-      module _ (o : WorkerId) (v : x ≡ pick.Later t done count o) where
+      module _ (o : WorkerId) (v : x ≡ PickLater t done count o) where
         later-picks : Picks p i row ss s f b t.0 done.0 count (λ first k m. release_later p k i m o.0) × (o.0 < p)
         later-picks = subst (PicksCopy p i row ss s f b) v hx
 
@@ -400,15 +395,15 @@ module _ (p k i e : ℕ) (row : WeakRow) (weights ss s f ends : List ℕ) (count
 
         later-writable : (plan : WeakPlan) → KeepsLater p k i (length weights) e t done count o ends run plan
             → Writable p k i e row weights ends counters run plan
-        later-writable (Refused n d) kept = tt
-        later-writable (First t' done' count' o' head tail filled w' accepted) kept = absurd kept
-        later-writable (Later t' done' count' o' head tail filled accepted) ((a, (b', (c, d))), joined) = rw (a, c, d) (later-at, joined)
+        later-writable (Err why) kept = tt
+        later-writable (First t' done' count' o' both' w' accepted) kept = absurd kept
+        later-writable (Later t' done' count' o' both' accepted) ((a, (b', (c, d))), joined) = rw (a, c, d) (later-at, joined)
 
         later-copied : (m : Mem) → Next i t.0 done.0 count m → (plan : WeakPlan)
             → KeepsLater p k i (length weights) e t done count o ends run plan → Copied i m plan
-        later-copied m y (Refused n d) kept = tt
-        later-copied m y (First t' done' count' o' head tail filled w' accepted) kept = absurd kept
-        later-copied m y (Later t' done' count' o' head tail filled accepted) ((a, (b', (c, d))), joined) = rw (a, b', c) y
+        later-copied m y (Err why) kept = tt
+        later-copied m y (First t' done' count' o' both' w' accepted) kept = absurd kept
+        later-copied m y (Later t' done' count' o' both' accepted) ((a, (b', (c, d))), joined) = rw (a, b', c) y
 
         pub later-plans : (plan : WeakPlan) → PlansLater p k i (length weights) e t done count o ends run plan
             → PlansRelease p k i e row weights ss s f ends counters b run plan

@@ -5,6 +5,10 @@ use mathlib.Core.List.{List}
 use native.Mathlib.Omega.{arith}
 use native.Mathlib.Nat.{mul-le-mul_right, suc-mul}
 use lib.ListN.{length}
+use Rattle.std.specs.Prelude.{Err, Ok}
+use Rattle.task.specs.Refusals.{Answer}
+use Rattle.task.specs.declared.refusal.Refusal.{Refusal}
+use Rattle.task.specs.declared.Ends.{Ends}
 use Rattle.task.specs.declared.Limits.{Limits}
 use Rattle.task.specs.declared.Step.TheVariants.{Release}
 use Rattle.task.specs.declared.TaskId.{TaskId}
@@ -12,28 +16,21 @@ use Rattle.task.specs.declared.WorkerId.{WorkerId}
 use Rattle.weak_task.specs.Types.{Copy}
 use Rattle.weak_task.specs.Rows.{with_hand, with_places}
 use Rattle.weak_task.specs.declared.WeakRow.{WeakRow}
-use Rattle.weak_task.specs.declared.WeakAnswer.TheVariants as answer
 use Rattle.weak_task.specs.declared.WeakOutcome.TheVariants.{Placed}
 use Rattle.memory.specs.Field as list
 use Rattle.weak_rules.specs.Memory.{Mem, row_in}
 use Rattle.weak_rules.specs.Plans.{result_of}
 use Rattle.weak_rules.specs.Steps.{rule_of, release_rule}
 use Rattle.plans.specs.Forms.{own}
-use Rattle.admission.specs.declared.Judged.{Judged}
-use Rattle.weak_admission.specs.Admission.{sizes_of, Judges, Knows, Admits, Measured, Enters}
+use Rattle.weak_admission.specs.Admission.{sizes_of, Judges, Knows, Admits, Measured, Enters, WeakAdmitted}
 use Rattle.weak_admission.specs.declared.WeakSizes.{WeakSizes}
-use Rattle.weak_admission.specs.declared.WeakAdmitted.{WeakAdmitted}
-use Rattle.weak_admission.specs.declared.WeakAdmitted.TheVariants as admitted
-use Rattle.weak_admission.specs.declared.WeakStepped.TheVariants as stepped
 use Rattle.weak_admission.proofs.Rows.{admission-entered, admission-measured, admission-refused, admission-enters, counts-are, few-steps, refused-result, rule-refused, rule-accepted}
 use Rattle.weak_release.specs.Release.{Tables, Words, words_of, lent, Releases, Lent}
-use Rattle.weak_release.specs.Plan.{plan_of, ends_of, CursorAt, Joins, Writable, Copied, Sized, Reads, PlansRelease}
+use Rattle.weak_release.specs.Plan.{WeakPlan, First, Later, plan_of, CursorAt, Joins, Writable, Copied, Sized, Reads, PlansRelease}
 use Rattle.weak_release.specs.Written.{Placeable, Raises, WritesLater, WritesFirst}
-use Rattle.weak_release.specs.declared.WeakPlan.{WeakPlan}
-use Rattle.weak_release.specs.declared.WeakPlan.TheVariants.{Refused, First, Later}
 
 -- Release leads to the phase that it suits, so the admitted row is the worker's
-module _ (row : WeakRow) (judged : Judged) (r : WeakAdmitted) (told : Admits row Release judged r) (after : WeakRow) (v : r ≡ admitted.To after) where
+module _ (row : WeakRow) (judged : Answer) (r : WeakAdmitted) (told : Admits row Release judged r) (after : WeakRow) (v : r ≡ Ok after) where
   same_row : after ≡ row
   same_row =
       let (suited, led) = admission-entered row Release judged r told after v in
@@ -43,15 +40,15 @@ module _ (row : WeakRow) (judged : Judged) (r : WeakAdmitted) (told : Admits row
       → left ≡ with_places left.read row.write left.cursor row
   row_keeps left = subst (λ (z : WeakRow). left ≡ with_places left.read z.write left.cursor z) same_row
 
-module _ (p k i : ℕ) (sizes : WeakSizes) (judged : Judged) (row : WeakRow) (t : Tables) (x : Words) (r : WeakAdmitted)
+module _ (p k i : ℕ) (sizes : WeakSizes) (judged : Answer) (row : WeakRow) (t : Tables) (x : Words) (r : WeakAdmitted)
     (told : Admits row Release judged r) where
-  pub whole-refused : (n d : ℕ) → r ≡ admitted.Refused n d → Releases p k i sizes judged row t x x (stepped.Refused n d)
+  pub whole-refused : (why : Refusal) → r ≡ Err why → Releases p k i sizes judged row t x x (Err why)
   unfolding Releases
-  whole-refused n d v limits m j e h =
-      refused-result limits p k i Release (lent m t x m.rows) n d
-      (admission-refused p k i sizes row Release limits (lent m t x m.rows) e h judged j r told n d v)
+  whole-refused why v limits m j e h =
+      refused-result limits p k i Release (lent m t x m.rows) why
+      (admission-refused p k i sizes row Release limits (lent m t x m.rows) e h judged j r told why v)
 
-  module _ (given : Knows p k i sizes judged × Lent sizes t x) (after : WeakRow) (v : r ≡ admitted.To after) where
+  module _ (given : Knows p k i sizes judged × Lent sizes t x) (after : WeakRow) (v : r ≡ Ok after) where
     measured : Measured p k i sizes
     measured = admission-measured p k i sizes row Release judged given.0 r told after v
 
@@ -78,10 +75,10 @@ module _ (p k i : ℕ) (sizes : WeakSizes) (judged : Judged) (row : WeakRow) (t 
     module _ (plan : WeakPlan)
         (plans : PlansRelease p k i sizes.preds after t.weights t.succ_starts t.succs x.fixed x.ends x.counters t.buffers x.run plan) where
       -- what an accepted plan lets be written
-      placeable : (task count : ℕ) (o : WorkerId) (head tail filled accepted : ℕ) → CursorAt after task count (length t.weights)
-          → Joins p k i (length t.weights) sizes.preds o.0 x.ends x.run (ends_of head tail filled) accepted
-          → Placeable p k i after count o.0 (ends_of head tail filled) accepted x.rings x.ends x.run
-      placeable task count o head tail filled accepted at joins =
+      placeable : (task count : ℕ) (o : WorkerId) (both : Ends) (accepted : ℕ) → CursorAt after task count (length t.weights)
+          → Joins p k i (length t.weights) sizes.preds o.0 x.ends x.run both accepted
+          → Placeable p k i after count o.0 both accepted x.rings x.ends x.run
+      placeable task count o both accepted at joins =
           record {
             worker = measured.worker;
             few_workers = measured.few_workers;
@@ -98,23 +95,23 @@ module _ (p k i : ℕ) (sizes : WeakSizes) (judged : Judged) (row : WeakRow) (t 
             few = omega (arith, few-steps (length t.weights) sizes.preds x.run whole-sized.few_tasks measured.few_edges accepted joins.counts);
           }
 
-      module _ (task done : TaskId) (count : ℕ) (o : WorkerId) (head tail filled : ℕ) where
-        pub later-placeable : (accepted : ℕ) → plan ≡ Later task done count o head tail filled accepted
-            → Placeable p k i after count o.0 (ends_of head tail filled) accepted x.rings x.ends x.run
+      module _ (task done : TaskId) (count : ℕ) (o : WorkerId) (both : Ends) where
+        pub later-placeable : (accepted : ℕ) → plan ≡ Later task done count o both accepted
+            → Placeable p k i after count o.0 both accepted x.rings x.ends x.run
         unfolding PlansRelease
         later-placeable accepted w =
-            let y : Writable p k i sizes.preds after t.weights x.ends x.counters x.run (Later task done count o head tail filled accepted) =
+            let y : Writable p k i sizes.preds after t.weights x.ends x.counters x.run (Later task done count o both accepted) =
             (rw w at plans).1 in
-            placeable task.0 count o head tail filled accepted y.0 y.1
+            placeable task.0 count o both accepted y.0 y.1
 
-        pub first-placeable : (weight accepted : ℕ) → plan ≡ First task done count o head tail filled weight accepted
-            → Placeable p k i after count o.0 (ends_of head tail filled) accepted x.rings x.ends x.run
+        pub first-placeable : (weight accepted : ℕ) → plan ≡ First task done count o both weight accepted
+            → Placeable p k i after count o.0 both accepted x.rings x.ends x.run
             × ((task.0 < length x.fixed) × Raises p i o.0 weight x.counters)
         unfolding PlansRelease
         first-placeable weight accepted w =
-            let y : Writable p k i sizes.preds after t.weights x.ends x.counters x.run (First task done count o head tail filled weight accepted) =
+            let y : Writable p k i sizes.preds after t.weights x.ends x.counters x.run (First task done count o both weight accepted) =
             (rw w at plans).1 in (
-              placeable task.0 count o head tail filled accepted y.0 y.1.0,
+              placeable task.0 count o both accepted y.0 y.1.0,
               (
                 rw whole-sized.all_fixed y.0.task,
                 record { all_counters = whole-sized.all_counters; counter = y.1.1.counter; light = y.1.1.light },
@@ -159,34 +156,34 @@ module _ (p k i : ℕ) (sizes : WeakSizes) (judged : Judged) (row : WeakRow) (t 
         unfolding PlansRelease
         follows q w = rw (← w) (plans.0 before reads)
 
-      pub whole-none : (n d : ℕ) → plan ≡ Refused n d → Releases p k i sizes judged row t x x (stepped.Refused n d)
+      pub whole-none : (why : Refusal) → plan ≡ Err why → Releases p k i sizes judged row t x x (Err why)
       unfolding Releases rule_of
-      whole-none n d w limits m j e h =
-          rule-refused limits p k i Release (lent m t x m.rows) after (enters limits m j e h) n d (follows limits m j e h (Refused n d) w).0
+      whole-none why w limits m j e h =
+          rule-refused limits p k i Release (lent m t x m.rows) after (enters limits m j e h) why (follows limits m j e h (Err why) w).0
 
-      module _ (task done : TaskId) (count : ℕ) (o : WorkerId) (head tail filled : ℕ) where
-        pub later-made : (accepted : ℕ) → plan ≡ Later task done count o head tail filled accepted
+      module _ (task done : TaskId) (count : ℕ) (o : WorkerId) (both : Ends) where
+        pub later-made : (accepted : ℕ) → plan ≡ Later task done count o both accepted
             → (rings' : List Copy) (ends' run' : List ℕ) (left : WeakRow)
             → WritesLater p k i after task done count o.0 x.rings rings' x.ends ends' x.run run' left
             → Releases p k i sizes judged row t x (words_of x.fixed rings' ends' x.counters run')
-            (stepped.Taken (Placed (record { task = task; predecessor = done }) o) left)
+            (Ok (Placed (record { task = task; predecessor = done }) o, left))
         unfolding Releases rule_of WritesLater
         later-made accepted w rings' ends' run' left writes limits m j e h =
-            let (rule, copied) = follows limits m j e h (Later task done count o head tail filled accepted) w in
-            ap (result_of (answer.Accepted (Placed (record { task = task; predecessor = done }) o)))
+            let (rule, copied) = follows limits m j e h (Later task done count o both accepted) w in
+            ap (result_of (Ok (Placed (record { task = task; predecessor = done }) o)))
             (writes (lent m t x m.rows) (row_is limits m j e h) copied)
             ∙ rule-accepted limits p k i Release (lent m t x m.rows) after (enters limits m j e h)
             (Placed (record { task = task; predecessor = done }) o) _ rule
 
-        pub first_made : (weight accepted : ℕ) → plan ≡ First task done count o head tail filled weight accepted
+        pub first_made : (weight accepted : ℕ) → plan ≡ First task done count o both weight accepted
             → (x' : Words) (left : WeakRow) → WritesFirst p k i after task done count o.0 weight x x' left
-            → Releases p k i sizes judged row t x x' (stepped.Taken (Placed (record { task = task; predecessor = done }) o) left)
+            → Releases p k i sizes judged row t x x' (Ok (Placed (record { task = task; predecessor = done }) o, left))
         unfolding Releases rule_of WritesFirst PlansRelease
         first_made weight accepted w x' left writes limits m j e h =
-            let y : Writable p k i sizes.preds after t.weights x.ends x.counters x.run (First task done count o head tail filled weight accepted) =
+            let y : Writable p k i sizes.preds after t.weights x.ends x.counters x.run (First task done count o both weight accepted) =
             (rw w at plans).1 in
-            let (rule, copied) = follows limits m j e h (First task done count o head tail filled weight accepted) w in
-            ap (result_of (answer.Accepted (Placed (record { task = task; predecessor = done }) o)))
+            let (rule, copied) = follows limits m j e h (First task done count o both weight accepted) w in
+            ap (result_of (Ok (Placed (record { task = task; predecessor = done }) o)))
             (writes (lent m t x m.rows) (row_is limits m j e h) copied (sym y.1.1.weighs))
             ∙ rule-accepted limits p k i Release (lent m t x m.rows) after (enters limits m j e h)
             (Placed (record { task = task; predecessor = done }) o) _ rule

@@ -1,7 +1,8 @@
 -- What Release of a weak job is to do, by the words that it reads.
-use Rattle.std.specs.Prelude.{ℕ, ◌+◌, ◌*◌, ◌≤◌, ◌<◌, ◌≡◌, true, cond, List, ◌∷◌, length, get_or, eqb, ltb, ℤ, pos}
+use Rattle.task.specs.declared.refusal.Refusal.TheVariants.{Damaged, NothingThere}
+use Rattle.std.specs.Prelude.{ℕ, ◌+◌, ◌*◌, ◌≤◌, ◌<◌, ◌≡◌, true, cond, List, ◌∷◌, length, get_or, eqb, ltb, ℤ, pos, Result, Ok, Err}
 use Rattle.task.specs.Types.{engine}
-use Rattle.task.specs.Refusals.{nothing_there, damaged}
+use Rattle.task.specs.declared.refusal.Refusal.{Refusal}
 use Rattle.task.specs.declared.Ends.{Ends}
 use Rattle.task.specs.declared.TaskId.{TaskId}
 use Rattle.task.specs.declared.WorkerId.{WorkerId}
@@ -19,19 +20,26 @@ use Rattle.weak_rules.specs.Updates.{Update, put_fixed}
 use Rattle.weak_rules.specs.Plans.{Plan, refuse, accept, refuse_if, checked, with_count, counted}
 use Rattle.weak_rules.specs.Steps.{advance, release_later, release_rule}
 use Rattle.weak_admission.specs.Count.{count_of}
-use Rattle.weak_admission.specs.declared.Counted.TheVariants.{At}
-use Rattle.weak_release.specs.declared.CopyPick.{CopyPick}
-use Rattle.weak_release.specs.declared.CopyPick.TheVariants as pick
-use Rattle.weak_release.specs.declared.WeakPlan.{WeakPlan}
-use Rattle.weak_release.specs.declared.WeakPlan.TheVariants.{Refused, First, Later}
+use Rattle.weak_release.specs.declared.CopyPick as pick
+use Rattle.weak_release.specs.declared.CopyPick.TheVariants as picks
+use Rattle.weak_release.specs.declared.WeakPlan as plan
+use Rattle.weak_release.specs.declared.WeakPlan.TheVariants as plans
 
--- The copy that is picked.
+-- The copy that is picked, or why it is refused.
+abbrev pub CopyPick : Type 0
+CopyPick = Result pick.CopyPick Refusal
+
+pattern abbrev pub PickFirst : TaskId → TaskId → ℕ → CopyPick
+PickFirst t done count = Ok (picks.First t done count)
+
+pattern abbrev pub PickLater : TaskId → TaskId → ℕ → WorkerId → CopyPick
+PickLater t done count o = Ok (picks.Later t done count o)
 
 -- the rule, by the plan that it comes to for a first copy: `release_rule f` is this of `release_first f`, whatever the form f
 unfoldable pub release_by : Plan → ℕ → ℕ → ℕ → Mem → Plan
 release_by first p k i m =
     checked (places_fit m (row_in m i).read (row_in m i).write)
-    (refuse_if (eqb (row_in m i).read (row_in m i).write) nothing_there 0
+    (refuse_if (eqb (row_in m i).read (row_in m i).write) NothingThere
     (checked (task_fits m (oldest m i))
     (checked (range_fits m (oldest m i))
     (checked (cursor_fits m (oldest m i) (row_in m i).cursor)
@@ -42,8 +50,8 @@ release_by first p k i m =
 -- by the word of the successor's worker
 unfoldable pub fixed_of : ℕ → List ℕ → TaskId → TaskId → ℕ → CopyPick
 fixed_of p fixed t done count =
-    cond (eqb (get_or fixed t.0 0) unfixed.0) (pick.First t done count)
-    (cond (ltb (get_or fixed t.0 0) p) (pick.Later t done count (record { 0 = get_or fixed t.0 0 })) (pick.Refused damaged 0))
+    cond (eqb (get_or fixed t.0 0) unfixed.0) (PickFirst t done count)
+    (cond (ltb (get_or fixed t.0 0) p) (PickLater t done count (record { 0 = get_or fixed t.0 0 })) (Err Damaged))
 
 -- a memory with that row of worker i, and these successor starts, successors, fixed workers and buffers
 pub record Shows (i : ℕ) (r : WeakRow) (ss s f b : List ℕ) (m : Mem) : Type 0 where
@@ -74,12 +82,20 @@ pub record Picks (p i : ℕ) (r : WeakRow) (ss s f b : List ℕ) (t done n : ℕ
   pub follows : (first : Plan) (k : ℕ) (m : Mem) → Shows i r ss s f b m → release_by first p k i m ≡ rest first k m
 
 abbrev pub PicksCopy : ℕ → ℕ → WeakRow → (ss s f b : List ℕ) → CopyPick → Type 0
-PicksCopy p i r ss s f b (pick.Refused n d) = (first : Plan) (k : ℕ) (m : Mem) → Shows i r ss s f b m → release_by first p k i m ≡ refuse n d
-PicksCopy p i r ss s f b (pick.First t done n) = Picks p i r ss s f b t.0 done.0 n (λ first k m. first)
-PicksCopy p i r ss s f b (pick.Later t done n o) =
+PicksCopy p i r ss s f b (Err why) = (first : Plan) (k : ℕ) (m : Mem) → Shows i r ss s f b m → release_by first p k i m ≡ refuse why
+PicksCopy p i r ss s f b (PickFirst t done n) = Picks p i r ss s f b t.0 done.0 n (λ first k m. first)
+PicksCopy p i r ss s f b (PickLater t done n o) =
     Picks p i r ss s f b t.0 done.0 n (λ first k m. release_later p k i m o.0) × (o.0 < p)
 
--- The plan.
+-- The plan, or why the step is refused.
+abbrev pub WeakPlan : Type 0
+WeakPlan = Result plan.WeakPlan Refusal
+
+pattern abbrev pub First : TaskId → TaskId → (count : ℕ) → WorkerId → Ends → (weight accepted : ℕ) → WeakPlan
+First t done count o both weight accepted = Ok (plans.First t done count o both weight accepted)
+
+pattern abbrev pub Later : TaskId → TaskId → (count : ℕ) → WorkerId → Ends → (accepted : ℕ) → WeakPlan
+Later t done count o both accepted = Ok (plans.Later t done count o both accepted)
 
 -- what each accepted plan writes, besides that the step is counted: a task's first copy joins the ring of owner o; a later one does
 abbrev pub first_updates : ℕ → ℕ → ℕ → ℕ → Mem → List Update
@@ -95,14 +111,11 @@ join_first p k i m o =
 
 -- a plan as the rules have it, for worker i
 abbrev pub plan_of : ℕ → ℕ → ℕ → Mem → WeakPlan → Plan
-plan_of p k i m (Refused n d) = refuse n d
-plan_of p k i m (First t done count o head tail filled weight accepted) =
+plan_of p k i m (Err why) = refuse why
+plan_of p k i m (First t done count o both weight accepted) =
     accept (Placed (record { task = t; predecessor = done }) o) (with_count m (first_updates p k i o.0 m))
-plan_of p k i m (Later t done count o head tail filled accepted) =
+plan_of p k i m (Later t done count o both accepted) =
     accept (Placed (record { task = t; predecessor = done }) o) (with_count m (later_updates p k i o.0 m))
-
-abbrev pub ends_of : ℕ → ℕ → ℕ → Ends
-ends_of head tail filled = record { head = head; tail = tail; count = filled }
 
 -- the run words of a job of n tasks and e edges, which are within the engine's limits
 pub record Counts (n e : ℕ) (run : List ℕ) : Type 0 where
@@ -125,11 +138,11 @@ pub record Stands (i n e t done count : ℕ) (run : List ℕ) (m : Mem) : Type 0
 
 -- the plan of a first copy, once its owner o is found, and the ends of its ring; what it has of them, of the weight and of the accepted word
 abbrev pub KeepsFirst : ℕ → TaskId → TaskId → ℕ → WorkerId → Ends → List ℕ → List ℕ → WeakPlan → Type 0
-KeepsFirst e t done count o both weights run (Refused n d) = Unit {0}
-KeepsFirst e t done count o both weights run (First t' done' count' o' head tail filled weight accepted) =
-    ((t' ≡ t) × ((done' ≡ done) × ((count' ≡ count) × ((o' ≡ o) × (ends_of head tail filled ≡ both)))))
-    × ((weight ≡ get_or weights t.0 0) × ((weight ≤ 65535) × (count_of (length weights) e run ≡ At accepted)))
-KeepsFirst e t done count o both weights run (Later t' done' count' o' head tail filled accepted) = ⊥
+KeepsFirst e t done count o both weights run (Err why) = Unit {0}
+KeepsFirst e t done count o both weights run (First t' done' count' o' both' weight accepted) =
+    ((t' ≡ t) × ((done' ≡ done) × ((count' ≡ count) × ((o' ≡ o) × (both' ≡ both)))))
+    × ((weight ≡ get_or weights t.0 0) × ((weight ≤ 65535) × (count_of (length weights) e run ≡ Ok accepted)))
+KeepsFirst e t done count o both weights run (Later t' done' count' o' both' accepted) = ⊥
 
 unfoldable pub PlansFirst : ℕ → TaskId → TaskId → ℕ → WorkerId → Ends → List ℕ → List ℕ → WeakPlan → Type 0
 PlansFirst e t done count o both weights run r =
@@ -143,14 +156,14 @@ pub record Joins (p k i n e o : ℕ) (ends run : List ℕ) (both : Ends) (accept
   pub reads : both ≡ ends_at ends (ring_number p o i)
   pub sound : Sound k both
   pub free : ¬ (Full k both)
-  pub counts : count_of n e run ≡ At accepted
+  pub counts : count_of n e run ≡ Ok accepted
 
 -- the plan of a later copy, whose owner is o
 abbrev pub KeepsLater : ℕ → ℕ → ℕ → ℕ → ℕ → TaskId → TaskId → ℕ → WorkerId → List ℕ → List ℕ → WeakPlan → Type 0
-KeepsLater p k i n e t done count o ends run (Refused number d) = Unit {0}
-KeepsLater p k i n e t done count o ends run (First t' done' count' o' head tail filled weight accepted) = ⊥
-KeepsLater p k i n e t done count o ends run (Later t' done' count' o' head tail filled accepted) =
-    ((t' ≡ t) × ((done' ≡ done) × ((count' ≡ count) × (o' ≡ o)))) × Joins p k i n e o.0 ends run (ends_of head tail filled) accepted
+KeepsLater p k i n e t done count o ends run (Err why) = Unit {0}
+KeepsLater p k i n e t done count o ends run (First t' done' count' o' both weight accepted) = ⊥
+KeepsLater p k i n e t done count o ends run (Later t' done' count' o' both accepted) =
+    ((t' ≡ t) × ((done' ≡ done) × ((count' ≡ count) × (o' ≡ o)))) × Joins p k i n e o.0 ends run both accepted
 
 unfoldable pub PlansLater : ℕ → ℕ → ℕ → ℕ → ℕ → TaskId → TaskId → ℕ → WorkerId → List ℕ → List ℕ → WeakPlan → Type 0
 PlansLater p k i n e t done count o ends run r =
@@ -165,19 +178,19 @@ pub record Weighs (q t : ℕ) (weights : List ℕ) (counters : List ℤ) (weight
 
 -- what lets an accepted plan be written
 abbrev pub Writable : ℕ → ℕ → ℕ → ℕ → WeakRow → List ℕ → List ℕ → List ℤ → List ℕ → WeakPlan → Type 0
-Writable p k i e row weights ends counters run (Refused n d) = Unit {0}
-Writable p k i e row weights ends counters run (First t done count o head tail filled weight accepted) =
+Writable p k i e row weights ends counters run (Err why) = Unit {0}
+Writable p k i e row weights ends counters run (First t done count o both weight accepted) =
     CursorAt row t.0 count (length weights)
-    × (Joins p k i (length weights) e o.0 ends run (ends_of head tail filled) accepted
+    × (Joins p k i (length weights) e o.0 ends run both accepted
     × Weighs (ring_number p o.0 i) t.0 weights counters weight)
-Writable p k i e row weights ends counters run (Later t done count o head tail filled accepted) =
-    CursorAt row t.0 count (length weights) × Joins p k i (length weights) e o.0 ends run (ends_of head tail filled) accepted
+Writable p k i e row weights ends counters run (Later t done count o both accepted) =
+    CursorAt row t.0 count (length weights) × Joins p k i (length weights) e o.0 ends run both accepted
 
 -- the copy of an accepted plan is that at the cursor
 abbrev pub Copied : ℕ → Mem → WeakPlan → Type 0
-Copied i m (Refused n d) = Unit {0}
-Copied i m (First t done count o head tail filled weight accepted) = Next i t.0 done.0 count m
-Copied i m (Later t done count o head tail filled accepted) = Next i t.0 done.0 count m
+Copied i m (Err why) = Unit {0}
+Copied i m (First t done count o both weight accepted) = Next i t.0 done.0 count m
+Copied i m (Later t done count o both accepted) = Next i t.0 done.0 count m
 
 -- the lists that are read, of their lengths, and the numbers within the engine's limits
 pub record Sized (p k i e : ℕ) (weights succ_starts succs fixed ends : List ℕ) (counters : List ℤ) (buffers run : List ℕ) : Type 0 where

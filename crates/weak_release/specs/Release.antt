@@ -1,5 +1,6 @@
 -- What Release of a weak job by value does to the memory whose lists it is lent: worker i's row goes in and comes back.
-use Rattle.std.specs.Prelude.{ℕ, ◌≡◌, List, length, ℤ}
+use Rattle.std.specs.Prelude.{ℕ, ◌≡◌, List, length, ℤ, Err, Ok}
+use Rattle.task.specs.Refusals.{Answer}
 use Rattle.task.specs.declared.Limits.{Limits}
 use Rattle.task.specs.declared.Step.TheVariants as step-name
 use Rattle.weak_task.specs.Types.{Copy}
@@ -10,11 +11,8 @@ use Rattle.memory.specs.Memory.{put}
 use Rattle.weak_rules.specs.Memory.{Mem, row_in}
 use Rattle.weak_rules.specs.Plans.{result_of}
 use Rattle.weak_rules.specs.Steps.{step}
-use Rattle.admission.specs.declared.Judged.{Judged}
-use Rattle.weak_admission.specs.Admission.{sizes_of, Judges, answer_of, rows_after}
+use Rattle.weak_admission.specs.Admission.{sizes_of, Judges, answer_of, rows_after, WeakStepped}
 use Rattle.weak_admission.specs.declared.WeakSizes.{WeakSizes}
-use Rattle.weak_admission.specs.declared.WeakStepped.{WeakStepped}
-use Rattle.weak_admission.specs.declared.WeakStepped.TheVariants.{Refused, Taken}
 
 -- the lists that Release reads alone
 pub record Tables : Type 0 where
@@ -52,15 +50,15 @@ lent m t x rows =
     (put list.rows rows m)))))))))
 
 -- whatever the other lists hold
-unfoldable pub Releases : ℕ → ℕ → ℕ → WeakSizes → Judged → WeakRow → Tables → Words → Words → WeakStepped → Type 0
+unfoldable pub Releases : ℕ → ℕ → ℕ → WeakSizes → Answer → WeakRow → Tables → Words → Words → WeakStepped → Type 0
 Releases p k i sizes judged row t x x' r =
     (limits : Limits) (m : Mem) → Judges limits p k i sizes judged → sizes_of (lent m t x m.rows) ≡ sizes → row_in m i ≡ row
     → result_of (answer_of r) (lent m t x' (rows_after m.rows i r)) ≡ step limits p k i step-name.Release (lent m t x m.rows)
 
 -- the row keeps its words but the read place and the cursor: Release leads to the phase that it suits
 abbrev pub ReadAndCursor : WeakRow → WeakStepped → Type 0
-ReadAndCursor row (Refused n d) = Unit {0}
-ReadAndCursor row (Taken o after) = after ≡ with_places after.read row.write after.cursor row
+ReadAndCursor row (Err why) = Unit {0}
+ReadAndCursor row (Ok (o, after)) = after ≡ with_places after.read row.write after.cursor row
 
 -- the lists are of the lengths that `sizes` has for them
 pub record Lent (sizes : WeakSizes) (t : Tables) (x : Words) : Type 0 where

@@ -11,34 +11,37 @@ ghost use Rattle.weak_release.specs.Release.{tables_of, words_of, Lent, Releases
 ghost use Rattle.weak_release.specs.Plan.{fixed_of, PicksCopy, Counts, Ended, PlansFirst, PlansLater, Sized, PlansRelease};
 ghost use Rattle.weak_release.specs.Written.{advanced_row, Placeable, Raises, WritesLater, WritesFirst};
 
-use admission::Judged;
-use release_plan::{Owner, Reached};
-use task::{Ends, Step, TaskId, WorkerId, refusal};
-use weak_admission::{Counted, WeakAdmitted, WeakSizes, WeakStepped};
+use task::{Answer, Ends, Refusal, Step, TaskId, WorkerId};
+use weak_admission::{WeakSizes, WeakStepped};
 use weak_task::{CopyCell, TaskCopy, WeakOutcome, WeakRow};
 
 // The successor at the cursor, the completed task that it follows, and how many successors that one has: of a task that is fixed to no worker
-// yet, or to this one. Or refused.
+// yet, or to this one.
 #[derive(Clone, Copy)]
 pub enum CopyPick {
-    Refused(u32, u32),
     First(TaskId, TaskId, u32),
     Later(TaskId, TaskId, u32, WorkerId),
 }
 
 // The worker that the successor is fixed to, or none yet.
-fn pick_fixed(fixed: &[u32], p: usize, task: TaskId, completed: TaskId, count: u32) -> CopyPick
+fn pick_fixed(
+    fixed: &[u32],
+    p: usize,
+    task: TaskId,
+    completed: TaskId,
+    count: u32,
+) -> Result<CopyPick, Refusal>
     requires { (task.0 < length fixed.now) × (p ≤ engine.workers) }
     ensures { result ≡ fixed_of p fixed.now task completed count }
 {
     let word = fixed[task.0 as usize];
     if p <= word as usize {
         if word != weak_task::UNFIXED.0 {
-            return CopyPick::Refused(refusal::DAMAGED, 0);
+            return Err(Refusal::Damaged);
         }
-        return CopyPick::First(task, completed, count);
+        return Ok(CopyPick::First(task, completed, count));
     }
-    CopyPick::Later(task, completed, count, WorkerId(word))
+    Ok(CopyPick::Later(task, completed, count, WorkerId(word)))
 }
 
 // The copy that is to be placed, by the lists that it is found in.
@@ -50,12 +53,12 @@ pub fn pick_copy(
     p: usize,
     worker: WorkerId,
     row: WeakRow,
-) -> CopyPick
+) -> Result<CopyPick, Refusal>
     requires { (length succ_starts.now ≡ length fixed.now + 1) × ((worker.0 * length fixed.now + length fixed.now ≤ length buffers.now)
         × (p ≤ engine.workers)) }
     ensures { PicksCopy p worker.0 row succ_starts.now succs.now fixed.now buffers.now result }
 {
-    let reached = release_plan::pick_successor(
+    let (task, completed, count) = release_plan::pick_successor(
         succ_starts,
         succs,
         fixed.len(),
@@ -64,20 +67,16 @@ pub fn pick_copy(
         row.read,
         row.write,
         row.cursor,
-    );
-    match reached {
-        Reached::Refused(number, detail) => CopyPick::Refused(number, detail),
-        Reached::At(task, completed, count) => pick_fixed(fixed, p, task, completed, count),
-    }
+    )?;
+    pick_fixed(fixed, p, task, completed, count)
 }
 
-// What Release is to do: refused; a task's first copy joins the ring of this owner, and the weight with it; or a later one does. With the copy
-// that was picked, the owner, the ring's ends (head, tail, count), the weight of a first copy, and the accepted word, as read.
+// What Release is to do: a task's first copy joins the ring of this owner, and the weight with it; or a later one does. With the copy that was
+// picked, the owner, the ring's ends, the weight of a first copy, and the accepted word, as read.
 #[derive(Clone, Copy)]
 pub enum WeakPlan {
-    Refused(u32, u32),
-    First(TaskId, TaskId, u32, WorkerId, u32, u32, u32, u32, u32),
-    Later(TaskId, TaskId, u32, WorkerId, u32, u32, u32, u32),
+    First(TaskId, TaskId, u32, WorkerId, Ends, u32, u32),
+    Later(TaskId, TaskId, u32, WorkerId, Ends, u32),
 }
 
 // The first copy, once its owner is found, by whatever way, and the ends of the ring that the worker fills there: its weight, then R and the
@@ -91,21 +90,16 @@ pub fn plan_first(
     count: u32,
     owner: WorkerId,
     both: Ends,
-) -> WeakPlan
+) -> Result<WeakPlan, Refusal>
     requires { Counts (length weights.now) edges run.now × (task.0 < length weights.now) }
     ensures { PlansFirst edges task completed count owner both weights.now run.now result }
 {
     let weight = weights[task.0 as usize];
     if 65535 < weight {
-        return WeakPlan::Refused(refusal::DAMAGED, 0);
+        return Err(Refusal::Damaged);
     }
-    let counted = weak_admission::count_of(run, weights.len(), edges);
-    let Counted::At(accepted) = counted else {
-        return WeakPlan::Refused(refusal::DAMAGED, 0);
-    };
-    WeakPlan::First(
-        task, completed, count, owner, both.head, both.tail, both.count, weight, accepted,
-    )
+    let accepted = weak_admission::count_of(run, weights.len(), edges)?;
+    Ok(WeakPlan::First(task, completed, count, owner, both, weight, accepted))
 }
 
 // "later copies go only to that worker's ring, and 11 is given exactly if that ring is full"
@@ -121,25 +115,20 @@ pub fn plan_later(
     completed: TaskId,
     count: u32,
     owner: WorkerId,
-) -> WeakPlan
+) -> Result<WeakPlan, Refusal>
     requires { Counts tasks edges run.now × (Ended p k worker.0 ends.now × (owner.0 < p)) }
     ensures { PlansLater p k worker.0 tasks edges task completed count owner ends.now run.now result }
 {
     let ring = searches::ring_number(p, owner, worker);
     let both = ring::ends_at(ends, ring);
     if !ring::is_sound(both, k) {
-        return WeakPlan::Refused(refusal::DAMAGED, 0);
+        return Err(Refusal::Damaged);
     }
     if ring::is_full(both, k) {
-        return WeakPlan::Refused(refusal::RINGS_FULL, task.0);
+        return Err(Refusal::RingsFull(task.0));
     }
-    let counted = weak_admission::count_of(run, tasks, edges);
-    let Counted::At(accepted) = counted else {
-        return WeakPlan::Refused(refusal::DAMAGED, 0);
-    };
-    WeakPlan::Later(
-        task, completed, count, owner, both.head, both.tail, both.count, accepted,
-    )
+    let accepted = weak_admission::count_of(run, tasks, edges)?;
+    Ok(WeakPlan::Later(task, completed, count, owner, both, accepted))
 }
 
 // Everything is read and checked: the copy, for a first one "its ring as in document 01", then the rest.
@@ -157,23 +146,17 @@ pub fn plan_release(
     worker: WorkerId,
     edges: usize,
     row: WeakRow,
-) -> WeakPlan
+) -> Result<WeakPlan, Refusal>
     requires { Sized p k worker.0 edges weights.now succ_starts.now succs.now fixed.now ends.now counters.now buffers.now
         run.now }
     ensures { PlansRelease p k worker.0 edges row weights.now succ_starts.now succs.now
         fixed.now ends.now counters.now buffers.now run.now result }
 {
-    let picked = pick_copy(succ_starts, succs, fixed, buffers, p, worker, row);
+    let picked = pick_copy(succ_starts, succs, fixed, buffers, p, worker, row)?;
     match picked {
-        CopyPick::Refused(number, detail) => WeakPlan::Refused(number, detail),
         CopyPick::First(task, completed, count) => {
-            let found = release_plan::find_owner(ends, counters, p, k, worker, task);
-            match found {
-                Owner::Refused(number, detail) => WeakPlan::Refused(number, detail),
-                Owner::At(owner, both) => {
-                    plan_first(weights, run, edges, task, completed, count, owner, both)
-                }
-            }
+            let (owner, both) = release_plan::find_owner(ends, counters, p, k, worker, task)?;
+            plan_first(weights, run, edges, task, completed, count, owner, both)
         }
         CopyPick::Later(task, completed, count, owner) => plan_later(
             ends,
@@ -203,15 +186,10 @@ fn advanced(row: WeakRow, count: u32) -> WeakRow
         read += 1;
         cursor = 0;
     }
-    let held = row.held;
-    let pointer = row.pointer;
     WeakRow {
-        phase: row.phase,
-        held,
-        pointer,
         read,
-        write: row.write,
         cursor,
+        ..row
     }
 }
 
@@ -281,7 +259,7 @@ pub fn write_first(
 // Release by a worker with this row, after what was judged; `sizes` are the lengths of all lent lists.
 pub fn release_row(
     sizes: WeakSizes,
-    judged: Judged,
+    judged: Answer,
     p: usize,
     k: usize,
     worker: WorkerId,
@@ -304,11 +282,7 @@ pub fn release_row(
         ends.new counters.new run.new) result }
     ensures read_and_cursor { ReadAndCursor row result }
 {
-    let admitted = weak_admission::admit(judged, row, Step::Release);
-    let after = match admitted {
-        WeakAdmitted::Refused(number, detail) => return WeakStepped::Refused(number, detail),
-        WeakAdmitted::To(after) => after,
-    };
+    let after = weak_admission::admit(judged, row, Step::Release)?;
     let plan = plan_release(
         weights,
         succ_starts,
@@ -323,15 +297,9 @@ pub fn release_row(
         worker,
         sizes.preds,
         after,
-    );
+    )?;
     match plan {
-        WeakPlan::Refused(number, detail) => WeakStepped::Refused(number, detail),
-        WeakPlan::First(task, predecessor, count, owner, head, tail, filled, weight, accepted) => {
-            let both = Ends {
-                head,
-                tail,
-                count: filled,
-            };
+        WeakPlan::First(task, predecessor, count, owner, both, weight, accepted) => {
             let left = write_first(
                 fixed,
                 rings,
@@ -350,17 +318,12 @@ pub fn release_row(
                 weight,
                 accepted,
             );
-            WeakStepped::Taken(
+            Ok((
                 WeakOutcome::Placed(TaskCopy { task, predecessor }, owner),
                 left,
-            )
+            ))
         }
-        WeakPlan::Later(task, predecessor, count, owner, head, tail, filled, accepted) => {
-            let both = Ends {
-                head,
-                tail,
-                count: filled,
-            };
+        WeakPlan::Later(task, predecessor, count, owner, both, accepted) => {
             let left = write_later(
                 rings,
                 ends,
@@ -376,10 +339,10 @@ pub fn release_row(
                 both,
                 accepted,
             );
-            WeakStepped::Taken(
+            Ok((
                 WeakOutcome::Placed(TaskCopy { task, predecessor }, owner),
                 left,
-            )
+            ))
         }
     }
 }

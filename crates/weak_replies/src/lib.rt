@@ -1,10 +1,10 @@
 // What the weak calls for C and Rust answer: the number and the detail, 0 and 0 where accepted, and the outcome.
 #![tactic(auto)]
 
-ghost use Rattle.std.specs.Prelude.{◌≡◌};
-ghost use Rattle.weak_task.specs.declared.WeakAnswer.{WeakAnswer};
+ghost use Rattle.std.specs.Prelude.{◌≡◌, Err, Ok};
 ghost use Rattle.weak_replies.specs.Replies.{weak_reply_of};
 
+use task::Refusal;
 use weak_task::{WeakAnswer, WeakOutcome};
 
 // The kind is 0 of a refused step, of Start and of Complete, 1 of a Fetch with its copy, 2 of a Release with the copy placed and its owner.
@@ -21,9 +21,10 @@ pub struct WeakReply {
 }
 
 // A refused step's reply. An export answers it before it looks at outcomes.
-pub fn refused(number: u32, detail: u32) -> WeakReply
-    ensures { result ≡ weak_reply_of (WeakAnswer.Refused number detail) }
+pub fn refused(why: Refusal) -> WeakReply
+    ensures { result ≡ weak_reply_of (Err why) }
 {
+    let (number, detail) = why.row();
     WeakReply {
         number,
         detail,
@@ -48,7 +49,7 @@ fn accepted(kind: u32, first: u32, second: u32, third: u32) -> WeakReply
 }
 
 fn outcome_reply_of(outcome: WeakOutcome) -> WeakReply
-    ensures { result ≡ weak_reply_of (WeakAnswer.Accepted outcome) }
+    ensures { result ≡ weak_reply_of (Ok outcome) }
 {
     match outcome {
         WeakOutcome::Moved => accepted(0, 0, 0, 0),
@@ -63,7 +64,7 @@ pub fn weak_reply_of(answer: WeakAnswer) -> WeakReply
     ensures { result ≡ weak_reply_of answer }
 {
     match answer {
-        WeakAnswer::Refused(number, detail) => refused(number, detail),
-        WeakAnswer::Accepted(outcome) => outcome_reply_of(outcome),
+        Err(why) => refused(why),
+        Ok(outcome) => outcome_reply_of(outcome),
     }
 }

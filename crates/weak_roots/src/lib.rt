@@ -1,9 +1,8 @@
 // The roots of a weak job at begin: fixed to their workers, their copies in the rings, their degrees, and their number.
 #![tactic(auto)]
 
-ghost use Rattle.std.specs.Prelude.{◌≡◌, List, ℕ, ◌+◌, ◌≤◌, ◌<◌, max, length, replicate, set};
+ghost use Rattle.std.specs.Prelude.{◌≡◌, List, ℕ, ◌+◌, ◌≤◌, ◌<◌, length, replicate, set};
 ghost use Rattle.task.specs.Types.{engine};
-ghost use Rattle.weak_task.specs.Types.{unfixed};
 ghost use Rattle.graph.specs.Graph.{graph_of};
 ghost use Rattle.graph.specs.Conditions.{Sound};
 ghost use Rattle.graph.specs.Successors.{roots};
@@ -13,17 +12,6 @@ ghost use Rattle.weak_roots.specs.Laying.{Placed, Laid, Raised};
 
 use task::{TaskId, WorkerId};
 use weak_task::{CopyCell, TaskCopy};
-
-// No task is fixed to a worker.
-fn unfix(fixed: &mut [u32])
-    ensures { fixed.new ≡ replicate (length fixed.old) unfixed.0 }
-{
-    let mut t = 0;
-    while t < fixed.len() {
-        fixed[t] = weak_task::UNFIXED.0;
-        t += 1;
-    }
-}
 
 // The task, if it is a root, is fixed to its owner, its one copy joins the owner's own ring, and its weight that counter. The owner of the
 // next root.
@@ -77,31 +65,29 @@ fn place_roots(
         (copies_of rings.new) ends.new counters.new }
 {
     let mut owner = WorkerId(0);
-    let mut t: u32 = 0;
-    while (t as usize) < degrees.len() {
-        let task = TaskId(t);
+    for t in 0..degrees.len() as u32 {
         owner = lay_task(
-            weights, degrees, fixed, rings, ends, counters, p, k, owner, task,
+            weights,
+            degrees,
+            fixed,
+            rings,
+            ends,
+            counters,
+            p,
+            k,
+            owner,
+            TaskId(t),
         );
-        t += 1;
     }
 }
 
-// A task's degree, from the number of its predecessors: "a root being begun with degree 1".
-fn begun_degree(degree: u32) -> u32
-    ensures { result ≡ max 1 degree }
-{
-    if degree == 0 { 1 } else { degree }
-}
-
-// The roots are known by their degree 0 up to here, so their degrees are raised last.
+// A task's degree, from the number of its predecessors: "a root being begun with degree 1". The roots are known by their degree 0 up to
+// here, so their degrees are raised last.
 fn raise_roots(degrees: &mut [u32])
     ensures { Raised degrees.old degrees.new }
 {
-    let mut t = 0;
-    while t < degrees.len() {
-        degrees[t] = begun_degree(degrees[t]);
-        t += 1;
+    for degree in degrees.iter_mut() {
+        *degree = (*degree).max(1);
     }
 }
 
@@ -122,10 +108,10 @@ pub fn lay_roots(
         (copies_of rings.new) ends.new counters.new
         × Raised degrees.old degrees.new }
 {
-    unfix(fixed);
+    fixed.fill(weak_task::UNFIXED.0);
     weak_rows::clear_copies(rings);
     roots::clear(ends);
-    roots::clear_counters(counters);
+    counters.fill(0);
     place_roots(weights, degrees, fixed, rings, ends, counters, p, k);
     raise_roots(degrees);
 }

@@ -1,30 +1,15 @@
 -- Cells that are read as what they stand for: `f` reads one.
-use Prim.Native.Nat.{ℕ, zero, suc, ◌+◌, ◌≤◌, ◌<◌}
+use Prim.Native.Nat.{ℕ, zero, suc, ◌≤◌, ◌<◌}
 use mathlib.Core.Path.{◌≡◌, refl, ap, ◌∙◌}
 use mathlib.Core.List.{List, [], ◌∷◌, ◌++◌}
 use native.Mathlib.Omega.{arith}
-use native.Mathlib.Numerals.{add-one}
-use lib.ListN.{length, get_or, set, drop, replicate, length-set}
-use Rattle.lists.proofs.Prefixes.{fill_more}
+use lib.ListN.{length, get_or, set, drop, replicate}
 use Rattle.weak_rows.specs.Cells.{read_as}
 
 -- every cell has n words, as the type of the lent list says
 abbrev pub CellsOf : ℕ → List (List ℕ) → Type 0
 CellsOf n [] = Unit {0}
 CellsOf n (a ∷ l) = (length a ≡ n) × CellsOf n l
-
--- equal members over a whole list
-fill-whole : {A : Type 0} (a : A) (l : List A) (i : ℕ) → i ≤ length l → length l ≤ i → replicate i a ++ drop i l ≡ replicate (length l) a
-fill-whole a [] zero h g = refl
-fill-whole a [] (suc i) h g = absurd (omega arith)
-fill-whole a (x ∷ l) zero h g = absurd (omega arith)
-fill-whole {A = A} a (x ∷ l) (suc i) h g = ap (λ (t : List A). a ∷ t) (fill-whole a l i (omega arith) (omega arith))
-
--- the cells before cell i read as v, the others as they did
-pub record Filled {A : Type 0} (f : List ℕ → A) (v : A) (before l : List (List ℕ)) (i : ℕ) : Type 0 where
-  pub upto : i ≤ length before
-  pub kept : length l ≡ length before
-  pub filled : read_as f l ≡ replicate i v ++ drop i (read_as f before)
 
 module _ {A : Type 0} (f : List ℕ → A) where
   pub length-read : (l : List (List ℕ)) → length (read_as f l) ≡ length l
@@ -48,28 +33,17 @@ module _ {A : Type 0} (f : List ℕ → A) where
   pub read-stored : (l : List (List ℕ)) (i : ℕ) (a : List ℕ) (v : A) → f a ≡ v → read_as f (set l i a) ≡ set (read_as f l) i v
   read-stored l i a v e = read_set l i a ∙ ap (λ (x : A). set (read_as f l) i x) e
 
-  -- each turn of a loop that clears stores one more cell
-  module _ (v : A) (before : List (List ℕ)) where
-    pub filled_none : Filled f v before before 0
-    filled_none = record { upto = omega arith; kept = refl; filled = refl }
+  -- equal cells, whole and before the others of a list
+  pub read-replicate : (n : ℕ) (a : List ℕ) → read_as f (replicate n a) ≡ replicate n (f a)
+  unfolding read_as
+  read-replicate zero a = refl
+  read-replicate (suc n) a = ap (λ (t : List A). f a ∷ t) (read-replicate n a)
 
-    module _ (l : List (List ℕ)) (i : ℕ) (inv : Filled f v before l i) where
-      pub filled_next : (a : List ℕ) → i < length before → f a ≡ v → Filled f v before (set l i a) (i + 1)
-      filled_next a h e =
-          record {
-            upto = omega arith;
-            kept = length-set l i a ∙ inv.kept;
-            filled = rw (read_set l i a, e, inv.filled, add-one i) (fill_more v i (read_as f before) (rw (length-read before) h));
-          }
-
-      pub filled-upto : (n : ℕ) → i ≡ n → read_as f l ≡ replicate n v ++ drop n (read_as f before)
-      filled-upto n e = rw (← e) inv.filled
-
-      pub filled-whole : length before ≤ i → read_as f l ≡ replicate (length before) v
-      filled-whole h =
-          inv.filled
-          ∙ fill-whole v (read_as f before) i (rw (length-read before) inv.upto) (rw (length-read before) h)
-          ∙ ap (λ (n : ℕ). replicate n v) (length-read before)
+  pub read-filled : (l : List (List ℕ)) (n : ℕ) (a : List ℕ) → n ≤ length l → read_as f (replicate n a ++ drop n l) ≡ replicate n (f a) ++ drop n (read_as f l)
+  unfolding read_as
+  read-filled l zero a h = refl
+  read-filled [] (suc n) a h = absurd (omega arith)
+  read-filled (b ∷ l) (suc n) a h = ap (λ (t : List A). f a ∷ t) (read-filled l n a (omega arith))
 
   -- where a cell of n words is determined by what it reads as, so is a lent list
   pub read-words : (n : ℕ) → ((a b : List ℕ) → length a ≡ n → length b ≡ n → f a ≡ f b → a ≡ b)

@@ -1,16 +1,16 @@
 -- Laws over plain lists and numbers that the functions on rows cite, and what rows that are read say of their words.
-use Prim.Native.Nat.{ℕ, zero, suc, ◌+◌, ◌<◌}
-use mathlib.Core.Path.{◌≡◌, refl, ap}
-use mathlib.Core.List.{List, [], ◌∷◌}
+use Prim.Native.Nat.{ℕ, zero, suc, ◌≤◌, ◌<◌}
+use mathlib.Core.Path.{◌≡◌, refl, ap, ◌∙◌}
+use mathlib.Core.List.{List, [], ◌∷◌, ◌++◌}
 use native.Mathlib.Omega.{arith}
-use lib.ListN.{length, get_or, set}
-use lib.Seq.{get_or-set_same, set-set, ext_get_or}
+use lib.ListN.{length, get_or, set, take, drop, replicate}
+use lib.Seq.{length-take-le, get_or-set_same, set-set, ext_get_or}
 use Rattle.weak_task.specs.Types.{idle}
 use Rattle.weak_task.specs.Rows.{with_hand, with_pointer}
 use Rattle.weak_task.specs.declared.TaskCopy.{TaskCopy}
 use Rattle.weak_task.specs.declared.WeakRow.{WeakRow}
 use Rattle.weak_rows.specs.Rows.{row_of, rows_of, with_phase, with_write, with_next, with_cursor, changed, cleared_rows}
-use Rattle.weak_rows.proofs.Cells.{CellsOf, read_at, read_set, length-read, Filled, filled_none, filled_next, filled-upto, read-words}
+use Rattle.weak_rows.proofs.Cells.{CellsOf, read_at, read_set, length-read, read-filled, read-words}
 
 pub length-rows : (l : List (List ℕ)) → length (rows_of l) ≡ length l
 length-rows l = length-read row_of l
@@ -67,21 +67,12 @@ module _ (rows : List WeakRow) (i : ℕ) (row : WeakRow) (h : row ≡ get_or row
   two-changed l e =
       rw (e, h, get_or-set_same rows i (f (get_or rows i idle)) idle l) (set-set rows i (f (get_or rows i idle)) (g (f (get_or rows i idle))))
 
--- the rows before row i are those of idle workers
-module _ (before : List (List ℕ)) where
-  abbrev pub Cleared : List (List ℕ) → ℕ → Type 0
-  Cleared l i = Filled row_of idle before l i
-
-  pub cleared-none : Cleared before 0
-  cleared-none = filled_none row_of idle before
-
-  module _ (l : List (List ℕ)) (i : ℕ) (inv : Cleared l i) where
-    pub cleared-next : (a : List ℕ) → i < length before → row_of a ≡ idle → Cleared (set l i a) (i + 1)
-    cleared-next a h e = filled_next row_of idle before l i inv a h e
-
-    pub cleared-all : (n : ℕ) → i ≡ n → rows_of l ≡ cleared_rows n (rows_of before)
-    unfolding cleared_rows
-    cleared-all n e = filled-upto row_of idle before l i inv n e
+-- the first n cells read as an idle worker's row
+pub words-filled : (l : List (List ℕ)) (n : ℕ) (a : List ℕ) → n ≤ length l → row_of a ≡ idle → (front : List (List ℕ))
+    → front ≡ replicate (length (take n l)) a → rows_of (front ++ drop n l) ≡ cleared_rows n (rows_of l)
+unfolding cleared_rows
+words-filled l n a h r front e =
+    rw (e, length-take-le n l h) (read-filled row_of l n a h ∙ ap (λ (x : WeakRow). replicate n x ++ drop n (rows_of l)) r)
 
 -- seven words are determined by the row they are read as
 row_words : (a b : List ℕ) → length a ≡ 7 → length b ≡ 7 → row_of a ≡ row_of b → a ≡ b

@@ -163,11 +163,7 @@ pub fn clear_rows(rows: &mut [WeakRowCell], n: usize)
     let mut cells = [0u32; WEAK_ROW_WORDS];
     cells[HELD_TASK] = TaskId::NIL.0;
     cells[HELD_PREDECESSOR] = TaskId::NIL.0;
-    let mut i = 0;
-    while i < n {
-        rows[i] = cells;
-        i += 1;
-    }
+    rows[..n].fill(cells);
 }
 
 fn copy_of(cells: CopyCell) -> TaskCopy
@@ -207,12 +203,7 @@ pub fn store_copy(rings: &mut [CopyCell], place: usize, copy: TaskCopy)
 pub fn clear_copies(rings: &mut [CopyCell])
     ensures { copies_of rings.new ≡ replicate (length rings.old) (copy 0 0) }
 {
-    let cells = [0u32; COPY_WORDS];
-    let mut i = 0;
-    while i < rings.len() {
-        rings[i] = cells;
-        i += 1;
-    }
+    rings.fill([0u32; COPY_WORDS]);
 }
 
 // The copy at the head of ring q, whose ends are known; it stays there.

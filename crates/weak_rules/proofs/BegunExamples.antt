@@ -5,13 +5,13 @@ use mathlib.Core.List.{[], ◌∷◌}
 use native.Mathlib.Decide.{ℕ_discrete, dec_le, dec_lt}
 use lib.ListN.{replicate}
 use lib.IntN.{pos}
+use Rattle.std.specs.Prelude.{Ok}
 use Rattle.lists.specs.Decided.{first_below}
 use Rattle.lists.specs.Lists.{occ_of, joined, tabulate, all_of}
 use Rattle.lists.specs.Sums.{sum_to}
 use Rattle.lists.specs.Circles.{after}
 use Rattle.task.specs.Types.{engine, capped}
 use Rattle.task.specs.Refusals.{refused, answer_says}
-use Rattle.task.specs.declared.Answer.TheVariants.{Accepted}
 use Rattle.weak_task.specs.Types.{copy, idle, task_copy}
 use Rattle.graph.specs.Graph.{part}
 use Rattle.graph.specs.Check.{sizes_fit, first_bad, first_twice, first_on_cycle, tables_answer, check_answer}
@@ -38,7 +38,7 @@ three_roots p k =
 pub record BegunExamples : Type 0 where
   pub three_roots_begun : begin engine 2 2 (three_roots 2 2)
       ≡ record {
-        answer = Accepted;
+        answer = Ok tt;
         memory =
             mem_of (4 ∷ 9 ∷ 2 ∷ 6 ∷ 3 ∷ []) (0 ∷ 0 ∷ 0 ∷ 2 ∷ 2 ∷ 3 ∷ []) (0 ∷ 1 ∷ 2 ∷ [])
             (0 ∷ 1 ∷ 2 ∷ 3 ∷ 3 ∷ 3 ∷ []) (2 ∷ 2 ∷ 4 ∷ []) (1 ∷ 1 ∷ 2 ∷ 1 ∷ 1 ∷ []) (0 ∷ 1 ∷ 65535 ∷ 0 ∷ 65535 ∷ [])

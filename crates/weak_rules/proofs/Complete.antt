@@ -7,8 +7,8 @@ use lib.ListN.{drop}
 use native.Mathlib.Omega.{arith}
 use lib.Dec.{leb, eqb}
 use borrow.Author.Tests.{leb-true}
+use Rattle.task.specs.declared.refusal.Refusal.TheVariants.{Damaged, RecordFull}
 use Rattle.lists.proofs.Told.{Told, told-true, told-false, same-told, le-told, and-told, under-told, and-true}
-use Rattle.task.specs.Refusals.{damaged, record_full}
 use Rattle.task.specs.Rows.{Refusal}
 use Rattle.weak_task.specs.Says.{outcome_says}
 use Rattle.weak_task.specs.declared.WeakOutcome.TheVariants.{Moved}
@@ -31,17 +31,17 @@ module _ (p i : ℕ) (m : Mem) where
   copy-follows : ¬ (LastCopy m i) → PlanFollows (rows_from 5) (complete_copy i m)
   unfolding complete_copy
   copy-follows n =
-      passed-row outcome_says damaged 0 _ (complete_copy i m) (λ c. n c.0)
-      (passed-row outcome_says damaged 0 _ (complete_copy i m) (λ c. n c.0)
-      (passed-row outcome_says damaged 0 _ (complete_copy i m) (λ c. n c.0)
-      (passed-row outcome_says damaged 0 _ (complete_copy i m) (λ c. n c.0.0)
-      (passed-row outcome_says damaged 0 _ (complete_copy i m) (λ c. n c.0.0) (counted-row m Moved _)))))
+      passed-row outcome_says Damaged _ (complete_copy i m) (λ c. n c.0)
+      (passed-row outcome_says Damaged _ (complete_copy i m) (λ c. n c.0)
+      (passed-row outcome_says Damaged _ (complete_copy i m) (λ c. n c.0)
+      (passed-row outcome_says Damaged _ (complete_copy i m) (λ c. n c.0.0)
+      (passed-row outcome_says Damaged _ (complete_copy i m) (λ c. n c.0.0) (counted-row m Moved _)))))
 
   sink-follows : ◌≡◌ {A = ℕ} (succ_count m (held m i).task) 0 → PlanFollows (rows_from 8) (complete_sink p i m)
   unfolding complete_sink
   sink-follows z =
-      passed-row outcome_says damaged 0 _ (complete_sink p i m) (λ c. omega (arith, c.0.1, z))
-      (passed-row outcome_says damaged 0 _ (complete_sink p i m) (λ c. omega (arith, c.0.1, z)) (counted-row m Moved _))
+      passed-row outcome_says Damaged _ (complete_sink p i m) (λ c. omega (arith, c.0.1, z))
+      (passed-row outcome_says Damaged _ (complete_sink p i m) (λ c. omega (arith, c.0.1, z)) (counted-row m Moved _))
 
   inner-follows : MustJoin m i → PlanFollows (rows_from 8) (complete_inner p i m)
   unfolding complete_inner
@@ -70,7 +70,7 @@ module _ (p i : ℕ) (m : Mem) where
   complete-follows =
       checked-row outcome_says _ _ _ (roots-told m) (λ _.
       checked-row outcome_says _ _ _ (entries-told m) (λ _.
-      refuse-row outcome_says _ record_full 0 _ _ (recorded-told m)
+      refuse-row outcome_says _ RecordFull _ _ (recorded-told m)
       (checked-row outcome_says _ _ _ (copy_told m (held m i)) (λ _.
       checked-row outcome_says _ _ _ (and-told _ _ (le-told 1 (degree_in m (held m i).task)) (le-told (degree_in m (held m i).task) (tasks m))) (λ _.
       go (same-told (degree_in m (held m i).task) 1))))))

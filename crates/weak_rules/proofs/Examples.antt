@@ -7,6 +7,7 @@ use native.Mathlib.Decide.{ℕ_discrete, dec_le, dec_lt}
 use lib.ListN.{length, replicate}
 use lib.Dec.{ltb}
 use lib.IntN.{pos, negsuc}
+use Rattle.std.specs.Prelude.{Err, Ok}
 use Rattle.lists.specs.Decided.{first_below}
 use Rattle.lists.specs.Lists.{occ_of, joined, tabulate, all_of}
 use Rattle.lists.specs.Sums.{sum_to, sum_to_z}
@@ -17,10 +18,8 @@ use Rattle.task.specs.Refusals.{Said, refused, accepted, answer_says}
 use Rattle.task.specs.declared.Step.{Step}
 use Rattle.task.specs.declared.Step.TheVariants.{Fetch, Start, Complete, Release}
 use Rattle.weak_task.specs.Types.{copy, task_copy}
-use Rattle.weak_task.specs.Says.{copy_fetched, copy_placed, step_says}
+use Rattle.weak_task.specs.Says.{WeakAnswer, copy_fetched, copy_placed, step_says}
 use Rattle.weak_task.specs.declared.WeakRow.{WeakRow}
-use Rattle.weak_task.specs.declared.WeakAnswer.{WeakAnswer}
-use Rattle.weak_task.specs.declared.WeakAnswer.TheVariants.{Refused, Accepted}
 use Rattle.graph.specs.Graph.{part}
 use Rattle.graph.specs.Check.{sizes_fit, first_bad, first_twice, first_on_cycle, tables_answer, check_answer}
 use Rattle.graph.specs.Decide.{below?, among?, light?, good?, bad?, ends_fit?, twice?, twice_in?, find-twice, edge?, thru?, path?, leads?, on_cycle?}
@@ -95,8 +94,8 @@ abbrev pub tries : List Step
 tries = Release ∷ Fetch ∷ Start ∷ Complete ∷ []
 
 abbrev pub first_of : WeakAnswer → Mem → Mem → Mem
-first_of (Refused n d) left others = others
-first_of (Accepted o) left others = left
+first_of (Err why) left others = others
+first_of (Ok o) left others = left
 
 unfoldable pub turn : ℕ → ℕ → ℕ → List Step → Mem → Mem
 turn p k i [] m = m

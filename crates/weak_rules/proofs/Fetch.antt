@@ -2,8 +2,8 @@
 use Prim.Native.Nat.{ℕ}
 use mathlib.Core.Path.{◌≡◌, sym, ap, ◌∙◌}
 use lib.ListN.{drop}
+use Rattle.task.specs.declared.refusal.Refusal.TheVariants.{Damaged, NothingThere}
 use Rattle.lists.proofs.Told.{lt-told, only-told}
-use Rattle.task.specs.Refusals.{damaged, nothing_there}
 use Rattle.weak_task.specs.Types.{Copy}
 use Rattle.weak_task.specs.Says.{outcome_says}
 use Rattle.ring.specs.Ring.{Empty}
@@ -30,13 +30,13 @@ module _ (p k i : ℕ) (m : Mem) where
   from-follows : (f : Found) → Looked p k Empty (scanned_ends p i m) (pointer_in m i) f
       → PlanFollows (drop 1 (fetch_rows p k i m)) (fetch_from p k i m f)
   unfolding fetch_from
-  from-follows unsound bad = given-row damaged 0 _ bad
+  from-follows unsound bad = given-row Damaged _ bad
   from-follows none all =
-      passed-row outcome_says damaged 0 _ (fetch_from p k i m none) (all-not-bad p k Empty (scanned_ends p i m) all)
-      (given-row nothing_there 0 _ all)
+      passed-row outcome_says Damaged _ (fetch_from p k i m none) (all-not-bad p k Empty (scanned_ends p i m) all)
+      (given-row NothingThere _ all)
   from-follows (at j) (e, s, q) =
-      passed-row outcome_says damaged 0 _ (fetch_from p k i m (at j)) (stop-not-bad p k Empty (scanned_ends p i m) s)
-      (passed-row outcome_says nothing_there 0 _ (fetch_from p k i m (at j)) (stop-not-all p k Empty (scanned_ends p i m) s)
+      passed-row outcome_says Damaged _ (fetch_from p k i m (at j)) (stop-not-bad p k Empty (scanned_ends p i m) s)
+      (passed-row outcome_says NothingThere _ (fetch_from p k i m (at j)) (stop-not-all p k Empty (scanned_ends p i m) s)
       (copy-follows j (head_item k m (ring_number p i j)) (e, s, ap (λ (o : ℕ). head_item k m (ring_number p i o)) (sym q))))
 
 pub fetch-follows : (p k i : ℕ) (m : Mem) → PlanFollows (fetch_rows p k i m) (fetch_rule p k i m)

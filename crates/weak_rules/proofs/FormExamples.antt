@@ -13,8 +13,7 @@ use Rattle.task.specs.Phases.{next_phase}
 use Rattle.task.specs.Refusals.{Said, refused}
 use Rattle.task.specs.declared.Step.TheVariants.{Fetch, Start, Complete, Release}
 use Rattle.weak_task.specs.Types.{copy}
-use Rattle.weak_task.specs.Says.{copy_placed, step_says}
-use Rattle.weak_task.specs.declared.WeakAnswer.{WeakAnswer}
+use Rattle.weak_task.specs.Says.{WeakAnswer, copy_placed, step_says}
 use Rattle.graph.specs.Graph.{part}
 use Rattle.graph.specs.Check.{sizes_fit, first_bad, first_twice, first_on_cycle, tables_answer, check_answer}
 use Rattle.graph.specs.Decide.{below?, among?, light?, good?, bad?, ends_fit?, twice?, twice_in?, find-twice, edge?, thru?, path?, leads?, on_cycle?}

@@ -8,19 +8,19 @@ use native.Mathlib.Omega.{arith}
 use native.Mathlib.Decide.{dec_lt}
 use lib.Dec.{leb, eqb}
 use borrow.Author.Tests.{ltb-true, leb-true, eqb-true, eqb-false}
+use Rattle.std.specs.Prelude.{Err, Ok}
 use Rattle.lists.proofs.Decided.{stable}
 use Rattle.lists.proofs.Told.{Told, told-true, told-false, same-told, and-true, told-yes, told-no}
 use Rattle.task.specs.Phases.{suits, next_phase}
+use Rattle.task.specs.Refusals.{refusal_number, refusal_detail}
 use Rattle.task.specs.Rows.{Acceptance}
 use Rattle.task.specs.declared.Limits.{Limits}
 use Rattle.task.specs.declared.Step.{Step}
 use Rattle.task.specs.declared.Step.TheVariants.{Fetch, Start, Complete, Release}
 use Rattle.weak_task.specs.Types.{unfixed}
-use Rattle.weak_task.specs.Says.{step_says}
+use Rattle.weak_task.specs.Says.{WeakAnswer, step_says}
 use Rattle.weak_task.specs.declared.WeakRow.{WeakRow}
 use Rattle.weak_task.specs.declared.WeakOutcome.{WeakOutcome}
-use Rattle.weak_task.specs.declared.WeakAnswer.{WeakAnswer}
-use Rattle.weak_task.specs.declared.WeakAnswer.TheVariants.{Refused, Accepted}
 use Rattle.lists.specs.Circles.{after}
 use Rattle.ring.specs.Ring.{Empty, Full, head_on, tail_on}
 use Rattle.ring.proofs.Ends.{sound-told, full-told}
@@ -67,9 +67,9 @@ module _ (m : Mem) where
   if-counted : {M : WeakOutcome → List Update → Type 0} (o : WeakOutcome) (us : List Update) → M o us → IfAccepted (Counted m M) (counted m o us)
   unfolding counted
   if-counted {M} o us h =
-      if-required (roots_fit m) _ _ (λ r.
+      if-required (roots_fit m) _ (λ r.
       let b : ¬ (BadRoots m) = told-yes (roots-told m) r in
-      if-required (accepted_fits m) _ _ (λ l.
+      if-required (accepted_fits m) _ (λ l.
       let n : ¬ (4 * edges m + 3 * roots_word m ≤ accepted_in m) = told-yes (accepted-told m) l in
       record {
         holds = λ o' us' e. record {
@@ -94,10 +94,10 @@ module _ (m : Mem) where
     if-fetched : (f : Found) → pointer_in m i < p → Looked p k Empty (scanned_ends p i m) (pointer_in m i) f
         → IfAccepted (Counted m (Fetches p k i m)) (fetch_from p k i m f)
     unfolding fetch_from fetch_copy head_on after
-    if-fetched unsound h l = if-refused _ _
-    if-fetched none h l = if-refused _ _
+    if-fetched unsound h l = if-refused _
+    if-fetched none h l = if-refused _
     if-fetched (at j) h (e, stop, q) =
-        if-required _ _ _ (λ a.
+        if-required _ _ (λ a.
         if-counted _ _ (record {
           pointer = h;
           distance = e;
@@ -120,9 +120,9 @@ module _ (m : Mem) where
     if-inner : CompletingLast p i m → 0 < succ_count m (held m i).task → IfAccepted (Counted m (Completes p i m)) (complete_inner p i m)
     unfolding complete_inner
     if-inner c h =
-        if-required (places_fit m (row_in m i).read (row_in m i).write) _ _ (λ a.
+        if-required (places_fit m (row_in m i).read (row_in m i).write) _ (λ a.
         let (r, _) = and-true (leb (row_in m i).read (row_in m i).write) _ a in
-        if-required _ _ _ (λ w.
+        if-required _ _ (λ w.
         if-counted _ _ (inner (record { common = c; successors = h; places = leb-true _ _ r; room = ltb-true _ _ w; outcome = refl; updates = rw (zero_left c.last) refl }))))
 
     if-last : CompletingLast p i m → IfAccepted (Counted m (Completes p i m))
@@ -140,9 +140,9 @@ module _ (m : Mem) where
     unfolding complete_last complete_copy
     if-completed c =
         if-cond _
-        (λ l. if-required _ _ _ (λ w.
-        if-required _ _ _ (λ q.
-        if-required _ _ _ (λ g.
+        (λ l. if-required _ _ (λ w.
+        if-required _ _ (λ q.
+        if-required _ _ (λ g.
         if-last (record {
           common = c;
           last = eqb-true _ _ l;
@@ -159,8 +159,8 @@ module _ (m : Mem) where
         → IfAccepted (Counted m (Releases f p k i m)) (release_later p k i m (fixed_in m (successor m i)))
     unfolding release_later tail_on after
     if-later c n w =
-        if-required _ _ _ (λ s.
-        if-cond _ (λ _. if-refused _ _) (λ r.
+        if-required _ _ (λ s.
+        if-cond _ (λ _. if-refused _) (λ r.
         if-counted _ _ (later (record {
           to = to;
           common = c;
@@ -186,11 +186,11 @@ module _ (m : Mem) where
           → Sought k (Full k) (λ o. ends_in m (ring_number p o i)) (f.offered j) g
           → IfAccepted (Counted m (Releases f p k i m)) (release_to f p k i m g)
       unfolding release_to tail_on after
-      if-first unsound c r q l = if-refused _ _
-      if-first none c r q l = if-refused _ _
+      if-first unsound c r q l = if-refused _
+      if-first none c r q l = if-refused _
       if-first (at o) c r q (d, stop, g) =
-          if-required _ _ _ (λ u.
-          if-required _ _ _ (λ w.
+          if-required _ _ (λ u.
+          if-required _ _ (λ w.
           if-counted _ _ (first (record {
             to = to;
             common = c;
@@ -218,7 +218,7 @@ module _ (m : Mem) where
       unfolding release_first
       if-released c t =
           if-cond _
-          (λ r. if-required _ _ _ (λ q.
+          (λ r. if-required _ _ (λ q.
           if-first (find_room p k i m (f.offered j)) c (eqb-true _ _ r) (told-yes chooses.told q)
           (room-looked p k i (f.offered j) m)))
           (λ n.
@@ -228,15 +228,15 @@ module _ (m : Mem) where
       if-release : IfAccepted (Counted m (Releases f p k i m)) (release_rule f p k i m)
       unfolding release_rule
       if-release =
-          if-required _ _ _ (λ a.
+          if-required _ _ (λ a.
           let (r, w) = and-true (leb (row_in m i).read (row_in m i).write) _ a in
-          if-cond _ (λ _. if-refused _ _) (λ b.
+          if-cond _ (λ _. if-refused _) (λ b.
           let n : ¬ ((row_in m i).read ≡ (row_in m i).write) = eqb-false _ _ b in
-          if-required _ _ _ (λ t.
-          if-required _ _ _ (λ g.
-          if-required _ _ _ (λ c.
-          if-required _ _ _ (λ s.
-          if-required _ _ _ (λ v.
+          if-required _ _ (λ t.
+          if-required _ _ (λ g.
+          if-required _ _ (λ c.
+          if-required _ _ (λ s.
+          if-required _ _ (λ v.
           if-released (record {
             not_empty = omega (arith, leb-true (row_in m i).read (row_in m i).write r, n);
             places = leb-true _ _ w;
@@ -251,16 +251,16 @@ module _ (m : Mem) where
       -- a step's own rule
       if-ruled : (s : Step) → IfAccepted (Counted m (Made s p k i m)) (rule_of s p k i m)
       unfolding rule_of fetch_rule start_rule complete_rule
-      if-ruled Fetch = if-required _ _ _ (λ h. if-fetched (scan p k i m) (ltb-true _ _ h) (scan-looked p k i m))
+      if-ruled Fetch = if-required _ _ (λ h. if-fetched (scan p k i m) (ltb-true _ _ h) (scan-looked p k i m))
       if-ruled Start = if-counted _ _ (record { outcome = refl; updates = refl })
       if-ruled Complete =
-          if-required (roots_fit m) _ _ (λ _.
-          if-required _ _ _ (λ a.
-          if-cond _ (λ _. if-refused _ _) (λ b.
+          if-required (roots_fit m) _ (λ _.
+          if-required _ _ (λ a.
+          if-cond _ (λ _. if-refused _) (λ b.
           let n : ¬ (entries_in m ≡ edges m + roots_word m) = told-no (recorded-told m) b in
           let l : ¬ (edges m + roots_word m < entries_in m) = told-yes (entries-told m) a in
-          if-required _ _ _ (λ t.
-          if-required _ _ _ (λ d.
+          if-required _ _ (λ t.
+          if-required _ _ (λ d.
           let (d1, d2) = and-true (leb 1 (degree_in m (held m i).task)) _ d in
           if-completed (record {
             entries = omega (arith, l, n);
@@ -279,10 +279,10 @@ record AllFound (limits : Limits) (p k i : ℕ) (s : Step) (m : Mem) (o : WeakOu
 if-stepped : (limits : Limits) (p k i : ℕ) (s : Step) (m : Mem) → IfAccepted (AllFound limits p k i s m) (step_plan limits p k i s m)
 unfolding step_plan next_phase
 if-stepped limits p k i s m =
-    if-required _ _ _ (λ a.
-    if-required _ _ _ (λ b.
-    if-required _ _ _ (λ c.
-    if-required (phase_fits (row_in m i).phase) _ _ (λ _.
+    if-required _ _ (λ a.
+    if-required _ _ (λ b.
+    if-required _ _ (λ c.
+    if-required (phase_fits (row_in m i).phase) _ (λ _.
     go (same-told (row_in m i).phase (suits s)) (fits-are limits p k m a b) (ltb-true _ _ c)))))
   where
     go : Told (eqb (row_in m i).phase (suits s)) ((row_in m i).phase ≡ suits s) (¬ ((row_in m i).phase ≡ suits s)) → Fits limits p k m → i < p
@@ -296,7 +296,7 @@ if-stepped limits p k i s m =
               whole = c.whole;
               allowed = record { fits = f; worker = w; phase = e; roots = c.roots; low = c.low; made = c.made };
             }
-    go (told-false q n) f w = rw q (if-refused _ _)
+    go (told-false q n) f w = rw q (if-refused _)
 
 -- what an accepted step has found, answers and writes
 pub accepted-step : (limits : Limits) (p k i : ℕ) (s : Step) (m : Mem) → Acceptance (step_says (step limits p k i s m).answer) → AcceptedStep limits p k i s m
@@ -304,7 +304,7 @@ unfolding step carried_out
 accepted-step limits p k i s m a = go (step_plan limits p k i s m) refl a
   where
     go : (plan : Plan) → step_plan limits p k i s m ≡ plan → Acceptance (step_says (carried_out plan m).answer) → AcceptedStep limits p k i s m
-    go (refuse n d) e b = absurd b
+    go (refuse why) e b = absurd b
     go (accept o us) e b =
         let r : AllFound limits p k i s m o us = (if-stepped limits p k i s m).holds o us e in
         record {
@@ -324,5 +324,5 @@ pub accepted-or-same : (limits : Limits) (p k i : ℕ) (s : Step) (m : Mem) → 
 accepted-or-same limits p k i s m = go (step limits p k i s m).answer refl
   where
     go : (a : WeakAnswer) → (step limits p k i s m).answer ≡ a → AcceptedStep limits p k i s m ⊎ ((step limits p k i s m).memory ≡ m)
-    go (Refused n d) e = inr (refused-step limits p k i s m n d (ap step_says e))
-    go (Accepted o) e = inl (accepted-step limits p k i s m (rw e (outcome-accepts o)))
+    go (Err why) e = inr (refused-step limits p k i s m (refusal_number why) (refusal_detail why) (ap step_says e))
+    go (Ok o) e = inl (accepted-step limits p k i s m (rw e (outcome-accepts o)))

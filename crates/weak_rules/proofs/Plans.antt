@@ -24,7 +24,7 @@ PlanFollows = plans.PlanFollows outcome_says
 -- the answer is the plan's
 pub answer-planned : (plan : Plan) (m : Mem) → step_says (carried_out plan m).answer ≡ plan_says plan
 unfolding carried_out
-answer-planned (refuse n d) m = refl
+answer-planned (refuse why) m = refl
 answer-planned (accept o us) m = refl
 
 pub outcome-accepts : (o : WeakOutcome) → Acceptance (outcome_says o)

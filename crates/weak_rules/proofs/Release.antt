@@ -8,9 +8,9 @@ use native.Mathlib.Omega.{arith}
 use native.Mathlib.Decide.{dec_lt}
 use lib.ListN.{length, drop}
 use lib.Dec.{eqb}
+use Rattle.task.specs.declared.refusal.Refusal.TheVariants.{Damaged, NothingThere, RingsFull}
 use Rattle.lists.proofs.Decided.{stable}
 use Rattle.lists.proofs.Told.{Told, told-true, told-false, told-yes, same-told, le-told, lt-told, and-told, only-told, under-told}
-use Rattle.task.specs.Refusals.{damaged, nothing_there, rings_full}
 use Rattle.task.specs.Rows.{Refusal}
 use Rattle.task.specs.declared.Ends.{Ends}
 use Rattle.weak_task.specs.Types.{unfixed}
@@ -49,17 +49,17 @@ module _ (f : Form) (p k i : ℕ) (m : Mem) where
 
       to-follows : (g : Found) → Sought k (Full k) (λ o. ends_in m (ring_number p o i)) owners g → PlanFollows (rows_from 8) (release_to f p k i m g)
       unfolding release_to
-      to-follows unsound bad = given-row damaged 0 _ (first, (target_by f, least-target f p k i m chooses good, bad))
+      to-follows unsound bad = given-row Damaged _ (first, (target_by f, least-target f p k i m chooses good, bad))
       to-follows none all =
-          passed-row outcome_says damaged 0 _ (release_to f p k i m none)
+          passed-row outcome_says Damaged _ (release_to f p k i m none)
           (λ c. none-damaged f p k i m chooses good (all-not-bad (length owners) k (Full k) (offered_ends p i m owners) all) c.1)
-          (passed-row outcome_says damaged 0 _ (release_to f p k i m none) not-later
-          (given-row rings_full (successor m i) _ (inl (first, all-full f p k i m chooses good all))))
+          (passed-row outcome_says Damaged _ (release_to f p k i m none) not-later
+          (given-row (RingsFull (successor m i)) _ (inl (first, all-full f p k i m chooses good all))))
       to-follows (at o) (e, stop, q) =
-          passed-row outcome_says damaged 0 _ (release_to f p k i m (at o))
+          passed-row outcome_says Damaged _ (release_to f p k i m (at o))
           (λ c. none-damaged f p k i m chooses good (stop-not-bad (length owners) k (Full k) (offered_ends p i m owners) stop) c.1)
-          (passed-row outcome_says damaged 0 _ (release_to f p k i m (at o)) not-later
-          (passed-row outcome_says rings_full (successor m i) _ (release_to f p k i m (at o)) not_full
+          (passed-row outcome_says Damaged _ (release_to f p k i m (at o)) not-later
+          (passed-row outcome_says (RingsFull (successor m i)) _ (release_to f p k i m (at o)) not_full
           (checked-row outcome_says _ _ _ (used-told f p k i m chooses good e stop first o q) (λ _.
           checked-row outcome_says _ _ _ (under-told _ first (le-told (weight_in m (successor m i)) 65535)) (λ _. counted-row m _ _)))))
         where
@@ -105,12 +105,12 @@ module _ (f : Form) (p k i : ℕ) (m : Mem) where
     later-follows : PlanFollows (rows_from 7) (release_later p k i m owner)
     unfolding release_later
     later-follows =
-        passed-row outcome_says damaged 0 _ (release_later p k i m owner) (λ c. later c.0)
-        (passed-row outcome_says damaged 0 _ (release_later p k i m owner) (λ c. later c.0)
+        passed-row outcome_says Damaged _ (release_later p k i m owner) (λ c. later c.0)
+        (passed-row outcome_says Damaged _ (release_later p k i m owner) (λ c. later c.0)
         (checked-row outcome_says _ _ _ ends-told (λ _.
-        refuse-row outcome_says _ rings_full (successor m i) _ _ eleven-told
-        (passed-row outcome_says damaged 0 _ (counted m _ _) (λ c. later c.0)
-        (passed-row outcome_says damaged 0 _ (counted m _ _) (λ c. later c.0) (counted-row m _ _))))))
+        refuse-row outcome_says _ (RingsFull (successor m i)) _ _ eleven-told
+        (passed-row outcome_says Damaged _ (counted m _ _) (λ c. later c.0)
+        (passed-row outcome_says Damaged _ (counted m _ _) (λ c. later c.0) (counted-row m _ _))))))
 
   -- by the worker that the successor is fixed to
   fixed-follows : Chooses p f → p ≤ 65535 → fixed_fits p (fixed_in m (successor m i)) ≡ true → PlanFollows (rows_from 7)
@@ -130,7 +130,7 @@ pub release-follows : (f : Form) (p k i : ℕ) (m : Mem) → Chooses p f → p �
 unfolding release_rule
 release-follows f p k i m chooses few =
     checked-row outcome_says _ _ _ (and-told _ _ (le-told (row_in m i).read (row_in m i).write) (le-told (row_in m i).write (tasks m))) (λ _.
-    refuse-row outcome_says _ nothing_there 0 _ _ (same-told (row_in m i).read (row_in m i).write)
+    refuse-row outcome_says _ NothingThere _ _ (same-told (row_in m i).read (row_in m i).write)
     (checked-row outcome_says _ _ _ (lt-told (oldest m i) (tasks m)) (λ _.
     checked-row outcome_says _ _ _ (and-told _ _ (le-told (first_succ m (oldest m i)) (past_succ m (oldest m i))) (le-told (past_succ m (oldest m i)) (edges m))) (λ _.
     checked-row outcome_says _ _ _ (lt-told (row_in m i).cursor (succ_count m (oldest m i))) (λ _.

@@ -4,13 +4,11 @@ use Prim.Native.Nat.{ℕ}
 use mathlib.Core.Path.{◌≡◌, sym, ap, ◌∙◌}
 use Rattle.lists.proofs.Apart.{unequal}
 use Rattle.task.specs.Types.{engine}
-use Rattle.task.specs.Refusals.{Said, refused}
-use Rattle.task.specs.declared.Answer.{Answer}
+use Rattle.task.specs.Refusals.{Said, refused, Answer}
 use Rattle.task.specs.declared.Step.{Step}
 use Rattle.task.specs.declared.Step.TheVariants.{Fetch}
 use Rattle.weak_task.specs.Types.{Copy, copy}
-use Rattle.weak_task.specs.Says.{copy_fetched, step_says}
-use Rattle.weak_task.specs.declared.WeakAnswer.{WeakAnswer}
+use Rattle.weak_task.specs.Says.{WeakAnswer, copy_fetched, step_says}
 use Rattle.weak_rules.specs.Memory.{Mem}
 use Rattle.weak_rules.specs.Plans.{Result}
 use Rattle.weak_rules.specs.Steps.{step}

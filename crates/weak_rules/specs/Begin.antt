@@ -1,9 +1,9 @@
 -- Begin of a weak job: the checks "2, 1, 3, 4, 5, 6" (`begin_answer`), then the memory is laid down.
+use Rattle.task.specs.Refusals.{Answer}
 use Rattle.std.specs.Prelude.{ℕ, ◌%◌, max, List, [], ◌∷◌, length, replicate, set, pos}
 use Rattle.lists.specs.Lists.{tabulate}
 use Rattle.task.specs.Types.{nil}
 use Rattle.task.specs.declared.Limits.{Limits}
-use Rattle.task.specs.declared.Answer.{Answer}
 use Rattle.graph.specs.Graph.{Graph, preds_of}
 use Rattle.graph.specs.Successors.{succ_starts_of, succ_words, roots}
 use Rattle.weak_task.specs.Types.{copy, idle, unfixed}

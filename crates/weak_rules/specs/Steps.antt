@@ -1,17 +1,17 @@
 -- The four steps of a weak job, each as its sentences go: P workers, K slots, worker i. A definition stands above what uses it, so a step is
 -- read from its rule (`fetch_rule`, `start_rule`, `complete_rule`, `release_rule`) upward. Where document 02's No. 6 says nothing, a step is document
 -- 01's.
+use Rattle.task.specs.declared.refusal.Refusal.TheVariants.{Damaged, NothingThere, RecordFull, RingsFull}
 use Rattle.std.specs.Prelude.{ℕ, ◌+◌, ◌-◌, cond, List, [], ◌∷◌, eqb, pos, ◌-ℤ◌}
 use Rattle.lists.specs.Circles.{after}
 use Rattle.task.specs.Types.{nil}
 use Rattle.task.specs.Phases.{leads_to}
-use Rattle.task.specs.Refusals.{damaged, nothing_there, rings_full, record_full}
 use Rattle.task.specs.declared.Limits.{Limits}
 use Rattle.task.specs.declared.Step.{Step}
 use Rattle.task.specs.declared.Step.TheVariants.{Fetch, Start, Complete, Release}
+use Rattle.weak_task.specs.Says.{WeakAnswer}
 use Rattle.weak_task.specs.Types.{Copy, copy, task_copy, unfixed}
 use Rattle.weak_task.specs.declared.WeakRow.{WeakRow}
-use Rattle.weak_task.specs.declared.WeakAnswer.{WeakAnswer}
 use Rattle.weak_task.specs.declared.WeakOutcome.TheVariants.{Moved, Fetched, Placed}
 use Rattle.ring.specs.Ring.{full, head_on}
 use Rattle.choice.specs.Form.{Form}
@@ -36,8 +36,8 @@ fetch_copy p k i m j c =
 
 -- 10: "Fetch: all P rings empty"
 unfoldable pub fetch_from : ℕ → ℕ → ℕ → Mem → Found → Plan
-fetch_from p k i m unsound = refuse damaged 0
-fetch_from p k i m none = refuse nothing_there 0
+fetch_from p k i m unsound = refuse Damaged
+fetch_from p k i m none = refuse NothingThere
 fetch_from p k i m (at j) = fetch_copy p k i m j (head_item k m (ring_number p i j))
 
 unfoldable pub fetch_rule : ℕ → ℕ → ℕ → Mem → Plan
@@ -97,7 +97,7 @@ unfoldable pub complete_rule : ℕ → ℕ → Mem → Plan
 complete_rule p i m =
     checked (roots_fit m)
     (checked (entries_fit m)
-    (refuse_if (eqb (entries_in m) (all_entries m)) record_full 0
+    (refuse_if (eqb (entries_in m) (all_entries m)) RecordFull
     (checked (copy_fits m (held m i))
     (checked (degree_fits m (degree_in m (held m i).task))
     (cond (eqb (degree_in m (held m i).task) 1) (complete_last p i m) (complete_copy i m))))))
@@ -114,8 +114,8 @@ advance i m = put_places i (advanced (succ_count m (oldest m i)) (row_in m i))
 -- 11: all P rings filled by this worker are full; its detail is "the successor". Else the copy joins the ring found, "Weight joins with the first copy",
 -- and the owner of the ring really used is "the task's worker"
 unfoldable pub release_to : Form → ℕ → ℕ → ℕ → Mem → Found → Plan
-release_to f p k i m unsound = refuse damaged 0
-release_to f p k i m none = refuse rings_full (successor m i)
+release_to f p k i m unsound = refuse Damaged
+release_to f p k i m none = refuse (RingsFull (successor m i))
 release_to f p k i m (at o) =
     checked (f.fits_at (ring_number p o i))
     (checked (weight_fits m (successor m i))
@@ -131,7 +131,7 @@ release_first f p k i m = checked f.fits (release_to f p k i m (find_room p k i 
 unfoldable pub release_later : ℕ → ℕ → ℕ → Mem → ℕ → Plan
 release_later p k i m o =
     checked (ends_fit k m (ring_number p o i))
-    (refuse_if (full k (ends_in m (ring_number p o i))) rings_full (successor m i)
+    (refuse_if (full k (ends_in m (ring_number p o i))) (RingsFull (successor m i))
     (counted m (Placed (task_copy (made_copy m i)) (record { 0 = o })) (advance i m ∷ append p k o i (made_copy m i) m)))
 
 -- 10: "Release: buffer empty"; else "the oldest task in i's buffer, its successor s at the cursor", and the worker that s is fixed to. The degree isn't
@@ -139,7 +139,7 @@ release_later p k i m o =
 unfoldable pub release_rule : Form → ℕ → ℕ → ℕ → Mem → Plan
 release_rule f p k i m =
     checked (places_fit m (row_in m i).read (row_in m i).write)
-    (refuse_if (eqb (row_in m i).read (row_in m i).write) nothing_there 0
+    (refuse_if (eqb (row_in m i).read (row_in m i).write) NothingThere
     (checked (task_fits m (oldest m i))
     (checked (range_fits m (oldest m i))
     (checked (cursor_fits m (oldest m i) (row_in m i).cursor)

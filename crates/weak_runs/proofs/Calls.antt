@@ -4,14 +4,13 @@ use Prim.Native.Nat.{ℕ}
 use mathlib.Core.Path.{◌≡◌, refl, ap}
 use mathlib.Core.List.{List, [], ◌∷◌}
 use lib.ListN.{length}
+use Rattle.std.specs.Prelude.{Err, Ok}
 use Rattle.lists.proofs.Decided.{both?}
 use Rattle.task.specs.Types.{engine}
-use Rattle.task.specs.Refusals.{Said, accepted, answer_says}
+use Rattle.task.specs.Refusals.{Said, accepted, answer_says, Answer}
 use Rattle.task.specs.Rows.{Acceptance}
 use Rattle.task.specs.declared.Limits.{Limits}
 use Rattle.task.specs.declared.Step.{Step}
-use Rattle.task.specs.declared.Answer.{Answer}
-use Rattle.task.specs.declared.Answer.TheVariants as answer
 use Rattle.machine.specs.Machine.{event_of, events_after}
 use Rattle.machine.specs.Standing.{calls_of, kept_in}
 use Rattle.machine.proofs.Jobs as jobs
@@ -49,8 +48,8 @@ weak-laws =
     same p k p' k' (no n) f = absurd (f n)
 
     alone : (a : Answer) → Acceptance (answer_says a) → answer_says a ≡ accepted
-    alone (answer.Refused n d) h = absurd h
-    alone answer.Accepted h = refl
+    alone (Err why) h = absurd h
+    alone (Ok u) h = refl
 
 -- I is a property of the memory and the run's events so far
 module _ (p k : ℕ) (I : Mem → List Event → Type 0)

@@ -7,17 +7,15 @@ use mathlib.Core.List.{List}
 use native.Mathlib.Omega.{arith}
 use native.Mathlib.Decide.{ℕ_discrete}
 use lib.ListN.{length, get_or}
+use Rattle.std.specs.Prelude.{Err}
+use Rattle.task.specs.declared.refusal.Refusal.TheVariants.{BeyondLimit}
 use Rattle.lists.specs.Decided.{tally}
 use Rattle.lists.specs.Lists.{tabulate, occ_of}
 use Rattle.lists.proofs.Sums.{sum-zero}
-use Rattle.task.specs.Refusals.{answer_says}
-use Rattle.task.specs.declared.Answer.{Answer}
-use Rattle.task.specs.declared.Answer.TheVariants as answer
+use Rattle.task.specs.Refusals.{answer_says, Answer}
 use Rattle.task.specs.declared.Step.{Step}
 use Rattle.task.specs.declared.Step.TheVariants.{Complete}
-use Rattle.weak_task.specs.Says.{step_says}
-use Rattle.weak_task.specs.declared.WeakAnswer.{WeakAnswer}
-use Rattle.weak_task.specs.declared.WeakAnswer.TheVariants.{Refused}
+use Rattle.weak_task.specs.Says.{WeakAnswer, step_says}
 use Rattle.graph.specs.Graph.{Graph, preds_of}
 use Rattle.graph.specs.Conditions.{EndsFit}
 use Rattle.graph.proofs.Reversed.{length-roots}
@@ -143,8 +141,8 @@ beyond-limits r limits p k n = (
   (ap (λ (x : Result Answer). answer_says x.answer) two.0, ap (λ (x : Result Answer). x.memory) two.0),
 )
   where
-    two : (begin limits p k (memory_of r) ≡ result_of (answer.Refused 2 0) (memory_of r))
-        × ((i : ℕ) (s : Step) → step limits p k i s (memory_of r) ≡ result_of (Refused 2 0) (memory_of r))
+    two : (begin limits p k (memory_of r) ≡ result_of (Err BeyondLimit) (memory_of r))
+        × ((i : ℕ) (s : Step) → step limits p k i s (memory_of r) ≡ result_of (Err BeyondLimit) (memory_of r))
     two = beyond-2 limits p k (memory_of r) (λ w. n (rw (sym (tasks-reached r), sym (edges-reached r)) w))
 
 -- so the run keeps the limits of every step and begin that is accepted, whatever its P and K

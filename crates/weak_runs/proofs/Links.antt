@@ -2,13 +2,11 @@
 -- and of the lookup's judging call, which writes nothing.
 use Prim.Native.Nat.{ℕ}
 use mathlib.Core.Path.{◌≡◌, refl, sym, ap, ◌∙◌}
-use Rattle.task.specs.Refusals.{Said, answer_says}
-use Rattle.task.specs.declared.Answer.{Answer}
+use Rattle.task.specs.Refusals.{Said, answer_says, Answer}
 use Rattle.task.specs.declared.Limits.{Limits}
 use Rattle.task.specs.declared.Side.{Side}
 use Rattle.task.specs.declared.Step.{Step}
-use Rattle.weak_task.specs.Says.{step_says}
-use Rattle.weak_task.specs.declared.WeakAnswer.{WeakAnswer}
+use Rattle.weak_task.specs.Says.{WeakAnswer, step_says}
 use Rattle.graph.specs.Lookup.{lent_of, judge_answer}
 use Rattle.weak_rules.specs.Memory.{Mem}
 use Rattle.weak_rules.specs.Plans.{Result, result_of}

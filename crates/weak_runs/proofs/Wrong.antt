@@ -9,22 +9,20 @@ use native.Mathlib.Omega.{arith}
 use native.Mathlib.Decide.{ℕ_discrete, dec_le, dec_lt}
 use lib.ListN.{length, drop, replicate}
 use lib.Dec.{eqb}
+use Rattle.std.specs.Prelude.{Err, Ok}
 use Rattle.lists.specs.Decided.{first_below}
 use Rattle.lists.specs.Lists.{occ_of, place_of, joined, tabulate, all_of}
 use Rattle.lists.specs.Sums.{sum_to, sum_to_z}
 use Rattle.lists.specs.Circles.{after, around}
 use Rattle.task.specs.Types.{nil, engine, capped}
 use Rattle.task.specs.Phases.{next_phase, step_number}
-use Rattle.task.specs.Refusals.{Said, accepted, wrong_phase, rings_full, answer_says}
+use Rattle.task.specs.Refusals.{refusal_number, Said, accepted, wrong_phase, rings_full, answer_says, Answer}
 use Rattle.task.specs.Rows.{Acceptance}
-use Rattle.task.specs.declared.Answer.{Answer}
-use Rattle.task.specs.declared.Answer.TheVariants.{Refused, Accepted}
 use Rattle.task.specs.declared.Limits.{Limits}
 use Rattle.task.specs.declared.Step.{Step}
 use Rattle.task.specs.declared.Step.TheVariants.{Fetch, Start, Complete, Release}
 use Rattle.weak_task.specs.Types.{task_copy}
-use Rattle.weak_task.specs.Says.{step_says}
-use Rattle.weak_task.specs.declared.WeakAnswer.{WeakAnswer}
+use Rattle.weak_task.specs.Says.{WeakAnswer, step_says}
 use Rattle.weak_task.specs.declared.WeakOutcome.TheVariants.{Moved, Placed}
 use Rattle.weak_task.specs.declared.WeakRow.{WeakRow}
 use Rattle.graph.specs.Graph.{part}
@@ -218,7 +216,7 @@ but_for other plan =
 
 -- where a plan accepts, it writes these too, after its own updates
 abbrev pub also_writing : Plan → List Update → Plan
-also_writing (refuse n d) us = refuse n d
+also_writing (refuse why) us = refuse why
 also_writing (accept o vs) us = accept o (vs ++ us)
 
 -- a Complete with which every copy completes its task: the rule's plan for a degree of 1
@@ -246,8 +244,8 @@ skips_last =
 
 -- a Release that drops the copy when the rings are full: where the rule refuses with 11, it goes on
 abbrev pub dropping : ℕ → Mem → Plan → Plan
-dropping i m (refuse n d) =
-    cond (eqb n rings_full) (counted m (Placed (task_copy (made_copy m i)) (record { 0 = i })) (advance i m ∷ [])) (refuse n d)
+dropping i m (refuse why) =
+    cond (eqb (refusal_number why) rings_full) (counted m (Placed (task_copy (made_copy m i)) (record { 0 = i })) (advance i m ∷ [])) (refuse why)
 dropping i m (accept o us) = accept o us
 
 abbrev pub drops_when_full : jobs.Engine Mem
@@ -263,10 +261,10 @@ no_record =
 
 -- a begin that forgets the first root
 abbrev pub begin_without : Answer → ℕ → ℕ → Mem → Result Answer
-begin_without (Refused n d) p k m = record { answer = Refused n d; memory = m }
-begin_without Accepted p k m =
+begin_without (Err why) p k m = record { answer = Err why; memory = m }
+begin_without (Ok tt) p k m =
     record {
-      answer = Accepted;
+      answer = Ok tt;
       memory = roots_laid p k (λ t. copy t nil.0) (λ n t. put_fixed t (n % p) ∷ []) 0 (drop 1 (roots (graph_in m))) (cleared m);
     }
 
@@ -275,8 +273,8 @@ forgets_root = program_of (λ limits p k m. begin_without (begin_answer limits p
 
 -- a begin that is refused and clears the memory
 abbrev pub clearing : Answer → Mem → Result Answer
-clearing (Refused n d) m = record { answer = Refused n d; memory = cleared m }
-clearing Accepted m = record { answer = Accepted; memory = m }
+clearing (Err why) m = record { answer = Err why; memory = cleared m }
+clearing (Ok u) m = record { answer = Ok tt; memory = m }
 
 abbrev pub clears_refused : jobs.Engine Mem
 clears_refused = program_of (λ limits p k m. clearing (begin limits p k m).answer (begin limits p k m).memory) step
@@ -287,8 +285,8 @@ never_counts = program_of begin (λ limits p k i s m. carried_out (also_writing 
 
 -- "an accepted word that is invented": begin writes 4E + 3R there, and each step follows the rule as if it were 0, and puts the old word back
 abbrev pub word_invented : Answer → Mem → Result Answer
-word_invented (Refused n d) m = record { answer = Refused n d; memory = m }
-word_invented Accepted m = record { answer = Accepted; memory = written (put_accepted (all_steps m) ∷ []) m }
+word_invented (Err why) m = record { answer = Err why; memory = m }
+word_invented (Ok u) m = record { answer = Ok tt; memory = written (put_accepted (all_steps m) ∷ []) m }
 
 abbrev pub invents_word : jobs.Engine Mem
 invents_word =
@@ -297,7 +295,7 @@ invents_word =
 
 -- a Start that is "accepted with nothing moved" where it doesn't suit the phase
 abbrev pub idling : Plan → Plan
-idling (refuse n d) = cond (eqb n wrong_phase) (accept Moved []) (refuse n d)
+idling (refuse why) = cond (eqb (refusal_number why) wrong_phase) (accept Moved []) (refuse why)
 idling (accept o us) = accept o us
 
 abbrev pub starts_again : jobs.Engine Mem

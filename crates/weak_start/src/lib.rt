@@ -3,18 +3,16 @@
 
 ghost use Rattle.std.specs.Prelude.{◌≡◌, length};
 ghost use Rattle.weak_admission.specs.Admission.{Knows};
-ghost use Rattle.weak_admission.specs.declared.WeakSizes.{WeakSizes};
 ghost use Rattle.weak_start.specs.Start.{Starts, PhaseAlone};
 
-use admission::Judged;
-use task::{Step, WorkerId, refusal};
-use weak_admission::{Counted, WeakAdmitted, WeakSizes, WeakStepped};
+use task::{Answer, Step, WorkerId};
+use weak_admission::{WeakSizes, WeakStepped};
 use weak_task::{WeakOutcome, WeakRow};
 
 // Start by a worker with this row, after what was judged; `sizes` are the lengths of all lent lists.
 pub fn start_row(
     sizes: WeakSizes,
-    judged: Judged,
+    judged: Answer,
     p: usize,
     k: usize,
     worker: WorkerId,
@@ -25,15 +23,8 @@ pub fn start_row(
     ensures starts { Starts p k worker.0 sizes judged row run.old run.new result }
     ensures phase_alone { PhaseAlone row result }
 {
-    let admitted = weak_admission::admit(judged, row, Step::Start);
-    let after = match admitted {
-        WeakAdmitted::Refused(number, detail) => return WeakStepped::Refused(number, detail),
-        WeakAdmitted::To(after) => after,
-    };
-    let counted = weak_admission::count_of(run, sizes.weights, sizes.preds);
-    let Counted::At(accepted) = counted else {
-        return WeakStepped::Refused(refusal::DAMAGED, 0);
-    };
+    let after = weak_admission::admit(judged, row, Step::Start)?;
+    let accepted = weak_admission::count_of(run, sizes.weights, sizes.preds)?;
     run[1] = accepted + 1;
-    WeakStepped::Taken(WeakOutcome::Moved, after)
+    Ok((WeakOutcome::Moved, after))
 }

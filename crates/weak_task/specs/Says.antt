@@ -1,11 +1,14 @@
 -- What each answer of a weak step says in the paper's terms.
-use Rattle.std.specs.Prelude.{ℕ, [], ◌∷◌}
-use Rattle.task.specs.Refusals.{Said, refused, answered, accepted}
+use Rattle.std.specs.Prelude.{ℕ, [], ◌∷◌, Result, Ok, Err}
+use Rattle.task.specs.Refusals.{Said, answered, accepted, refusal_says}
+use Rattle.task.specs.declared.refusal.Refusal.{Refusal}
 use Rattle.weak_task.specs.Types.{Copy, copy_of}
 use Rattle.weak_task.specs.declared.WeakOutcome.{WeakOutcome}
 use Rattle.weak_task.specs.declared.WeakOutcome.TheVariants.{Moved, Fetched, Placed}
-use Rattle.weak_task.specs.declared.WeakAnswer.{WeakAnswer}
-use Rattle.weak_task.specs.declared.WeakAnswer.TheVariants as weak-answer
+
+-- what a weak step answers: its outcome, or why it is refused
+abbrev pub WeakAnswer : Type 0
+WeakAnswer = Result WeakOutcome Refusal
 
 -- "Fetch answers the copy"
 abbrev pub copy_fetched : Copy → Said
@@ -21,5 +24,5 @@ outcome_says (Fetched c) = copy_fetched (copy_of c)
 outcome_says (Placed c o) = copy_placed (copy_of c) o.0
 
 abbrev pub step_says : WeakAnswer → Said
-step_says (weak-answer.Refused n d) = refused n d
-step_says (weak-answer.Accepted o) = outcome_says o
+step_says (Err why) = refusal_says why
+step_says (Ok o) = outcome_says o

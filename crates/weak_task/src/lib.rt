@@ -4,7 +4,7 @@
 ghost use Rattle.std.specs.Prelude.{◌≡◌};
 ghost use Rattle.weak_task.specs.Types.{no_copy, idle};
 
-use task::{TaskId, WorkerId};
+use task::{Refusal, TaskId, WorkerId};
 
 // What a task's fixed word holds as long as it has no worker.
 pub const UNFIXED: WorkerId = WorkerId(65535);
@@ -84,9 +84,5 @@ pub enum WeakOutcome {
     Placed(TaskCopy, WorkerId),
 }
 
-// A weak step's answer: refused with its number and detail, or accepted with its outcome.
-#[derive(Clone, Copy)]
-pub enum WeakAnswer {
-    Refused(u32, u32),
-    Accepted(WeakOutcome),
-}
+// A weak step's answer: its outcome, or refused.
+pub type WeakAnswer = Result<WeakOutcome, Refusal>;

@@ -9,13 +9,13 @@ use native.Mathlib.Numerals.{add-one}
 use borrow.Author.Tests.{leb-true, eqb-true, lt-ltb, le-ltb, eq-eqb, ne_eqb, not-true, not-false}
 use lib.Dec.{ltb, leb, eqb}
 use lib.ListN.{length, get_or}
+use Rattle.std.specs.Prelude.{Err, Ok}
+use Rattle.task.specs.declared.refusal.Refusal.TheVariants.{BadWindow, BeyondLimit, Damaged, WrongLength}
 use Rattle.lists.proofs.Told.{and-true}
 use Rattle.lists.proofs.Apart.{true-and-false}
 use Rattle.task.specs.Types.{capped}
-use Rattle.task.specs.Refusals.{wrong_length, beyond_limit, damaged, bad_window}
+use Rattle.task.specs.Refusals.{Answer}
 use Rattle.task.specs.declared.Limits.{Limits}
-use Rattle.task.specs.declared.Answer.{Answer}
-use Rattle.task.specs.declared.Answer.TheVariants.{Refused, Accepted}
 use Rattle.loads.specs.Windows.{task_at, worker_at, entries_word, window_count, counts_fit, entry_fits, record_fits, windows_answer}
 use Rattle.loads.proofs.Windows.{each_fits}
 
@@ -85,37 +85,37 @@ module _ (limits : Limits) (p m : ℕ) (weights executed run : List ℕ) (room :
   abbrev found : Answer
   found = windows_answer limits p m weights executed run room
 
-  pub judge-far : not b ≡ true → Refused beyond_limit 0 ≡ found
+  pub judge-far : not b ≡ true → Err BeyondLimit ≡ found
   unfolding windows_answer
   judge-far h = rw (← hb, h)
 
   module _ (h1 : not b ≡ false) where
-    pub judge-long : not (eqb (length executed) (2 * length weights) && eqb (length run) 2) ≡ true → Refused wrong_length 0 ≡ found
+    pub judge-long : not (eqb (length executed) (2 * length weights) && eqb (length run) 2) ≡ true → Err WrongLength ≡ found
     unfolding windows_answer
     judge-long h = rw (← hb, h1, h)
 
     module _ (h2 : not (eqb (length executed) (2 * length weights) && eqb (length run) 2) ≡ false) where
-      pub judge-over : length weights < entries_word run → Refused damaged 0 ≡ found
+      pub judge-over : length weights < entries_word run → Err Damaged ≡ found
       unfolding windows_answer
       judge-over h = rw (← hb, h1, h2, lt-ltb (length weights) (entries_word run) h)
 
       module _ (h3 : entries_word run ≤ length weights) where
-        pub judge-odd : not (leb 1 m && leb m (entries_word run)) ≡ true → Refused bad_window 0 ≡ found
+        pub judge-odd : not (leb 1 m && leb m (entries_word run)) ≡ true → Err BadWindow ≡ found
         unfolding windows_answer
         judge-odd h = rw (← hb, h1, h2, le-ltb (length weights) (entries_word run) h3, h)
 
         module _ (h4 : not (leb 1 m && leb m (entries_word run)) ≡ false) where
-          pub judge-room : ¬ (room ≡ window_count (entries_word run) m * (p + 1)) → Refused wrong_length 0 ≡ found
+          pub judge-room : ¬ (room ≡ window_count (entries_word run) m * (p + 1)) → Err WrongLength ≡ found
           unfolding windows_answer
           judge-room h = rw (← hb, h1, h2, le-ltb (length weights) (entries_word run) h3, h4, ne_eqb room (window_count (entries_word run) m * (p + 1)) h)
 
           module _ (h5 : room ≡ window_count (entries_word run) m * (p + 1)) {c : Bool} (hc : c ≡ record_fits p weights executed (entries_word run)) where
-            pub judge-bad : not c ≡ true → Refused damaged 0 ≡ found
+            pub judge-bad : not c ≡ true → Err Damaged ≡ found
             unfolding windows_answer
             judge-bad h =
                 rw (← hb, h1, h2, le-ltb (length weights) (entries_word run) h3, h4, eq-eqb room (window_count (entries_word run) m * (p + 1)) h5, ← hc, h)
 
-            pub judge-good : not c ≡ false → Accepted ≡ found
+            pub judge-good : not c ≡ false → Ok tt ≡ found
             unfolding windows_answer
             judge-good h =
                 rw (← hb, h1, h2, le-ltb (length weights) (entries_word run) h3, h4, eq-eqb room (window_count (entries_word run) m * (p + 1)) h5, ← hc, h)

@@ -3,17 +3,18 @@ use Prim.Native.Nat.{ℕ, suc, ◌+◌, ◌-◌, ◌*◌, ◌≤◌, ◌<◌, mi
 use mathlib.Core.Path.{◌≡◌, refl, sym, ap, ◌∙◌}
 use mathlib.Core.List.{List, [], ◌∷◌, ◌++◌, append_assoc}
 use native.Mathlib.Omega.{arith}
-use native.Mathlib.Nat.{zero-mul, one-mul, suc-mul, mul-le-mul, le_refl, le_trans, min-le_left, le-max_left, min-eq_left, max-eq_left}
+use native.Mathlib.Nat.{zero-mul, one-mul, suc-mul, le_refl, le_trans, min-le_left, le-max_left, min-eq_left, max-eq_left}
 use native.Mathlib.Numerals.{add-one}
-use lib.ListN.{length, get_or, take, drop, set, replicate, length-set, length-append, length-drop}
-use lib.Seq.{drop-cons, drop-length, take-length, take_all, take_at, set_at, length-take-le, get_or-take}
+use lib.ListN.{length, get_or, take, drop, set, replicate, length-append, length-drop}
+use lib.Seq.{drop-cons, drop-length, take_all, take_at, set_at, length-take-le, get_or-take}
+use Rattle.std.specs.Prelude.{Err, Ok}
+use Rattle.task.specs.declared.refusal.Refusal.{Refusal}
+use Rattle.task.specs.Refusals.{Answer}
 use Rattle.lists.specs.Lists.{joined}
 use Rattle.lists.proofs.Blocks.{is-tabulate}
-use Rattle.lists.proofs.Prefixes.{copy_more, length-copy, zeros}
+use Rattle.lists.proofs.Prefixes.{zeros}
 use Rattle.lists.proofs.Places.{place_end}
 use Rattle.task.specs.declared.Limits.{Limits}
-use Rattle.task.specs.declared.Answer.{Answer}
-use Rattle.task.specs.declared.Answer.TheVariants.{Refused, Accepted}
 use Rattle.loads.specs.Windows.{entries_word, load_in, window_sums, largest_of, smallest_of, spread_of, with_spread, window_words, window_count, windows, Spans, windows_answer, shown_as, window_loads}
 use Rattle.loads.proofs.Windows.{words_size, call-is, Admitted, admitted}
 use Rattle.loads.proofs.Sums.{load-none}
@@ -24,63 +25,43 @@ spread-first : (x : ℕ) (l : List ℕ) → spread_of (x ∷ l) ≡ largest_of x
 unfolding spread_of largest_of smallest_of
 spread-first x l = rw (max-eq_left (le_refl x), min-eq_left (le_refl x))
 
--- A window's words put, i sums of them: what is left of the spread, and the list.
-module _ (sums before : List ℕ) where
-  pub record Putting (out : List ℕ) (low high i : ℕ) : Type 0 where
+-- The spread of the sums, i of them looked at.
+module _ (sums : List ℕ) where
+  pub record Spreading (low high i : ℕ) : Type 0 where
     pub order : low ≤ high
-    pub copied : out ≡ take i sums ++ drop i before
     pub left : spread_of sums ≡ largest_of high (drop i sums) - smallest_of low (drop i sums)
 
-  pub none-put : 1 ≤ length sums → Putting before (get_or sums 0 0) (get_or sums 0 0) 0
-  none-put h = record { order = omega arith; copied = refl; left = first sums h }
+  pub spread-none : 1 ≤ length sums → Spreading (get_or sums 0 0) (get_or sums 0 0) 0
+  spread-none h = record { order = omega arith; left = first sums h }
     where
       first : (l : List ℕ) → 1 ≤ length l → spread_of l ≡ largest_of (get_or l 0 0) (drop 0 l) - smallest_of (get_or l 0 0) (drop 0 l)
       first [] h = absurd (omega arith)
       first (x ∷ l) h = spread-first x l
 
-  module _ (out : List ℕ) (low high i : ℕ) (q : Putting out low high i) where
-    pub out-size : i ≤ length sums → length before ≡ length sums + 1 → length out ≡ length before
-    out-size h size = rw q.copied (length-copy sums before i h (omega (arith, h, size)))
-
-    pub out-kept : (x : ℕ) → i ≤ length sums → length before ≡ length sums + 1 → length (set out i x) ≡ length before
-    out-kept x h size = length-set out i x ∙ out-size h size
-
-    pub next-put : {lower higher : ℕ} → i < length sums → length before ≡ length sums + 1 → lower ≡ min low (get_or sums i 0)
-        → higher ≡ max high (get_or sums i 0)
-        → Putting (set out i (get_or sums i 0)) lower higher (i + 1)
+  module _ (low high i : ℕ) (q : Spreading low high i) where
+    pub spread-next : i < length sums → Spreading (min low (get_or sums i 0)) (max high (get_or sums i 0)) (i + 1)
     unfolding largest_of smallest_of
-    next-put h size lowest highest =
-        rw (lowest, highest) next
-      where
-        next : Putting (set out i (get_or sums i 0)) (min low (get_or sums i 0)) (max high (get_or sums i 0)) (i + 1)
-        next =
-            record {
-              order = le_trans (min-le_left low (get_or sums i 0)) (le_trans q.order (le-max_left high (get_or sums i 0)));
-              copied = rw q.copied (copy_more sums before i h (omega (arith, h, size)));
-              left =
-                  q.left
-                  ∙ ap (λ (l : List ℕ). largest_of high l - smallest_of low l)
-                  (drop-cons sums i 0 h ∙ ap (λ (k : ℕ). get_or sums i 0 ∷ drop k sums) (sym (add-one i)));
-            }
+    spread-next h =
+        record {
+          order = le_trans (min-le_left low (get_or sums i 0)) (le_trans q.order (le-max_left high (get_or sums i 0)));
+          left =
+              q.left
+              ∙ ap (λ (l : List ℕ). largest_of high l - smallest_of low l)
+              (drop-cons sums i 0 h ∙ ap (λ (k : ℕ). get_or sums i 0 ∷ drop k sums) (sym (add-one i)));
+        }
 
-    pub all-put : i ≡ length sums → length before ≡ length sums + 1 → set out i (high - low) ≡ with_spread sums
+    -- the sums in their places, the spread behind them
+    pub spread-put : i ≡ length sums → (rest : List ℕ) → length rest ≡ 1 → set (sums ++ rest) (length sums) (high - low) ≡ with_spread sums
     unfolding with_spread largest_of smallest_of
-    all-put h size =
-        rw (q.copied, h, take-length sums, drop-cons before (length sums) 0 (omega (arith, size)))
-        (set_at sums (get_or before (length sums) 0) (drop (suc (length sums)) before) (high - low) (length sums) refl
-        ∙ ap (λ (l : List ℕ). sums ++ l) last)
+    spread-put h [] size = absurd (omega arith)
+    spread-put h (x ∷ []) size = set_at sums x [] (high - low) (length sums) refl ∙ ap (λ (s : ℕ). sums ++ (s ∷ [])) (sym spread)
       where
-        end : drop (suc (length sums)) before ≡ []
-        end = rw (← add-one (length sums), ← size) (drop-length before)
-
         none : drop i sums ≡ []
         none = rw h (drop-length sums)
 
         spread : spread_of sums ≡ high - low
         spread = q.left ∙ ap (λ (l : List ℕ). largest_of high l - smallest_of low l) none
-
-        last : (high - low) ∷ drop (suc (length sums)) before ≡ spread_of sums ∷ []
-        last = rw (end, spread)
+    spread-put h (x ∷ y ∷ l) size = absurd (omega arith)
 
 -- words in the place of as many others
 module _ (l words : List ℕ) (at k : ℕ) (size : length words ≡ k) (room : at + k ≤ length l) where
@@ -118,82 +99,45 @@ module _ (p : ℕ) (weights executed : List ℕ) (entries m : ℕ) where
   window-size : (w : ℕ) (sums words : List ℕ) → sums ≡ window_sums p weights executed m w → words ≡ with_spread sums → length words ≡ p + 1
   window-size w sums words e f = ap length (f ∙ ap with_spread e) ∙ words_size p weights executed m w
 
-  -- fewer entries
-  pub fewer : Spans p weights executed entries m → (n : ℕ) → m ≤ n → n ≤ entries → Spans p weights executed n m
-  fewer spans n some h =
-      record {
-        some_workers = spans.some_workers;
-        few_workers = spans.few_workers;
-        some_entries = spans.some_entries;
-        window = some;
-        few_entries = omega (arith, h, spans.few_entries);
-        inside = omega (arith, h, spans.inside);
-        recorded = λ x l. spans.recorded x (omega (arith, l, h));
-      }
-
   module _ (spans : Spans p weights executed entries m) (results : List ℕ) (size : length results ≡ window_count entries m * (p + 1)) where
-    pub first-room : p + 1 ≤ length results
+    first-room : p + 1 ≤ length results
     first-room = omega (arith, size, place_end (p + 1) (window_count entries m) 0 (omega (arith, spans.window)), zero-mul (p + 1))
 
-    pub first-put : (sums : List ℕ) → sums ≡ window_sums p weights executed m 0
-        → (1 ≤ length sums) × (length (take (p + 1 - 0) (drop 0 results)) ≡ length sums + 1)
-    first-put sums e = rw (sums-length p weights executed m 0 sums e) (
-      spans.some_workers,
-      length-take-le (p + 1 - 0) results (omega (arith, first-room)) ∙ omega arith,
-    )
-
     pub first-windows : (sums words : List ℕ) → sums ≡ window_sums p weights executed m 0 → words ≡ with_spread sums
-        → WindowsPut (words ++ drop (p + 1 - 0) (drop 0 results)) sums 0 (p + 1)
+        → WindowsPut (words ++ drop (p + 1) results) sums 0 (p + 1)
     unfolding joined
     first-windows sums words e f =
         record {
           now = e;
           place = omega (arith, one-mul (p + 1));
-          size = replaced-size results words 0 (p + 1 - 0) long room ∙ size;
+          size = replaced-size results words 0 (p + 1) long room ∙ size;
           words =
-              ap (λ (k : ℕ). take k (words ++ drop (p + 1 - 0) (drop 0 results))) end
-              ∙ replaced-front results words 0 (p + 1 - 0) long room
+              ap (λ (k : ℕ). take k (words ++ drop (p + 1) results)) end
+              ∙ replaced-front results words 0 (p + 1) long room
               ∙ f
               ∙ ap with_spread e;
           within = omega (arith, spans.window);
         }
       where
-        long : length words ≡ p + 1 - 0
+        long : length words ≡ p + 1
         long = omega (arith, window-size 0 sums words e f)
 
-        end : p + 1 ≡ 0 + (p + 1 - 0)
+        end : p + 1 ≡ 0 + (p + 1)
         end = omega arith
 
-        room : 0 + (p + 1 - 0) ≤ length results
+        room : 0 + (p + 1) ≤ length results
         room = omega (arith, first-room)
 
   module _ (spans : Spans p weights executed entries m) (results sums : List ℕ) (w at : ℕ) (s : WindowsPut results sums w at) (more : w + m < entries) where
     sums-here : length sums ≡ p
     sums-here = sums-length p weights executed m w sums s.now
 
-    pub slide-asks : (sums ≡ window_sums (length sums) weights executed m w) × Spans (length sums) weights executed (w + m + 1) m
-    slide-asks = rw sums-here (s.now, fewer spans (w + m + 1) (omega arith) (omega (arith, more)))
-
-    pub next-room : at + (p + 1) ≤ length results
+    next-room : at + (p + 1) ≤ length results
     next-room = omega (arith, s.size, s.place, place_end (p + 1) (window_count entries m) (w + 1) (omega (arith, more)))
-
-    pub place-few : at ≤ 17408
-    place-few =
-        omega (
-          arith,
-          s.place,
-          mul-le-mul {n₁ = w + 1} {m₁ = p + 1} {n₂ = 1024} {m₂ = 17} (omega (arith, more, spans.few_entries)) (omega (arith, spans.few_workers)),
-        )
 
     module _ (new : List ℕ) (e : new ≡ window_sums (length sums) weights executed m (w + 1)) where
       new-here : new ≡ window_sums p weights executed m (w + 1)
       new-here = rw sums-here at e
-
-      pub put-asks : (1 ≤ length new) × (length (take (at + (p + 1) - at) (drop at results)) ≡ length new + 1)
-      put-asks = rw (sums-length p weights executed m (w + 1) new new-here) (
-        spans.some_workers,
-        length-take-le (at + (p + 1) - at) (drop at results) (omega (arith, length-drop at results, next-room)) ∙ omega arith,
-      )
 
       pub next-window : (words : List ℕ) → words ≡ with_spread new
           → WindowsPut (take at results ++ (words ++ drop (at + (p + 1) - at) (drop at results))) new (w + 1) (at + (p + 1))
@@ -248,10 +192,10 @@ scratch-size p h = length-take-le p scratch h
 
 module _ (limits : Limits) (p m : ℕ) (weights executed run results : List ℕ) {a : Answer}
     (ha : a ≡ windows_answer limits p m weights executed run (length results)) where
-  pub call-refused : (n d : ℕ) → a ≡ Refused n d → shown_as (Refused n d) results ≡ window_loads limits p m weights executed run results
-  call-refused n d e = sym (call-is limits p m weights executed run results (Refused n d) (sym ha ∙ e))
+  pub call-refused : (why : Refusal) → a ≡ Err why → shown_as (Err why) results ≡ window_loads limits p m weights executed run results
+  call-refused why e = sym (call-is limits p m weights executed run results (Err why) (sym ha ∙ e))
 
-  module _ (e : a ≡ Accepted) where
+  module _ (e : a ≡ Ok tt) where
     given : Admitted limits p m weights executed run results
     given = admitted limits p m weights executed run results (sym ha ∙ e)
 
@@ -276,6 +220,6 @@ module _ (limits : Limits) (p m : ℕ) (weights executed run results : List ℕ)
             get_or-take p scratch i 0 (omega (arith, h, scratch-size p few-workers)) ∙ zeros 16 i ∙ sym (load-none weights executed 0 i)
 
     pub call-whole : (words : List ℕ) → words ≡ windows (length (take p scratch)) weights executed (entries_word run) m
-        → shown_as Accepted words ≡ window_loads limits p m weights executed run results
+        → shown_as (Ok tt) words ≡ window_loads limits p m weights executed run results
     call-whole words q =
-        ap (shown_as Accepted) (rw (scratch-size p few-workers) at q) ∙ sym (call-is limits p m weights executed run results Accepted (sym ha ∙ e))
+        ap (shown_as (Ok tt)) (rw (scratch-size p few-workers) at q) ∙ sym (call-is limits p m weights executed run results (Ok tt) (sym ha ∙ e))

@@ -2,10 +2,10 @@
 // can refuse is judged before the first result is written. From one window to the next one entry leaves the sums and one enters.
 #![tactic(auto)]
 
-ghost use Rattle.std.specs.Prelude.{◌≡◌, ◌+◌, ◌-◌, ◌*◌, ◌≤◌, ◌<◌, min, max, length, get_or, set};
-ghost use Rattle.loads.specs.Windows.{task_at, worker_at, weight_at, window_sums, with_spread, window_count, windows, counts_fit, entry_fits, record_fits, Recorded, Spans, windows_answer, shown_as, window_loads};
+ghost use Rattle.std.specs.Prelude.{◌≡◌, ◌+◌, ◌-◌, ◌*◌, ◌≤◌, ◌<◌, length, get_or, set};
+ghost use Rattle.loads.specs.Windows.{worker_at, weight_at, window_sums, with_spread, window_count, windows, counts_fit, entry_fits, record_fits, Recorded, Spans, windows_answer, shown_as, window_loads};
 
-use task::{Answer, Limits, refusal};
+use task::{Answer, Limits, Refusal};
 
 fn counts_fit(limits: Limits, p: usize, n: usize) -> bool
     ensures { result ≡ counts_fit limits p n }
@@ -32,12 +32,10 @@ fn record_fits(weights: &[u32], executed: &[u32], p: usize, n: usize) -> bool
     requires { 2 * n ≤ length executed.now }
     ensures { result ≡ record_fits p weights.now executed.now n }
 {
-    let mut x = 0;
-    while x < n {
+    for x in 0..n {
         if !entry_fits(weights, executed, p, x) {
             return false;
         }
-        x += 1;
     }
     true
 }
@@ -57,25 +55,25 @@ fn judge(
 {
     let n = weights.len();
     if !counts_fit(limits, p, n) {
-        return Answer::Refused(refusal::BEYOND_LIMIT, 0);
+        return Err(Refusal::BeyondLimit);
     }
     if !((executed.len() == 2 * n) & (run.len() == 2)) {
-        return Answer::Refused(refusal::WRONG_LENGTH, 0);
+        return Err(Refusal::WrongLength);
     }
     let entries = run[0] as usize;
     if n < entries {
-        return Answer::Refused(refusal::DAMAGED, 0);
+        return Err(Refusal::Damaged);
     }
     if !((1 <= m) & (m <= entries)) {
-        return Answer::Refused(refusal::BAD_WINDOW, 0);
+        return Err(Refusal::BadWindow);
     }
     if room != (entries - m + 1) * (p + 1) {
-        return Answer::Refused(refusal::WRONG_LENGTH, 0);
+        return Err(Refusal::WrongLength);
     }
     if !record_fits(weights, executed, p, entries) {
-        return Answer::Refused(refusal::DAMAGED, 0);
+        return Err(Refusal::Damaged);
     }
-    Answer::Accepted
+    Ok(())
 }
 
 // Entry x joins its worker's sum.
@@ -110,23 +108,9 @@ fn sum_first(sums: &mut [u32], weights: &[u32], executed: &[u32], m: usize)
         × Spans (length sums.old) weights.now executed.now m m }
     ensures { sums.new ≡ window_sums (length sums.old) weights.now executed.now m 0 }
 {
-    let mut x = 0;
-    while x < m {
+    for x in 0..m {
         enter(sums, weights, executed, x);
-        x += 1;
     }
-}
-
-fn lower(a: u32, b: u32) -> u32
-    ensures { result ≡ min a b }
-{
-    if a < b { a } else { b }
-}
-
-fn higher(a: u32, b: u32) -> u32
-    ensures { result ≡ max a b }
-{
-    if a < b { b } else { a }
 }
 
 // "exactly P+1 lent words per window, the spread last"
@@ -136,15 +120,13 @@ fn put_window(out: &mut [u32], sums: &[u32])
 {
     let mut low = sums[0];
     let mut high = sums[0];
-    let mut i = 0;
-    while i < sums.len() {
-        let sum = sums[i];
-        out[i] = sum;
-        low = lower(low, sum);
-        high = higher(high, sum);
-        i += 1;
+    for sum in sums {
+        low = low.min(*sum);
+        high = high.max(*sum);
     }
-    out[i] = high - low;
+    let p = sums.len();
+    out[..p].copy_from_slice(sums);
+    out[p] = high - low;
 }
 
 // From window w to the next one.
@@ -171,17 +153,13 @@ fn put_windows(
         × (length results.old ≡ window_count entries m * (length sums.old + 1)) }
     ensures { results.new ≡ windows (length sums.old) weights.now executed.now entries m }
 {
-    let p = sums.len();
-    let size = p + 1;
+    let size = sums.len() + 1;
     sum_first(sums, weights, executed, m);
-    put_window(&mut results[0..size], sums);
-    let mut w = 0;
-    let mut at = size;
-    while w + m < entries {
+    put_window(&mut results[..size], sums);
+    for w in 0..entries - m {
         slide(sums, weights, executed, m, w);
+        let at = (w + 1) * size;
         put_window(&mut results[at..at + size], sums);
-        w += 1;
-        at += size;
     }
 }
 
@@ -198,12 +176,9 @@ pub fn windows(
     ensures { shown_as result results.new
         ≡ window_loads limits p m weights.now executed.now run.now results.old }
 {
-    let judged = judge(weights, executed, run, results.len(), limits, p, m);
-    if let Answer::Refused(number, detail) = judged {
-        return Answer::Refused(number, detail);
-    }
+    judge(weights, executed, run, results.len(), limits, p, m)?;
     let entries = run[0] as usize;
     let mut sums = [0u32; 16];
     put_windows(results, &mut sums[..p], weights, executed, entries, m);
-    Answer::Accepted
+    Ok(())
 }

@@ -5,11 +5,10 @@ use mathlib.Core.Path.{◌≡◌, refl, ap, subst}
 use mathlib.Core.Logic.{◌↔◌}
 use mathlib.Core.List.{List}
 use native.Mathlib.Omega.{arith}
+use Rattle.std.specs.Prelude.{Err, Ok}
 use Rattle.task.specs.Types.{engine}
-use Rattle.task.specs.Refusals.{answer_says, detail_of}
+use Rattle.task.specs.Refusals.{answer_says, detail_of, Answer}
 use Rattle.task.specs.Rows.{Given, Acceptance}
-use Rattle.task.specs.declared.Answer.{Answer}
-use Rattle.task.specs.declared.Answer.TheVariants.{Refused, Accepted}
 use Rattle.task.proofs.Said.{zero-accepts}
 use Rattle.loads.specs.Windows.{window_loads, window_rows, ShowsLoads}
 use Rattle.loads.proofs.Windows.{windows-follow, windows-leaves, windows-shown}
@@ -35,11 +34,11 @@ module _ (p m : ℕ) (weights executed run results : List ℕ) where
       go : (a : Answer) → (window_loads engine p m weights executed run results).answer ≡ a
           → (heard.reply.number ≡ 0 → (heard.reply.detail ≡ 0) × ShowsLoads p m weights executed run heard.results)
           × (1 ≤ heard.reply.number → heard.results ≡ results)
-      go (Refused n d) e = (
+      go (Err why) e = (
         λ z. absurd (subst (λ a. Acceptance (answer_says a)) e (windows-zero.0 z)),
-        λ _. windows-leaves engine p m weights executed run results n d (ap answer_says e),
+        λ _. windows-leaves engine p m weights executed run results _ _ (ap answer_says e),
       )
-      go Accepted e = (
+      go (Ok u) e = (
         λ _. (ap (λ a. detail_of (answer_says a)) e, windows-shown engine p m weights executed run results (ap answer_says e)),
         λ h. absurd (omega (arith, rw e at h)),
       )

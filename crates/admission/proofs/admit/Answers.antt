@@ -1,12 +1,12 @@
+use mathlib.Core.Path.{◌∙◌}
+use Rattle.std.proofs.lemmas.Result.{err_from_is_err_and}
 use Rattle.admission.proofs.Phase.{row-refused, row-admitted}
-use mathlib.Core.Path.{refl}
 use Rattle.admission.proofs.admit.Goals as goal
 
-pub returns-in-Refused : goal.returns-in-Refused
-returns-in-Refused c = rw c.in-Refused.is refl
+pub returns-in_err-phase : goal.returns-in_err-phase
+returns-in_err-phase c =
+    let p = err_from_is_err_and c.from_residual-in_err-phase.result c.from_residual-in_err-phase.ensures.1 in
+    rw (p.1, p.2, c.branch-judged.ensures, c.in_ok-judged.is) (row-refused c.args.row _ _ c.phase_after.ensures _ (rw (c.branch-phase.ensures, c.in_err-phase.is)))
 
-pub returns-in-Refused-phased : goal.returns-in-Refused-phased
-returns-in-Refused-phased c = rw c.in_default.is (row-refused c.args.row _ _ c.phase_after-phased.ensures _ _ c.in-Refused-phased.is)
-
-pub returns-in-To : goal.returns-in-To
-returns-in-To c = rw c.in_default.is (row-admitted c.args.row _ _ c.phase_after-phased.ensures _ c.in-To.is)
+pub returns : goal.returns
+returns c = rw (c.branch-judged.ensures, c.in_ok-judged.is) (row-admitted c.args.row _ _ c.phase_after.ensures _ (rw (c.branch-phase.ensures, c.in_ok-phase.is)))

@@ -1,5 +1,6 @@
 -- Each test answers for its number, and what it has passed lets the next one run.
 use native.Mathlib.Omega.{arith}
+use Rattle.std.proofs.lemmas.Result.{err_from_is_err_and}
 use Rattle.admission.proofs.Laws.{within-engine}
 use Rattle.begin_check.proofs.Laws.{judge-beyond, product-fits, judge-refused, starts_fit, few-tasks, judge-roots, judge-accepted}
 use Rattle.begin_check.proofs.judge.Goals as goal
@@ -16,9 +17,10 @@ others_fit-others-requires c =
     c.sizes_fit.ensures
     c.if-not-numbers_fit-sizes_fit.false-raw
 
-pub returns-in_default : goal.returns-in_default
-returns-in_default c =
-    judge-refused _ _ _ _ _ _ _ _ _
+pub returns-in_err-check : goal.returns-in_err-check
+returns-in_err-check c =
+    let p = err_from_is_err_and c.from_residual.result c.from_residual.ensures.1 in
+    rw (p.1, p.2) (judge-refused _ _ _ _ _ _ _ _ _
     c.numbers_fit.ensures
     c.sizes_fit.ensures
     c.if-not-numbers_fit-sizes_fit.false-raw
@@ -26,8 +28,8 @@ returns-in_default c =
     c.others_fit-others.ensures
     _
     c.check_graph-check.ensures.0
-    _ _
-    c.in_default.is
+    _
+    (rw (c.branch-check.ensures, c.in_err-check.is)))
 
 pub count_roots-found-requires : goal.count_roots-found-requires
 count_roots-found-requires c =
@@ -39,7 +41,7 @@ count_roots-found-requires c =
     c.others_fit-others.ensures
     _
     c.check_graph-check.ensures.0
-    c.in-Accepted.is
+    (rw (c.branch-check.ensures, c.in_ok-check.is))
 
 pub overflow_mul-p : goal.overflow_mul-p
 overflow_mul-p c =
@@ -61,7 +63,7 @@ overflow_cast-result c =
           c.others_fit-others.ensures
           _
           c.check_graph-check.ensures.0
-          c.in-Accepted.is,
+          (rw (c.branch-check.ensures, c.in_ok-check.is)),
     )
 
 pub returns-then-p-k : goal.returns-then-p-k
@@ -74,7 +76,7 @@ returns-then-p-k c =
     c.others_fit-others.ensures
     _
     c.check_graph-check.ensures.0
-    c.in-Accepted.is
+    (rw (c.branch-check.ensures, c.in_ok-check.is))
     _
     c.count_roots-found.ensures.1
     c.if-p-k.true
@@ -89,7 +91,7 @@ returns c =
     c.others_fit-others.ensures
     _
     c.check_graph-check.ensures.0
-    c.in-Accepted.is
+    (rw (c.branch-check.ensures, c.in_ok-check.is))
     _
     c.count_roots-found.ensures.1
     c.if-p-k.false

@@ -1,9 +1,6 @@
--- Every task on the way is below n; k counts the turns.
-use Prim.Native.Nat.{◌-◌, ◌<◌}
+-- Every task on the way is below n.
+use Prim.Native.Nat.{◌<◌}
 use Rattle.components.proofs.close.Given as goal
 
-abbrev pub invariant-loop-k : goal.invariant-loop-k
-invariant-loop-k l = l.last < l.n
-
-abbrev pub decreases-loop-k : goal.decreases-loop-k
-decreases-loop-k l = l.n - l.k
+abbrev pub invariant-loop : goal.invariant-loop
+invariant-loop l = l.last < l.n

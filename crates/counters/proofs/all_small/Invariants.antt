@@ -1,10 +1,11 @@
-use Rattle.counters.proofs.Sums.{SmallTo}
-use Prim.Native.Nat.{◌≤◌, ◌-◌}
-use lib.ListN.{length}
+-- Those looked at are small if no test said otherwise.
+use Prim.Native.Nat.{ℕ, ◌<◌, ◌≤◌}
+use mathlib.Core.Path.{◌≡◌}
+use mathlib.Core.Bool.{true}
+use lib.IntN.{pos}
+use lib.ListN.{get_or}
+use lib.Signed.{mag}
 use Rattle.counters.proofs.all_small.Given as goal
 
-abbrev pub invariant-loop-q : goal.invariant-loop-q
-invariant-loop-q l = (l.q ≤ length l.counters) × SmallTo l.counters l.q l.small
-
-abbrev pub decreases-loop-q : goal.decreases-loop-q
-decreases-loop-q l = length l.counters - l.q
+abbrev pub invariant-loop-counter : goal.invariant-loop-counter
+invariant-loop-counter l = l.small ≡ true → (q : ℕ) → q < l.counter-index → mag (get_or l.counters q (pos 0)) ≤ 67108864

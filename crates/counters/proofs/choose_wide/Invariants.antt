@@ -1,9 +1,5 @@
 use Rattle.counters.proofs.Best.{Best, FitTo}
-use Prim.Native.Nat.{◌≤◌, ◌-◌}
 use Rattle.counters.proofs.choose_wide.Given as goal
 
 abbrev pub invariant-loop-j : goal.invariant-loop-j
-invariant-loop-j l = Best l.p l.counters l.j l.best.0 l.least × (FitTo l.p l.counters l.j × (l.j ≤ l.p))
-
-abbrev pub decreases-loop-j : goal.decreases-loop-j
-decreases-loop-j l = l.p - l.j
+invariant-loop-j l = Best l.p l.counters l.j l.best.0 l.least × FitTo l.p l.counters l.j

@@ -1,12 +1,9 @@
 use Rattle.engine_cells.proofs.Laws.{two-stored}
-use mathlib.Core.Path.{refl, subst}
+use mathlib.Core.Path.{subst}
 use Rattle.complete.specs.Complete.{HandAndWrite}
 use Rattle.rules.specs.Memory.{with_hand}
 use Rattle.rows.specs.Rows.{with_write}
 use Rattle.engine_cells.proofs.store_completed.Goals as goal
 
-pub returns-in-Refused : goal.returns-in-Refused
-returns-in-Refused c = rw c.in-Refused.is (refl, refl)
-
-pub returns-in-Taken : goal.returns-in-Taken
-returns-in-Taken c = two-stored _ _ _ c.requires.0 c.requires.1.0 _ _ _ c.in-Taken.is (with_hand c.in-Taken.after.phase c.in-Taken.after.held) (with_write c.in-Taken.after.write) (subst (HandAndWrite c.args.row) c.in-Taken.is c.requires.1.1) _ _ c.set_hand.ensures c.set_write.ensures
+pub returns : goal.returns
+returns c = two-stored _ _ _ c.requires.0 c.requires.1.0 _ c.in_ok-outcome.outcome c.in_ok-outcome.after (c.in_ok-outcome.was {u = tt}) (with_hand c.in_ok-outcome.after.phase c.in_ok-outcome.after.held) (with_write c.in_ok-outcome.after.write) (subst (HandAndWrite c.args.row) (c.in_ok-outcome.was {u = tt}) c.requires.1.1) _ _ c.set_hand.ensures c.set_write.ensures

@@ -3,12 +3,12 @@ use Rattle.replies.specs.Replies.{step_reply_of}
 use Rattle.replies.proofs.Laws.{in-case}
 use Rattle.preview_export.proofs.yolluvek_preview_complete.Goals as goal
 
-pub returns-in-Refused : goal.returns-in-Refused
-returns-in-Refused c =
+pub returns-in-Err : goal.returns-in-Err
+returns-in-Err c =
     step-replied _ _ _ _ step_reply_of _ _ _ _ _ _
     c.preview.ensures
     c.complete-answer.ensures
-    (in-case step_reply_of _ _ _ c.in-Refused.is c.refused.ensures)
+    (in-case step_reply_of _ _ _ c.in-Err.is c.refused.ensures)
 
 pub returns : goal.returns
 returns c =

@@ -24,8 +24,8 @@ module _ (c : After-drive) where
 pub put_refused-requires : goal.put_refused-requires
 put_refused-requires c = omega (arith, c.requires)
 
-pub returns-in-Refused : goal.returns-in-Refused
-returns-in-Refused c = refusal-put _ c.engine.ensures _ _ _ c.begin-answer.ensures _ _ c.in-Refused.is c.put_refused.ensures
+pub returns-in-Err : goal.returns-in-Err
+returns-in-Err c = refusal-put _ c.engine.ensures _ _ _ c.begin-answer.ensures _ c.in-Err.is (rw (← c.number.ensures, ← c.detail.ensures) c.put_refused.ensures)
 
 pub drive-requires : goal.drive-requires
 drive-requires c =

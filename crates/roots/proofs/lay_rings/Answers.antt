@@ -9,4 +9,4 @@ place_roots-requires c =
     c.requires.1
     c.clear.ensures
     c.clear-2.ensures
-    c.clear_counters.ensures
+    (c.fill.ensures.after (λ y e. e))

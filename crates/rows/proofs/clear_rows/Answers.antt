@@ -1,25 +1,8 @@
-use Rattle.rows.proofs.Laws.{words-cleared-none, words-cleared-next, words-cleared}
 use mathlib.Core.Path.{refl}
 use native.Mathlib.Omega.{arith}
+use lib.Seq.{ext_get_or}
+use Rattle.rows.proofs.Laws.{words-filled}
 use Rattle.rows.proofs.clear_rows.Goals as goal
 
-pub loop-i-init : goal.loop-i-init
-loop-i-init c = (omega arith, words-cleared-none _)
-
-pub bounds-rows-i : goal.bounds-rows-i
-bounds-rows-i c = omega arith
-
-pub overflow_add-i : goal.overflow_add-i
-overflow_add-i c = omega arith
-
-pub loop-i-smaller : goal.loop-i-smaller
-loop-i-smaller c = omega arith
-
-pub loop-i-preserved : goal.loop-i-preserved
-loop-i-preserved c = (omega arith, words-cleared-next _ _ _ c.loop-i.invariant.1 _ (omega arith) refl)
-
-pub shape_of-rows : goal.shape_of-rows
-shape_of-rows c = c.loop-i.invariant.1.0
-
 pub returns : goal.returns
-returns c = words-cleared _ _ _ c.loop-i.invariant.1 _ (omega arith)
+returns c = words-filled _ _ _ c.requires refl _ (c.fill.ensures.after (λ y s. ext_get_or 0 y _ s.long (λ i h. s.at i 0 0 (omega (arith, h, s.long)))))

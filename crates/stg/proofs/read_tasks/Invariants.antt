@@ -1,5 +1,4 @@
 -- The tables hold the tasks of the lines before, and the verdict is that over the rest of the text.
-use Prim.Native.Nat.{◌-◌}
 use mathlib.Core.List.{[]}
 use lib.ListN.{drop}
 use Rattle.layout.specs.Scan.{due_from}
@@ -9,6 +8,3 @@ use Rattle.stg.proofs.read_tasks.Given as goal
 abbrev pub invariant-loop-t : goal.invariant-loop-t
 invariant-loop-t l =
     SoFar (due_from (drop l.at_first l.text) l.line_first l.n []) l.text l.n l.weights l.starts l.preds l.at l.line l.t l.e
-
-abbrev pub decreases-loop-t : goal.decreases-loop-t
-decreases-loop-t l = l.n - l.t

@@ -12,21 +12,6 @@ task c = lower-at _ _ _ c.requires.0 c.args.u c.requires.1
 room : (c : Start) → c.args.tail < 1024
 room c = room_for _ _ _ c.requires.0 c.args.u (task c) (not-queued _ _ _ c.requires.0 c.args.u c.requires.1)
 
-pub offset_bounds-left-u : goal.offset_bounds-left-u
-offset_bounds-left-u c = omega (arith, task (goal.at.offset_bounds-left-u c).Start)
-
-pub bounds-left-u : goal.bounds-left-u
-bounds-left-u c = omega (arith, task (goal.at.bounds-left-u c).Start)
-
-pub offset_bounds-left-u-2 : goal.offset_bounds-left-u-2
-offset_bounds-left-u-2 c = omega (arith, task (goal.at.offset_bounds-left-u-2 c).Start)
-
-pub bounds-left-u-2 : goal.bounds-left-u-2
-bounds-left-u-2 c = omega (arith, task (goal.at.bounds-left-u-2 c).Start)
-
-pub overflow_cast-queue : goal.overflow_cast-queue
-overflow_cast-queue c = omega (arith, task (goal.at.overflow_cast-queue c).Start)
-
 pub bounds-queue-tail : goal.bounds-queue-tail
 bounds-queue-tail c = omega (arith, room (goal.at.bounds-queue-tail c).Start)
 

@@ -4,6 +4,3 @@ use Rattle.strip.proofs.queue_sinks.Given as goal
 
 abbrev pub invariant-loop-t : goal.invariant-loop-t
 invariant-loop-t l = Falling l.t l.n l.left l.initial.queue l.queue l.tail
-
-abbrev pub decreases-loop-t : goal.decreases-loop-t
-decreases-loop-t l = l.t

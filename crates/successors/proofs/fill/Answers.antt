@@ -1,5 +1,5 @@
 -- Counts to sums, sums to blocks that are full at the end, gaps to degrees.
-use Rattle.successors.proofs.Edges.{sums-fit, summed-begun, sound-starts, summed-starts, gaps-degrees}
+use Rattle.successors.proofs.Edges.{sums-fit, summed-begun, summed-starts, gaps-degrees}
 use Rattle.lists.proofs.Prefixes.{zeros}
 use Rattle.graph.proofs.Parts.{preds-small}
 use native.Mathlib.Omega.{arith}
@@ -13,9 +13,6 @@ fill_starts-requires c = (omega (arith, c.requires.0.sized.tasks), (c.requires.1
 
 pub fill_words-requires : goal.fill_words-requires
 fill_words-requires c = summed-begun _ c.requires.0 _ c.count_words.ensures _ _ c.fill_starts.ensures _ (omega (arith, c.requires.0.sized.tasks)) c.requires.1.1.0
-
-pub fill_degrees-requires : goal.fill_degrees-requires
-fill_degrees-requires c = (sound-starts _ c.requires.0, c.requires.1.1.1)
 
 pub returns : goal.returns
 returns c = (summed-starts _ c.requires.0 _ c.count_words.ensures _ _ c.fill_starts.ensures, (c.fill_words.ensures, gaps-degrees _ c.requires.0 _ c.fill_degrees.ensures))

@@ -1,10 +1,6 @@
 -- Each turn lays down one more degree; the starts rise, so no difference wraps.
-use Prim.Native.Nat.{◌-◌}
 use Rattle.successors.proofs.Prefixes.{Spacing}
 use Rattle.successors.proofs.fill_degrees.Given as goal
 
 abbrev pub invariant-loop-t : goal.invariant-loop-t
 invariant-loop-t l = Spacing l.n l.starts l.degrees l.t
-
-abbrev pub decreases-loop-t : goal.decreases-loop-t
-decreases-loop-t l = l.n - l.t

@@ -1,10 +1,8 @@
 -- Of the ranges before t, whether all rise.
-use Rattle.tables.proofs.Laws.{RisesTo}
-use Prim.Native.Nat.{◌≤◌, ◌-◌}
+use mathlib.Core.Path.{◌≡◌}
+use mathlib.Core.Bool.{true}
+use Rattle.tables.specs.Ranges.{RangesRise}
 use Rattle.tables.proofs.ranges_rise.Given as goal
 
 abbrev pub invariant-loop-t : goal.invariant-loop-t
-invariant-loop-t l = (l.t ≤ l.n) × RisesTo l.starts l.most l.t l.rise
-
-abbrev pub decreases-loop-t : goal.decreases-loop-t
-decreases-loop-t l = l.n - l.t
+invariant-loop-t l = l.rise ≡ true → RangesRise l.t l.starts l.most

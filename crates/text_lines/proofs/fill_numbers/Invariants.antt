@@ -1,10 +1,6 @@
 -- The numbers found so far stand in the words from e up to k, as far as there is room.
-use Prim.Native.Nat.{◌-◌, ◌≤◌}
 use Rattle.layout.specs.Scan.{Filling}
 use Rattle.text_lines.proofs.fill_numbers.Given as goal
 
 abbrev pub invariant-loop-k : goal.invariant-loop-k
-invariant-loop-k l = (l.k ≤ l.end) × Filling l.text l.at l.e l.initial.words l.p l.k l.words
-
-abbrev pub decreases-loop-k : goal.decreases-loop-k
-decreases-loop-k l = l.end - l.k
+invariant-loop-k l = Filling l.text l.at l.e l.initial.words l.p l.k l.words

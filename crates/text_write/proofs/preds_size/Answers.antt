@@ -1,38 +1,22 @@
+use Prim.Native.Nat.{ℕ, ◌+◌}
+use mathlib.Core.Path.{◌≡◌}
+use mathlib.Core.List.{List, [], ◌∷◌}
 use native.Mathlib.Omega.{arith}
-use Rattle.text_write.proofs.Laws.{no-preds, next-pred, all-preds}
+use lib.ListN.{length}
+use Rattle.std.proofs.Common.{rules}
+use Rattle.std.specs.List.{fold, sum_by}
+use Rattle.lists.specs.Sums.{sum_of}
+use Rattle.layout.specs.Digits.{digits_of}
+use Rattle.layout.specs.Plain.{pred_size}
 use Rattle.text_write.proofs.preds_size.Goals as goal
 
-pub loop-i-init : goal.loop-i-init
-loop-i-init c = (omega arith, omega arith, no-preds c.args.preds.now)
-
-pub offset_bounds-preds-i : goal.offset_bounds-preds-i
-offset_bounds-preds-i c = omega arith
-
-pub bounds-preds-i : goal.bounds-preds-i
-bounds-preds-i c = omega arith
-
-pub width-requires : goal.width-requires
-width-requires c = omega arith
-
-pub overflow_add-size : goal.overflow_add-size
-overflow_add-size c = omega arith
-
-pub overflow_add-size-in-loop-i : goal.overflow_add-size-in-loop-i
-overflow_add-size-in-loop-i c = omega arith
-
-pub overflow_add-i : goal.overflow_add-i
-overflow_add-i c = omega arith
-
-pub loop-i-smaller : goal.loop-i-smaller
-loop-i-smaller c = omega arith
-
-pub loop-i-preserved : goal.loop-i-preserved
-loop-i-preserved c = (
-  omega arith,
-  omega arith,
-  next-pred c.args.preds.now c.loop-i.i c.loop-i.invariant.2 (omega arith) c.width.ensures.0,
-)
+-- added up from the left, from a on
+sums : (a : ℕ) (l : List ℕ) → fold (λ s v. s + (length (digits_of v) + 1)) a l ≡ a + sum_of pred_size l
+unfolding sum_of pred_size
+sums a [] = omega arith
+sums a (v ∷ l) = omega (arith, sums (a + (length (digits_of v) + 1)) l)
 
 pub returns : goal.returns
 returns c =
-    all-preds c.args.preds.now c.loop-i.i c.loop-i.invariant.2 (omega arith)
+    let e : c.sum.result ≡ sum_by (λ v. length (digits_of v) + 1) c.args.preds.now = search rules in
+    omega (arith, e, sums 0 c.args.preds.now)

@@ -1,11 +1,6 @@
--- The first i numbers are put.
-use Prim.Native.Nat.{◌-◌, ◌≤◌}
-use lib.ListN.{length}
+-- The numbers taken so far are put.
 use Rattle.text_write.proofs.Laws.{Spacing}
 use Rattle.text_write.proofs.put_spaced.Given as goal
 
-abbrev pub invariant-loop-i : goal.invariant-loop-i
-invariant-loop-i l = (l.i ≤ length l.numbers) × Spacing l.at l.numbers l.initial.out l.i l.out l.end
-
-abbrev pub decreases-loop-i : goal.decreases-loop-i
-decreases-loop-i l = length l.numbers - l.i
+abbrev pub invariant-loop-number : goal.invariant-loop-number
+invariant-loop-number l = Spacing l.at l.numbers l.initial.out l.number-index l.out l.end

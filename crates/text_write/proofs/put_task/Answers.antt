@@ -8,9 +8,6 @@ use Rattle.text_write.proofs.put_task.Goals.{Start}
 room : (c : Start) → LineRoom c.args.t c.args.time c.args.preds.now c.args.at (length c.args.out.now)
 room c = line-room c.args.t c.args.time c.args.preds.now c.requires.0
 
-pub overflow_cast-t : goal.overflow_cast-t
-overflow_cast-t c = omega arith
-
 pub put_number-numbered-requires : goal.put_number-numbered-requires
 put_number-numbered-requires c = (room (goal.at.put_number-numbered-requires c).Start).first
 
@@ -22,9 +19,6 @@ put_next-timed-requires c =
       c.put_number-numbered.ensures.size,
       c.put_number-numbered.ensures.end,
     )
-
-pub overflow_cast-preds : goal.overflow_cast-preds
-overflow_cast-preds c = omega arith
 
 pub put_next-counted-requires : goal.put_next-counted-requires
 put_next-counted-requires c =
@@ -63,17 +57,6 @@ put_byte-requires c =
       c.put_next-counted.ensures.end,
       c.put_spaced-ended.ensures.size,
       c.put_spaced-ended.ensures.end,
-    )
-
-pub shape_of-out : goal.shape_of-out
-shape_of-out c =
-    omega (
-      arith,
-      c.put_number-numbered.ensures.size,
-      c.put_next-timed.ensures.size,
-      c.put_next-counted.ensures.size,
-      c.put_spaced-ended.ensures.size,
-      c.put_byte.ensures.size,
     )
 
 pub returns : goal.returns

@@ -1,11 +1,6 @@
 -- The lines of the first t tasks are put.
-use Prim.Native.Nat.{◌-◌, ◌≤◌}
-use lib.ListN.{length}
 use Rattle.text_write.proofs.Laws.{TasksPut}
 use Rattle.text_write.proofs.put_tasks.Given as goal
 
 abbrev pub invariant-loop-t : goal.invariant-loop-t
-invariant-loop-t l = (l.t ≤ length l.weights) × TasksPut l.at l.weights l.starts l.preds l.initial.out l.t l.out l.end
-
-abbrev pub decreases-loop-t : goal.decreases-loop-t
-decreases-loop-t l = length l.weights - l.t
+invariant-loop-t l = TasksPut l.at l.weights l.starts l.preds l.initial.out l.t l.out l.end

@@ -8,12 +8,6 @@ use Rattle.text_write.proofs.put_text.Goals.{Start}
 room : (c : Start) → TextRoom c.args.weights.now c.args.starts.now c.args.preds.now (length c.args.out.now)
 room c = text-room c.args.weights.now c.args.starts.now c.args.preds.now c.requires.2
 
-pub overflow_sub-weights : goal.overflow_sub-weights
-overflow_sub-weights c = omega arith
-
-pub overflow_cast-weights : goal.overflow_cast-weights
-overflow_cast-weights c = omega (arith, c.requires.0.sized.tasks)
-
 pub put_number-numbered-requires : goal.put_number-numbered-requires
 put_number-numbered-requires c = omega (arith, (room (goal.at.put_number-numbered-requires c).Start).first)
 
@@ -38,15 +32,6 @@ put_tasks-requires c = (
     c.put_byte-next.ensures.end,
   ),
 )
-
-pub shape_of-out : goal.shape_of-out
-shape_of-out c =
-    omega (
-      arith,
-      c.put_number-numbered.ensures.size,
-      c.put_byte-next.ensures.size,
-      c.put_tasks.ensures.size,
-    )
 
 pub returns : goal.returns
 returns c =

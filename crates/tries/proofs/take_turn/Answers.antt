@@ -53,7 +53,7 @@ loop-tried-preserved c =
         run = omega (arith, l.invariant.0);
         rows = omega (arith, l.invariant.0);
       },
-      trying-on _ _ _ _ l.invariant.1 (omega arith) _ c.engine.ensures _ c.try_at.ensures _ _ c.step-answer.ensures _ _ c.in-Refused.is,
+      trying-on _ _ _ _ l.invariant.1 (omega arith) _ c.engine.ensures _ c.try_at.ensures _ _ c.step-answer.ensures _ c.in-Err.is,
     )
 
 pub shape_of-degrees : goal.shape_of-degrees

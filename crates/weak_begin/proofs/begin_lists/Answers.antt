@@ -4,19 +4,19 @@ use Rattle.weak_begin.proofs.Laws.{begin-refused, fillable, layable, countable, 
 use Rattle.weak_begin.proofs.begin_lists.Goals as goal
 
 pub returns-in_default : goal.returns-in_default
-returns-in_default c = begin-refused _ _ _ _ _ _ _ _ _ _ _ _ _ _ _ _ _ _ c.judge-answer.ensures _ _ c.in_default.is
+returns-in_default c = begin-refused _ _ _ _ _ _ _ _ _ _ _ _ _ _ _ _ _ _ c.judge-answer.ensures _ c.in_default.is
 
 pub fill-requires : goal.fill-requires
 fill-requires c =
     fillable _ _ _ _ _ _ _ _ _ _ _ _ _ _ _ _ _ _
     c.judge-answer.ensures
-    c.in-Accepted.is
+    c.in-Ok.is
 
 pub lay_roots-requires : goal.lay_roots-requires
 lay_roots-requires c =
     layable _ _ _ _ _ _ _ _ _ _ _ _ _ _ _ _ _ _
     c.judge-answer.ensures
-    c.in-Accepted.is
+    c.in-Ok.is
     _ _ _ _ _
     c.fill.ensures.1.1
     refl refl refl refl
@@ -25,14 +25,14 @@ pub lay_run-requires : goal.lay_run-requires
 lay_run-requires c =
     countable _ _ _ _ _ _ _ _ _ _ _ _ _ _ _ _ _ _
     c.judge-answer.ensures
-    c.in-Accepted.is
+    c.in-Ok.is
     _ refl
 
 pub returns : goal.returns
 returns c =
     begin-laid _ _ _ _ _ _ _ _ _ _ _ _ _ _ _ _ _ _
     c.judge-answer.ensures
-    c.in-Accepted.is
+    c.in-Ok.is
     _ _ _ _ _ _ _ _ _ _ _
     c.fill.ensures.0
     c.fill.ensures.1.0

@@ -8,7 +8,7 @@ place_roots-requires c =
     c.requires.0
     c.requires.1.0
     c.requires.1.1
-    c.unfix.ensures
+    (c.fill.ensures.after (λ y e. e))
     c.clear_copies.ensures
     c.clear.ensures
-    c.clear_counters.ensures
+    (c.fill-2.ensures.after (λ y e. e))

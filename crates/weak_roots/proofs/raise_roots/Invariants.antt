@@ -1,11 +1,10 @@
--- Each turn raises one more degree.
-use Prim.Native.Nat.{◌-◌}
-use lib.ListN.{length}
-use Rattle.weak_roots.proofs.Degrees.{Raising}
+-- Each turn raises one more degree; the others are as they were.
+use Prim.Native.Nat.{ℕ, ◌<◌, ◌≤◌, max}
+use mathlib.Core.Path.{◌≡◌}
+use lib.ListN.{get_or}
 use Rattle.weak_roots.proofs.raise_roots.Given as goal
 
-abbrev pub invariant-loop-t : goal.invariant-loop-t
-invariant-loop-t l = Raising l.initial.degrees l.degrees l.t
-
-abbrev pub decreases-loop-t : goal.decreases-loop-t
-decreases-loop-t l = length l.initial.degrees - l.t
+abbrev pub invariant-loop-degree : goal.invariant-loop-degree
+invariant-loop-degree l =
+    ((u : ℕ) → u < l.degree-index → get_or l.degrees u 0 ≡ max 1 (get_or l.initial.degrees u 0))
+    × ((u : ℕ) → l.degree-index ≤ u → get_or l.degrees u 0 ≡ get_or l.initial.degrees u 0)

@@ -1,8 +1,0 @@
-use mathlib.Core.Path.{refl}
-use Rattle.weak_admission.proofs.row_after.Goals as goal
-
-pub returns-in-Refused : goal.returns-in-Refused
-returns-in-Refused c = rw c.in-Refused.is refl
-
-pub returns-in-Taken : goal.returns-in-Taken
-returns-in-Taken c = rw c.in-Taken.is refl
