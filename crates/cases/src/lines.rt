@@ -6,12 +6,18 @@ ghost use Rattle.std.specs.Io.{ReadsAtMost};
 use crate::{read, show};
 use std::io;
 use std::io::{Read, Write};
-use std::ops::Range;
 
-// Where the text of a case stands behind its line, unless the line is no such case; and where the next line starts.
-#[derive(Drop)]
+// The text of a case, from one place to another.
+#[derive(Clone, Copy)]
+pub struct Text {
+    pub from: usize,
+    pub end: usize,
+}
+
+// The text behind the line of its case, unless the line is no such case; and where the next line starts.
+#[derive(Clone, Copy)]
 pub struct Case {
-    pub text: Option<Range<usize>>,
+    pub text: Option<Text>,
     pub next: usize,
 }
 
@@ -69,7 +75,7 @@ pub fn text_at<W: Write>(
     words: &mut [u32],
 ) -> io::Result<Case>
     requires { (at < length input.now) × (0 < length words.old) }
-    ensures ok { IfOk result (λ case. (at < case.next) × IfSome case.text (λ text. (text.start ≤ text.end) × (text.end ≤ length input.now))) }
+    ensures ok { IfOk result (λ case. (at < case.next) × IfSome case.text (λ text. (text.from ≤ text.end) × (text.end ≤ length input.now))) }
     ensures err { OnErr result (length words.new ≡ length words.old) }
 {
     let end = read::line_end(input, at);
@@ -89,7 +95,7 @@ pub fn text_at<W: Write>(
     }
     let end = from + size;
     Ok(Case {
-        text: Some(from..end),
+        text: Some(Text { from, end }),
         next: end + 1,
     })
 }

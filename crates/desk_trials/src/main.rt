@@ -25,7 +25,7 @@ fn run<W: Write>(out: &mut W, input: &[u8]) -> io::Result<()> {
     while at < input.len() {
         let case = lines::text_at(out, input, at, 1, &mut words)?;
         if let Some(text) = case.text {
-            respond(out, &input[text.start..text.end])?;
+            respond(out, &input[text.from..text.end])?;
         }
         at = case.next;
     }

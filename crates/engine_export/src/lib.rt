@@ -116,7 +116,7 @@ pub extern "C" fn yolluvek_fetch(
         WorkerId(worker),
     );
     if let Err(why) = answer {
-        return replies::refused(why);
+        return replies::refusal_reply_of(why);
     }
     replies::step_reply_of(answer)
 }
@@ -171,7 +171,7 @@ pub extern "C" fn yolluvek_start(
         WorkerId(worker),
     );
     if let Err(why) = answer {
-        return replies::refused(why);
+        return replies::refusal_reply_of(why);
     }
     replies::step_reply_of(answer)
 }
@@ -226,7 +226,7 @@ pub extern "C" fn yolluvek_complete(
         WorkerId(worker),
     );
     if let Err(why) = answer {
-        return replies::refused(why);
+        return replies::refusal_reply_of(why);
     }
     replies::step_reply_of(answer)
 }
@@ -281,7 +281,7 @@ pub extern "C" fn yolluvek_release(
         WorkerId(worker),
     );
     if let Err(why) = answer {
-        return replies::refused(why);
+        return replies::refusal_reply_of(why);
     }
     replies::step_reply_of(answer)
 }

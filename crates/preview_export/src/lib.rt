@@ -114,7 +114,7 @@ pub extern "C" fn yolluvek_preview_fetch(
         WorkerId(worker),
     );
     if let Err(why) = answer {
-        return replies::refused(why);
+        return replies::refusal_reply_of(why);
     }
     replies::step_reply_of(answer)
 }
@@ -169,7 +169,7 @@ pub extern "C" fn yolluvek_preview_start(
         WorkerId(worker),
     );
     if let Err(why) = answer {
-        return replies::refused(why);
+        return replies::refusal_reply_of(why);
     }
     replies::step_reply_of(answer)
 }
@@ -224,7 +224,7 @@ pub extern "C" fn yolluvek_preview_complete(
         WorkerId(worker),
     );
     if let Err(why) = answer {
-        return replies::refused(why);
+        return replies::refusal_reply_of(why);
     }
     replies::step_reply_of(answer)
 }
@@ -279,7 +279,7 @@ pub extern "C" fn yolluvek_preview_release(
         WorkerId(worker),
     );
     if let Err(why) = answer {
-        return replies::refused(why);
+        return replies::refusal_reply_of(why);
     }
     replies::step_reply_of(answer)
 }

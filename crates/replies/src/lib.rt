@@ -41,11 +41,10 @@ pub struct StepReply {
     pub second: u32,
 }
 
-// A refused step's reply. An export answers it before it looks at outcomes.
-pub fn refused(why: Refusal) -> StepReply
-    ensures { result ≡ step_reply_of (Err why) }
+// A refused step's reply, by number and detail.
+pub fn refused(number: u32, detail: u32) -> StepReply
+    ensures { result ≡ record { number = number; detail = detail; kind = 0; first = 0; second = 0 } }
 {
-    let (number, detail) = why.row();
     StepReply {
         number,
         detail,
@@ -53,6 +52,14 @@ pub fn refused(why: Refusal) -> StepReply
         first: 0,
         second: 0,
     }
+}
+
+// The same by its row of the table. An export answers it before it looks at outcomes.
+pub fn refusal_reply_of(why: Refusal) -> StepReply
+    ensures { result ≡ step_reply_of (Err why) }
+{
+    let (number, detail) = why.row();
+    refused(number, detail)
 }
 
 fn accepted(kind: u32, first: u32, second: u32) -> StepReply
@@ -90,7 +97,7 @@ pub fn step_reply_of(answer: StepAnswer) -> StepReply
     ensures { result ≡ step_reply_of answer }
 {
     match answer {
-        Err(why) => refused(why),
+        Err(why) => refusal_reply_of(why),
         Ok(outcome) => outcome_reply_of(outcome),
     }
 }

@@ -37,11 +37,10 @@ fn run_script<W: Write>(
     run: &mut [u32],
     rows: &mut [RowCell],
 ) -> io::Result<()> {
-    let mut next = At::start(script);
+    let Some(mut at) = At::start(script) else {
+        return Ok(());
+    };
     for _ in 0..MOST_CALLS {
-        let Some(at) = next else {
-            break;
-        };
         let accepted = calls::make(
             out,
             at.command,
@@ -61,7 +60,9 @@ fn run_script<W: Write>(
             run,
             rows,
         )?;
-        next = at.after(accepted);
+        if !at.after(accepted) {
+            break;
+        }
     }
     Ok(())
 }

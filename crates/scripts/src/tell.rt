@@ -12,12 +12,13 @@ pub fn begun<W: Write>(out: &mut W, answer: Answer) -> io::Result<bool> {
     Ok(answer.is_ok())
 }
 
-fn letter(step: Step) -> char {
+// A step's letter behind the blank.
+fn letter(step: Step) -> &'static str {
     match step {
-        Step::Fetch => 'f',
-        Step::Start => 's',
-        Step::Complete => 'c',
-        Step::Release => 'r',
+        Step::Fetch => " f",
+        Step::Start => " s",
+        Step::Complete => " c",
+        Step::Release => " r",
     }
 }
 
@@ -69,7 +70,7 @@ pub fn answered<W: Write>(
 ) -> io::Result<bool> {
     let accepted = answer.is_ok();
     if command.prints(accepted) {
-        writeln!(out, "{} {}{}", worker.0, letter(step), Told(answer))?;
+        writeln!(out, "{}{}{}", worker.0, letter(step), Told(answer))?;
     }
     Ok(accepted)
 }

@@ -11,7 +11,7 @@ use Rattle.lists.specs.Lists.{occ}
 use Rattle.lists.proofs.Decided.{stable, tally-yes, tally-no, tally-le-one, tally-pos}
 use Rattle.lists.proofs.Occurrences.{occ-nil, occ-hit, occ-miss, occ-split}
 use Rattle.lists.proofs.Sums.{short-without}
-use Rattle.lists.proofs.Prefixes.{occ-single, occ-more, occ-more-hit, occ-store, take_same, inside}
+use Rattle.lists.proofs.Prefixes.{occ-single, occ-more, occ-more-hit, occ-store, take-store, take_same, inside}
 use Rattle.graph.specs.Graph.{Among}
 use Rattle.graph.specs.Stripping.{keep_if}
 use Rattle.strip.specs.Queue.{stripped, queued_at, Queued, nones_below, Falling, Emptied, Lowered}
@@ -178,6 +178,18 @@ pub keep_same : {A B : Type 0} (d : Dec A) (e : Dec B) (x : ℕ) (l : List ℕ) 
 keep_same (yes a) e x l f g = sym (keep-yes e x l (f a))
 keep_same (no n) e x l f g = sym (keep-no e x l (λ b. n (g b)))
 
+-- one task looked at
+module _ (left queue : List ℕ) (tail t : ℕ) where
+  pub queue-one : tail < length queue → get_or left t 0 ≡ 0 → take (tail + 1) (set queue tail t) ≡ take tail queue ++ keep_if (ℕ_discrete (get_or left t 0) 0) t []
+  queue-one h e = take-store queue tail t h ∙ ap (λ (l : List ℕ). take tail queue ++ l) (sym (keep-yes (ℕ_discrete (get_or left t 0) 0) t [] e))
+
+  pub queue-none : (get_or left t 0 ≡ 0 → ⊥) → take tail queue ≡ take tail queue ++ keep_if (ℕ_discrete (get_or left t 0) 0) t []
+  queue-none n = sym (append-nil (take tail queue)) ∙ ap (λ (l : List ℕ). take tail queue ++ l) (sym (keep-no (ℕ_discrete (get_or left t 0) 0) t [] n))
+
+-- no task yet
+pub falling-none : (n : ℕ) (left queue : List ℕ) → length queue ≡ 1024 → Falling n n left queue queue 0
+falling-none n left queue r = record { room = r; few = omega arith; falls = refl; behind = refl }
+
 -- the tasks from t on, after those from t + 1 on
 pub falling-more : (t k n : ℕ) (left queue₀ queue queue' : List ℕ) (tail tail' : ℕ) → k ≡ suc t → Falling k n left queue₀ queue tail → length queue' ≡ 1024
     → take tail' queue' ≡ take tail queue ++ keep_if (ℕ_discrete (get_or left t 0) 0) t []
@@ -235,6 +247,9 @@ module _ (n : ℕ) (left queue₀ queue : List ℕ) (tail : ℕ) (f : Falling 0 
       few : (u : ℕ) → Dec (u < n) → queued_at queue tail u ≤ stripped left u
       few u (yes k) = omega (arith, looked u k)
       few u (no m) = omega (arith, beyond u (omega arith))
+
+pub falling-done : (k n : ℕ) (left queue₀ queue : List ℕ) (tail : ℕ) → k ≡ 0 → Falling k n left queue₀ queue tail → Falling 0 n left queue₀ queue tail
+falling-done k n left queue₀ queue tail e f = rw e at f
 
 -- no word yet
 pub lowered_none : (left queue : List ℕ) (tail : ℕ) → Queued left queue tail → Lowered [] left left queue queue tail tail

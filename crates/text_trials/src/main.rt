@@ -80,7 +80,7 @@ fn run<W: Write>(out: &mut W, input: &[u8]) -> io::Result<()> {
     while at < input.len() {
         let case = lines::text_at(out, input, at, 4, &mut words)?;
         if let Some(text) = case.text {
-            lend(out, &input[text.start..text.end], &words)?;
+            lend(out, &input[text.from..text.end], &words)?;
         }
         at = case.next;
     }

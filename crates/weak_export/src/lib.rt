@@ -123,7 +123,7 @@ pub extern "C" fn yolluvek_weak_fetch(
         WorkerId(worker),
     );
     if let Err(why) = answer {
-        return weak_replies::refused(why);
+        return weak_replies::refusal_reply_of(why);
     }
     weak_replies::weak_reply_of(answer)
 }
@@ -180,7 +180,7 @@ pub extern "C" fn yolluvek_weak_start(
         WorkerId(worker),
     );
     if let Err(why) = answer {
-        return weak_replies::refused(why);
+        return weak_replies::refusal_reply_of(why);
     }
     weak_replies::weak_reply_of(answer)
 }
@@ -237,7 +237,7 @@ pub extern "C" fn yolluvek_weak_complete(
         WorkerId(worker),
     );
     if let Err(why) = answer {
-        return weak_replies::refused(why);
+        return weak_replies::refusal_reply_of(why);
     }
     weak_replies::weak_reply_of(answer)
 }
@@ -294,7 +294,7 @@ pub extern "C" fn yolluvek_weak_release(
         WorkerId(worker),
     );
     if let Err(why) = answer {
-        return weak_replies::refused(why);
+        return weak_replies::refusal_reply_of(why);
     }
     weak_replies::weak_reply_of(answer)
 }

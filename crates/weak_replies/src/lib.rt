@@ -20,11 +20,10 @@ pub struct WeakReply {
     pub third: u32,
 }
 
-// A refused step's reply. An export answers it before it looks at outcomes.
-pub fn refused(why: Refusal) -> WeakReply
-    ensures { result ≡ weak_reply_of (Err why) }
+// A refused step's reply, by number and detail.
+pub fn refused(number: u32, detail: u32) -> WeakReply
+    ensures { result ≡ record { number = number; detail = detail; kind = 0; first = 0; second = 0; third = 0 } }
 {
-    let (number, detail) = why.row();
     WeakReply {
         number,
         detail,
@@ -33,6 +32,14 @@ pub fn refused(why: Refusal) -> WeakReply
         second: 0,
         third: 0,
     }
+}
+
+// The same by its row of the table. An export answers it before it looks at outcomes.
+pub fn refusal_reply_of(why: Refusal) -> WeakReply
+    ensures { result ≡ weak_reply_of (Err why) }
+{
+    let (number, detail) = why.row();
+    refused(number, detail)
 }
 
 fn accepted(kind: u32, first: u32, second: u32, third: u32) -> WeakReply
@@ -64,7 +71,7 @@ pub fn weak_reply_of(answer: WeakAnswer) -> WeakReply
     ensures { result ≡ weak_reply_of answer }
 {
     match answer {
-        Err(why) => refused(why),
+        Err(why) => refusal_reply_of(why),
         Ok(outcome) => outcome_reply_of(outcome),
     }
 }

@@ -8,7 +8,7 @@ returns-in-Err c =
     step-replied _ _ _ _ step_reply_of _ _ _ _ _ _
     c.preview.ensures
     c.fetch-answer.ensures
-    (in-case step_reply_of _ _ _ c.in-Err.is c.refused.ensures)
+    (in-case step_reply_of _ _ _ c.in-Err.is c.refusal_reply_of.ensures)
 
 pub returns : goal.returns
 returns c =

@@ -1,9 +1,9 @@
-use Rattle.std.proofs.Common.{rules, ◌≡◌, true, ℕ, ◌<◌, length, get_or}
-use mathlib.Core.Logic.{◌↔◌}
-use Rattle.tables.proofs.Laws.{below-told}
+use native.Mathlib.Omega.{arith}
+use Rattle.tables.proofs.Laws.{word-beyond, words-below}
 use Rattle.tables.proofs.all_below.Goals as goal
 
+pub returns-then-n-word : goal.returns-then-n-word
+returns-then-n-word c = word-beyond _ _ c.loop-word.word-index (omega arith) (omega arith)
+
 pub returns : goal.returns
-returns c =
-    let f : (c.all.result ≡ true) ↔ ((k : ℕ) → k < length c.args.words.now → get_or c.args.words.now k 0 < c.args.n) = search rules in
-    below-told _ _ _ f
+returns c = words-below _ _ _ (omega arith) c.loop-word.invariant
