@@ -100,7 +100,7 @@ module _ (p : ℕ) (weights executed : List ℕ) (entries m : ℕ) where
   window-size w sums words e f = ap length (f ∙ ap with_spread e) ∙ words_size p weights executed m w
 
   module _ (spans : Spans p weights executed entries m) (results : List ℕ) (size : length results ≡ window_count entries m * (p + 1)) where
-    first-room : p + 1 ≤ length results
+    pub first-room : p + 1 ≤ length results
     first-room = omega (arith, size, place_end (p + 1) (window_count entries m) 0 (omega (arith, spans.window)), zero-mul (p + 1))
 
     pub first-windows : (sums words : List ℕ) → sums ≡ window_sums p weights executed m 0 → words ≡ with_spread sums
@@ -132,7 +132,7 @@ module _ (p : ℕ) (weights executed : List ℕ) (entries m : ℕ) where
     sums-here : length sums ≡ p
     sums-here = sums-length p weights executed m w sums s.now
 
-    next-room : at + (p + 1) ≤ length results
+    pub next-room : at + (p + 1) ≤ length results
     next-room = omega (arith, s.size, s.place, place_end (p + 1) (window_count entries m) (w + 1) (omega (arith, more)))
 
     module _ (new : List ℕ) (e : new ≡ window_sums (length sums) weights executed m (w + 1)) where
