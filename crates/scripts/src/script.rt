@@ -176,7 +176,7 @@ impl<'a> At<'a> {
     }
 
     // Goes on after a call; not behind the last command.
-    // kept: with an Option<At> as the result, calls that are refused at once take 26 % more instructions
+    // kept: with an Option<At> as the result, a call that is refused at once takes 3 % more instructions
     pub fn after(&mut self, accepted: bool) -> bool {
         match self.command.what {
             What::Call(_) => self.enter_next(),
